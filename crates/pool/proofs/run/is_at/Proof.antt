@@ -1,0 +1,28 @@
+use Rattle.pool.proofs.Cells.{descriptions}
+use borrow.Author.Needs.{needs}
+use Rattle.pool.proofs.run.is_at.Statement.{statement}
+use Rattle.pool.proofs.run.is_at.Tie as tie
+use Rattle.pool.proofs.run.is_at.Reads as reads
+use Rattle.pool.proofs.run.is_at.Lts as lts
+use Rattle.pool.proofs.run.cell.Reads as cell-reads
+use Rattle.pool.proofs.run.cells.Reads as cells-reads
+use Rattle.pool.proofs.run.same_cells.Reads as same-cells-reads
+
+cell-requires : tie.Need-cell-requires
+cell-requires c κs = search needs
+
+returns : tie.Need-returns
+returns c = search descriptions
+
+cells-requires : tie.Need-cells-requires
+cells-requires c κs = search needs
+
+same-cells-requires : tie.Need-same-cells-requires
+same-cells-requires c κs = search needs
+
+returns-2 : tie.Need-returns-2
+returns-2 c = search descriptions
+
+pub is-at-spec : {M : Type 1} → statement M
+is-at-spec =
+    tie.close (tie.spec cell-requires returns cells-requires same-cells-requires returns-2)

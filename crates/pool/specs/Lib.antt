@@ -1,0 +1,5 @@
+pub mod Cell
+pub mod Bounded
+pub mod Headers
+pub mod ByPlace
+pub mod Answer
