@@ -3,3 +3,9 @@ pub mod Bounded
 pub mod Headers
 pub mod ByPlace
 pub mod Answer
+pub mod WellFormed
+pub mod Description
+pub mod Free
+pub mod Table
+pub mod SortRule
+pub mod Check

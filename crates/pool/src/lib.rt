@@ -1,6 +1,9 @@
 // A shared term pool in document 01's packed form: two u32 arrays of one length, tag and value, and a
 // count of used cells. The functions of this crate alone read or write cells.
+pub mod compute_sort;
+pub mod description;
 pub mod run;
+pub mod well_formed;
 
 // The place of a term: its header's index.
 pub struct TermPlace(pub u32);
