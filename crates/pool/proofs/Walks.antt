@@ -48,3 +48,18 @@ module _ (values : List ℕ) (n : ℕ) (test : ℕ → Bool) where
         pub first-last : n - p ≤ k → Nothing ≡ w
         unfolding firstFrom firstIn
         first-last l = rw (first-next, no-more n (p + (1 + k)) (omega arith))
+
+  -- what is found stands below n
+  below-in : (f p q : ℕ) → firstIn values n test f p ≡ At q → q < n
+  unfolding firstIn
+  below-in zero p q e = let z : _≡_ {A = ℕ} 0 1 = cc in absurd (omega arith)
+  below-in (suc f) p q e =
+      by-test (leb n p)
+      (λ o. let d : Nothing ≡ At q = rw o at e in let z : _≡_ {A = ℕ} 0 1 = cc in absurd (omega arith))
+      (λ o. by-test (test p)
+      (λ y. let d : At p ≡ At q = rw (o, y) at e in let z : p ≡ q = cc in omega (arith, leb-false n p o))
+      (λ y. below-in f (p + (1 + getD values p 0)) q (rw (o, y) at e)))
+
+  pub first-below : (q : ℕ) → firstHeader values n test ≡ At q → q < n
+  unfolding firstHeader firstFrom
+  first-below q e = below-in (n - 0) 0 q e
