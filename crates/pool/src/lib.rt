@@ -2,6 +2,7 @@
 // count of used cells. The functions of this crate alone read or write cells.
 pub mod compute_sort;
 pub mod description;
+mod plain_sorts;
 pub mod run;
 pub mod well_formed;
 
