@@ -6,6 +6,7 @@ pub mod Answer
 pub mod WellFormed
 pub mod Description
 pub mod Free
+pub mod FreeMemo
 pub mod Table
 pub mod SortRule
 pub mod Check

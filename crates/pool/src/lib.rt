@@ -3,6 +3,7 @@
 pub mod compute_sort;
 pub mod description;
 mod plain_sorts;
+pub mod free_vars;
 pub mod run;
 pub mod well_formed;
 
