@@ -14,7 +14,6 @@ use Rattle.pool.specs.Cell.{cellsOf}
 use Rattle.pool.specs.Description.{find, repeats, isFull, append, foundOr, adding, Added-is, Room, Put, zeroFrom}
 use Rattle.pool.specs.declared.Found.{Found}
 use Rattle.pool.specs.declared.Found.the-variants.{At, Nothing}
-use Rattle.pool.specs.declared.description.Added.{Added}
 use Rattle.pool.specs.declared.description.Added.the-variants.{There, New, Full}
 use Rattle.pool.proofs.Bounds.{no-more, one-more}
 use Rattle.pool.proofs.Walks.{first-end, first-here, first-next, first-last}
