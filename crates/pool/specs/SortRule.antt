@@ -48,6 +48,10 @@ module _ (values : List ℕ) where
   lastSort (o ∷ []) = place (sortOf values o)
   lastSort (o ∷ (p ∷ os)) = lastSort (p ∷ os)
 
+  -- the sorts of a relation: the term at o is a Set of the Tuple of these
+  unfoldable pub relationSorts : ℕ → List ℕ
+  relationSorts o = cellsOf values (getD values (sortOf values o + 1) 0)
+
 -- m arguments to a Function with these entries: "to one fewer, the last entry"; else the Function of the entries that are left
 unfoldable pub apply : ℕ → List ℕ → Computed
 apply m entries =
@@ -88,25 +92,22 @@ module _ (tags values : List ℕ) where
   bvConst (o ∷ []) = no-answer
   bvConst (o ∷ (w ∷ os)) = cond (eqb (getD tags w 0) 16) (made 7 (getD values (w + 2) 0 ∷ [])) (made 6 [])
 
-  -- the sorts of a relation: the sort of the term at o is a Set of a Tuple of these
+  -- the sort of the term at o is a Set of a Tuple
   unfoldable pub isRelation : ℕ → Bool
   isRelation o = eqb (sortTag o) 12 && eqb (getD tags (getD values (sortOf values o + 1) 0) 0) 13
-
-  unfoldable pub relationSorts : ℕ → List ℕ
-  relationSorts o = cellsOf values (getD values (sortOf values o + 1) 0)
 
   -- RelTranspose: the sorts reversed
   unfoldable pub transpose : List ℕ → Computed
   transpose [] = no-answer
-  transpose (o ∷ os) = cond (isRelation o) (relation (reverse (relationSorts o))) no-answer
+  transpose (o ∷ os) = cond (isRelation o) (relation (reverse (relationSorts values o))) no-answer
 
   -- RelJoin: the left's but its last, then the right's but its first, of which there must be one
   unfoldable pub join : List ℕ → Computed
   join [] = no-answer
   join (o ∷ []) = no-answer
   join (o ∷ (p ∷ os)) =
-      cond (isRelation o && (isRelation p && ltb 0 (length (relationSorts p))))
-      (relation (dropLast (relationSorts o) ++ drop 1 (relationSorts p)))
+      cond (isRelation o && (isRelation p && ltb 0 (length (relationSorts values p))))
+      (relation (dropLast (relationSorts values o) ++ drop 1 (relationSorts values p)))
       no-answer
 
   -- RelProduct: the left's, then the right's
@@ -114,7 +115,7 @@ module _ (tags values : List ℕ) where
   product [] = no-answer
   product (o ∷ []) = no-answer
   product (o ∷ (p ∷ os)) =
-      cond (isRelation o && isRelation p) (relation (relationSorts o ++ relationSorts p)) no-answer
+      cond (isRelation o && isRelation p) (relation (relationSorts values o ++ relationSorts values p)) no-answer
 
   -- an application: the run is the function and then its arguments
   unfoldable pub application : List ℕ → Computed

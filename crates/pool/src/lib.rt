@@ -4,7 +4,10 @@ pub mod compute_sort;
 pub mod description;
 mod plain_sorts;
 pub mod free_vars;
+mod list_sorts;
+mod plain_sorts;
 pub mod run;
+pub mod table;
 pub mod well_formed;
 
 // The place of a term: its header's index.

@@ -1,0 +1,2 @@
+-- Laws of check 16.
+pub mod Laws

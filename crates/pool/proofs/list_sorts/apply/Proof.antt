@@ -1,0 +1,41 @@
+use Rattle.pool.proofs.list_sorts.Laws.{applied}
+use borrow.Author.Needs.{needs}
+use Rattle.pool.proofs.list_sorts.apply.Statement.{statement}
+use Rattle.pool.proofs.list_sorts.apply.Tie as tie
+use Rattle.pool.proofs.list_sorts.apply.Reads as reads
+use Rattle.pool.proofs.list_sorts.apply.Lts as lts
+use Rattle.pool.proofs.list_sorts.past.Reads as past-reads
+use Rattle.pool.proofs.run.is_at.Reads as is-at-reads
+
+past-requires : tie.Need-past-requires
+past-requires c κs = search needs
+
+shared-slice-read-result : tie.Need-shared-slice-read-result
+shared-slice-read-result c = search needs
+
+returns : tie.Need-returns
+returns c = search applied
+
+returns-2 : tie.Need-returns-2
+returns-2 c = search applied
+
+cast-at : tie.Need-cast-at
+cast-at c = search needs
+
+is-at-requires : tie.Need-is-at-requires
+is-at-requires c κs = search needs
+
+returns-3 : tie.Need-returns-3
+returns-3 c = search applied
+
+pub apply-spec : {M : Type 1} → statement M
+apply-spec =
+    tie.close
+    (tie.spec
+    past-requires
+    shared-slice-read-result
+    returns
+    returns-2
+    cast-at
+    is-at-requires
+    returns-3)

@@ -1,0 +1,2 @@
+-- Laws of the table of rules.
+pub mod Entries
