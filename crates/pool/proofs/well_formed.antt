@@ -1,0 +1,2 @@
+-- Laws of check 14.
+pub mod Laws
