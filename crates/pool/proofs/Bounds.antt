@@ -1,11 +1,10 @@
 -- Laws of `Bounded`: a loop over a range, one law for each way out and one for a turn.
 -- Assumes nothing.
-use Prim.Native.Nat.{ℕ, zero, suc, _+_, _-_, _≤_, _<_}
+use Prim.Native.Nat.{ℕ, suc, _+_, _-_, _≤_, _<_}
 use mathlib.Core.Path.{_≡_}
-use mathlib.Core.Bool.{Bool, true, false, not}
+use mathlib.Core.Bool.{Bool, true, false}
 use native.Mathlib.Omega.{arith}
 use native.Mathlib.Numerals.{add-one}
-use borrow.Author.Tests.{not-true, not-false}
 use Rattle.pool.specs.Bounded.{everyIn, every}
 
 -- a range from j up to k, at its end and before it

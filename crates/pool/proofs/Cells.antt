@@ -1,17 +1,17 @@
 -- Laws of `Cell`: reading cells, runs of cells, and comparing them.
 -- Assumes nothing.
-use Prim.Native.Nat.{ℕ, zero, suc, _+_, _-_, _≤_, _<_}
+use Prim.Native.Nat.{ℕ, _+_, _-_, _≤_, _<_}
 use mathlib.Core.Path.{_≡_, refl, sym, ap}
 use mathlib.Core.Bool.{Bool, true, false}
 use mathlib.Core.List.{List, [], _∷_}
 use lib.ListN.{length, getD, take, drop, drop-of-length-le, List·getD-eq-default, length-drop}
 use lib.Seq.{drop-cons, take-all, take-nil}
-use lib.Dec.{leb, ltb, eqb}
+use lib.Dec.{eqb}
 use native.Mathlib.Omega.{arith}
 use native.Mathlib.Numerals.{add-one}
 use borrow.Author.Tests.{lt-ltb, le-ltb, eq-eqb, ne-eqb, eqb-true}
 use Rattle.pool.specs.ByPlace.{by-test}
-use Rattle.pool.specs.Cell.{cellsOf, sortOf, operandsOf, sameCells, isAt}
+use Rattle.pool.specs.Cell.{cellsOf, operandsOf, sameCells, isAt}
 
 pub cell-past : (a : List ℕ) (i : ℕ) → length a ≤ i → 0 ≡ getD a i 0
 cell-past a i h = sym (List·getD-eq-default a 0 h)

@@ -1,8 +1,8 @@
 // A shared term pool in document 01's packed form: two u32 arrays of one length, tag and value, and a
 // count of used cells. The functions of this crate alone read or write cells.
+pub mod call;
 pub mod compute_sort;
 pub mod description;
-mod plain_sorts;
 pub mod free_vars;
 mod list_sorts;
 mod plain_sorts;

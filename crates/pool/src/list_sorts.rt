@@ -259,7 +259,13 @@ pub(crate) fn join(tags: &[u32], values: &[u32], s: SortPlace, os: &[u32]) -> bo
     if right.len() == 0 {
         return false;
     }
-    is_joined(tags, values, s, but_last(relation_sorts(values, os[0])), past(right, 1))
+    is_joined(
+        tags,
+        values,
+        s,
+        but_last(relation_sorts(values, os[0])),
+        past(right, 1),
+    )
 }
 
 // RelProduct: the left's sorts, then the right's.
@@ -275,5 +281,11 @@ pub(crate) fn product(tags: &[u32], values: &[u32], s: SortPlace, os: &[u32]) ->
     if !is_relation(tags, values, os[1]) {
         return false;
     }
-    is_joined(tags, values, s, relation_sorts(values, os[0]), relation_sorts(values, os[1]))
+    is_joined(
+        tags,
+        values,
+        s,
+        relation_sorts(values, os[0]),
+        relation_sorts(values, os[1]),
+    )
 }

@@ -1,7 +1,7 @@
 -- Laws of the sort rules whose sort is made of a list of sorts: one for each way out of a function of `list_sorts`, one for a loop's turn.
 -- Assumes nothing.
 use Prim.Native.Nat.{ℕ, zero, suc, _+_, _-_, _≤_, _<_}
-use mathlib.Core.Path.{_≡_, refl, sym, ap, _∙_}
+use mathlib.Core.Path.{_≡_, refl, sym, _∙_}
 use mathlib.Core.Bool.{Bool, true, false, not, _&&_, cond, and-true, and-false, and-assoc}
 use mathlib.Core.List.{List, [], _∷_, _++_, map, reverse, dropLast, reverse-cons}
 use lib.ListN.{length, getD, take, drop, length-append, length-map, length-reverse, length-drop, drop-of-length-le, List·getD-append}
@@ -13,7 +13,7 @@ use native.Mathlib.Nat.{add-zero}
 use borrow.Author.Tests.{lt-ltb, le-ltb, le-leb, lt-leb, eq-eqb, ne-eqb, ltb-true, ltb-false, leb-true, leb-false, not-true, not-false}
 use Rattle.pool.specs.ByPlace.{by-test}
 use Rattle.pool.specs.Cell.{cellsOf, sortOf, sameCells, isAt}
-use Rattle.pool.specs.SortRule.{Computed, place, made, relation, no-answer, isSort, pairSorts, apply, sortTag, isRelation, relationSorts, transpose, join, product, application, lambda}
+use Rattle.pool.specs.SortRule.{made, relation, no-answer, isSort, pairSorts, apply, sortTag, isRelation, relationSorts, transpose, join, product, application, lambda}
 use Rattle.pool.proofs.Cells.{same-lengths, same-end, same-not, same-next}
 
 -- ---- parts of a list
@@ -84,10 +84,10 @@ reverse-at [] i h = absurd (omega arith)
 reverse-at (x ∷ b) i h =
     by-test (ltb i (length b))
     (λ t. let l : i < length b = ltb-true i (length b) t in
-      let e : length (x ∷ b) - 1 - i ≡ suc (length b - 1 - i) = omega arith in
-      rw (e, reverse-cons x b, List·getD-append (reverse b) (x ∷ []) 0 i (rw length-reverse l)) (reverse-at b i l))
+    let e : length (x ∷ b) - 1 - i ≡ suc (length b - 1 - i) = omega arith in
+    rw (e, reverse-cons x b, List·getD-append (reverse b) (x ∷ []) 0 i (rw length-reverse l)) (reverse-at b i l))
     (λ t. let e : length (x ∷ b) - 1 - i ≡ 0 = omega (arith, ltb-false i (length b) t) in
-      rw (e, reverse-cons x b, getD-at (reverse b) x [] 0 i (rw length-reverse (omega (arith, ltb-false i (length b) t)))))
+    rw (e, reverse-cons x b, getD-at (reverse b) x [] 0 i (rw length-reverse (omega (arith, ltb-false i (length b) t)))))
 
 module _ (a b : List ℕ) where
   pub reversed-lengths : (length a ≡ length b → ⊥) → false ≡ sameCells a (reverse b)
@@ -379,4 +379,5 @@ module _ (tags values : List ℕ) (s : ℕ) where
           product-sorts e = rw (product-is os h, ← qs, not-false q y, ← ts, not-false t z, ← rs, ← ls, e)
 
 pub ruleset joinings = (join-none, join-left, join-right, join-empty, join-sorts)
+
 pub ruleset products = (product-none, product-left, product-right, product-sorts)

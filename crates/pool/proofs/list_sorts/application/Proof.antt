@@ -2,12 +2,6 @@ use Rattle.pool.proofs.list_sorts.Laws.{applications}
 use borrow.Author.Needs.{needs}
 use Rattle.pool.proofs.list_sorts.application.Statement.{statement}
 use Rattle.pool.proofs.list_sorts.application.Tie as tie
-use Rattle.pool.proofs.list_sorts.application.Reads as reads
-use Rattle.pool.proofs.list_sorts.application.Lts as lts
-use Rattle.pool.proofs.list_sorts.apply.Reads as apply-reads
-use Rattle.pool.proofs.run.cell.Reads as cell-reads
-use Rattle.pool.proofs.run.cells.Reads as cells-reads
-use Rattle.pool.proofs.run.sort_of.Reads as sort-of-reads
 
 returns : tie.Need-returns
 returns c = search applications

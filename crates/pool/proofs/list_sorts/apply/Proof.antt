@@ -2,10 +2,6 @@ use Rattle.pool.proofs.list_sorts.Laws.{applied}
 use borrow.Author.Needs.{needs}
 use Rattle.pool.proofs.list_sorts.apply.Statement.{statement}
 use Rattle.pool.proofs.list_sorts.apply.Tie as tie
-use Rattle.pool.proofs.list_sorts.apply.Reads as reads
-use Rattle.pool.proofs.list_sorts.apply.Lts as lts
-use Rattle.pool.proofs.list_sorts.past.Reads as past-reads
-use Rattle.pool.proofs.run.is_at.Reads as is-at-reads
 
 past-requires : tie.Need-past-requires
 past-requires c κs = search needs

@@ -2,8 +2,6 @@ use Rattle.pool.proofs.list_sorts.Laws.{parts}
 use borrow.Author.Needs.{needs}
 use Rattle.pool.proofs.list_sorts.but_last.Statement.{statement}
 use Rattle.pool.proofs.list_sorts.but_last.Tie as tie
-use Rattle.pool.proofs.list_sorts.but_last.Reads as reads
-use Rattle.pool.proofs.list_sorts.but_last.Lts as lts
 
 returns : tie.Need-returns
 returns c = search parts

@@ -2,10 +2,6 @@ use Rattle.pool.proofs.list_sorts.Laws.{related}
 use borrow.Author.Needs.{needs}
 use Rattle.pool.proofs.list_sorts.is_relation.Statement.{statement}
 use Rattle.pool.proofs.list_sorts.is_relation.Tie as tie
-use Rattle.pool.proofs.list_sorts.is_relation.Reads as reads
-use Rattle.pool.proofs.list_sorts.is_relation.Lts as lts
-use Rattle.pool.proofs.run.cell.Reads as cell-reads
-use Rattle.pool.proofs.run.sort_of.Reads as sort-of-reads
 
 sort-of-requires : tie.Need-sort-of-requires
 sort-of-requires c κs = search needs

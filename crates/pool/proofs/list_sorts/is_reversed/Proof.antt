@@ -2,11 +2,6 @@ use Rattle.pool.proofs.list_sorts.Laws.{relations}
 use borrow.Author.Needs.{needs}
 use Rattle.pool.proofs.list_sorts.is_reversed.Statement.{statement}
 use Rattle.pool.proofs.list_sorts.is_reversed.Tie as tie
-use Rattle.pool.proofs.list_sorts.is_reversed.Reads as reads
-use Rattle.pool.proofs.list_sorts.is_reversed.Lts as lts
-use Rattle.pool.proofs.list_sorts.is_tuple_set.Reads as is-tuple-set-reads
-use Rattle.pool.proofs.list_sorts.part_cells.Reads as part-cells-reads
-use Rattle.pool.proofs.list_sorts.same_reversed.Reads as same-reversed-reads
 
 is-tuple-set-requires : tie.Need-is-tuple-set-requires
 is-tuple-set-requires c κs = search needs

@@ -2,10 +2,6 @@ use Rattle.pool.proofs.list_sorts.Laws.{tuple-sets}
 use borrow.Author.Needs.{needs}
 use Rattle.pool.proofs.list_sorts.is_tuple_set.Statement.{statement}
 use Rattle.pool.proofs.list_sorts.is_tuple_set.Tie as tie
-use Rattle.pool.proofs.list_sorts.is_tuple_set.Reads as reads
-use Rattle.pool.proofs.list_sorts.is_tuple_set.Lts as lts
-use Rattle.pool.proofs.run.cell.Reads as cell-reads
-use Rattle.pool.proofs.run.is_at.Reads as is-at-reads
 
 cast-at : tie.Need-cast-at
 cast-at c = search needs

@@ -2,13 +2,6 @@ use Rattle.pool.proofs.list_sorts.Laws.{joinings}
 use borrow.Author.Needs.{needs}
 use Rattle.pool.proofs.list_sorts.join.Statement.{statement}
 use Rattle.pool.proofs.list_sorts.join.Tie as tie
-use Rattle.pool.proofs.list_sorts.join.Reads as reads
-use Rattle.pool.proofs.list_sorts.join.Lts as lts
-use Rattle.pool.proofs.list_sorts.but_last.Reads as but-last-reads
-use Rattle.pool.proofs.list_sorts.is_joined.Reads as is-joined-reads
-use Rattle.pool.proofs.list_sorts.is_relation.Reads as is-relation-reads
-use Rattle.pool.proofs.list_sorts.past.Reads as past-reads
-use Rattle.pool.proofs.list_sorts.relation_sorts.Reads as relation-sorts-reads
 
 returns : tie.Need-returns
 returns c = search joinings

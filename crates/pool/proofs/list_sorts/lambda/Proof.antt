@@ -2,14 +2,6 @@ use Rattle.pool.proofs.list_sorts.Laws.{lambdas}
 use borrow.Author.Needs.{needs}
 use Rattle.pool.proofs.list_sorts.lambda.Statement.{statement}
 use Rattle.pool.proofs.list_sorts.lambda.Tie as tie
-use Rattle.pool.proofs.list_sorts.lambda.Reads as reads
-use Rattle.pool.proofs.list_sorts.lambda.Lts as lts
-use Rattle.pool.proofs.list_sorts.but_last.Reads as but-last-reads
-use Rattle.pool.proofs.list_sorts.past.Reads as past-reads
-use Rattle.pool.proofs.list_sorts.same_pair_sorts.Reads as same-pair-sorts-reads
-use Rattle.pool.proofs.run.cell.Reads as cell-reads
-use Rattle.pool.proofs.run.cells.Reads as cells-reads
-use Rattle.pool.proofs.run.sort_of.Reads as sort-of-reads
 
 cast-at : tie.Need-cast-at
 cast-at c = search needs

@@ -2,10 +2,6 @@ use Rattle.pool.proofs.list_sorts.Laws.{tuple-sets}
 use borrow.Author.Needs.{needs}
 use Rattle.pool.proofs.list_sorts.part_cells.Statement.{statement}
 use Rattle.pool.proofs.list_sorts.part_cells.Tie as tie
-use Rattle.pool.proofs.list_sorts.part_cells.Reads as reads
-use Rattle.pool.proofs.list_sorts.part_cells.Lts as lts
-use Rattle.pool.proofs.run.cell.Reads as cell-reads
-use Rattle.pool.proofs.run.cells.Reads as cells-reads
 
 cast-at : tie.Need-cast-at
 cast-at c = search needs

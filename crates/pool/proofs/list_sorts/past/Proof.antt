@@ -2,8 +2,6 @@ use Rattle.pool.proofs.list_sorts.Laws.{parts}
 use borrow.Author.Needs.{needs}
 use Rattle.pool.proofs.list_sorts.past.Statement.{statement}
 use Rattle.pool.proofs.list_sorts.past.Tie as tie
-use Rattle.pool.proofs.list_sorts.past.Reads as reads
-use Rattle.pool.proofs.list_sorts.past.Lts as lts
 
 sub-result : tie.Need-sub-result
 sub-result c = search needs

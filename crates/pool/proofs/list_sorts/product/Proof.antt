@@ -2,11 +2,6 @@ use Rattle.pool.proofs.list_sorts.Laws.{products}
 use borrow.Author.Needs.{needs}
 use Rattle.pool.proofs.list_sorts.product.Statement.{statement}
 use Rattle.pool.proofs.list_sorts.product.Tie as tie
-use Rattle.pool.proofs.list_sorts.product.Reads as reads
-use Rattle.pool.proofs.list_sorts.product.Lts as lts
-use Rattle.pool.proofs.list_sorts.is_joined.Reads as is-joined-reads
-use Rattle.pool.proofs.list_sorts.is_relation.Reads as is-relation-reads
-use Rattle.pool.proofs.list_sorts.relation_sorts.Reads as relation-sorts-reads
 
 returns : tie.Need-returns
 returns c = search products

@@ -2,10 +2,6 @@ use Rattle.pool.specs.SortRule.{relationSorts}
 use borrow.Author.Needs.{needs}
 use Rattle.pool.proofs.list_sorts.relation_sorts.Statement.{statement}
 use Rattle.pool.proofs.list_sorts.relation_sorts.Tie as tie
-use Rattle.pool.proofs.list_sorts.relation_sorts.Reads as reads
-use Rattle.pool.proofs.list_sorts.relation_sorts.Lts as lts
-use Rattle.pool.proofs.list_sorts.part_cells.Reads as part-cells-reads
-use Rattle.pool.proofs.run.sort_of.Reads as sort-of-reads
 
 sort-of-requires : tie.Need-sort-of-requires
 sort-of-requires c κs = search needs

@@ -2,9 +2,6 @@ use Rattle.pool.proofs.list_sorts.Laws.{joins}
 use borrow.Author.Needs.{needs}
 use Rattle.pool.proofs.list_sorts.same_joined.Statement.{statement}
 use Rattle.pool.proofs.list_sorts.same_joined.Tie as tie
-use Rattle.pool.proofs.list_sorts.same_joined.Reads as reads
-use Rattle.pool.proofs.list_sorts.same_joined.Lts as lts
-use Rattle.pool.proofs.run.same_cells.Reads as same-cells-reads
 
 returns : tie.Need-returns
 returns c = search joins

@@ -1,15 +1,12 @@
 use borrow.Author.Needs.{needs}
 use Rattle.pool.proofs.list_sorts.Laws.{pairs}
 use mathlib.Core.Path.{_≡_}
-use mathlib.Core.List.{map, reverse}
 use Prim.Native.Nat.{_-_, _≤_}
 use lib.ListN.{length, drop}
-use Rattle.pool.specs.Cell.{sameCells, sortOf}
+use Rattle.pool.specs.Cell.{sameCells}
 use Rattle.pool.specs.SortRule.{pairSorts}
 use Rattle.pool.proofs.list_sorts.same_pair_sorts.Statement.{statement}
 use Rattle.pool.proofs.list_sorts.same_pair_sorts.Tie as tie
-use Rattle.pool.proofs.list_sorts.same_pair_sorts.Reads as reads
-use Rattle.pool.proofs.list_sorts.same_pair_sorts.Lts as lts
 
 abbrev Inv-loop : tie.InvT-loop
 Inv-loop cells pairs i₀ j₀ i j = (sameCells cells (pairSorts pairs) ≡ sameCells (drop i cells) (pairSorts (drop j pairs))) × (j ≤ length pairs)

@@ -1,15 +1,12 @@
 use borrow.Author.Needs.{needs}
 use Rattle.pool.proofs.list_sorts.Laws.{reversed}
 use mathlib.Core.Path.{_≡_}
-use mathlib.Core.List.{map, reverse}
-use Prim.Native.Nat.{_-_, _≤_}
+use mathlib.Core.List.{reverse}
+use Prim.Native.Nat.{_-_}
 use lib.ListN.{length, drop}
-use Rattle.pool.specs.Cell.{sameCells, sortOf}
-use Rattle.pool.specs.SortRule.{pairSorts}
+use Rattle.pool.specs.Cell.{sameCells}
 use Rattle.pool.proofs.list_sorts.same_reversed.Statement.{statement}
 use Rattle.pool.proofs.list_sorts.same_reversed.Tie as tie
-use Rattle.pool.proofs.list_sorts.same_reversed.Reads as reads
-use Rattle.pool.proofs.list_sorts.same_reversed.Lts as lts
 
 abbrev Inv-loop : tie.InvT-loop
 Inv-loop a b i₀ i = sameCells a (reverse b) ≡ sameCells (drop i a) (drop i (reverse b))

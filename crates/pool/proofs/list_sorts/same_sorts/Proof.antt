@@ -1,16 +1,12 @@
 use borrow.Author.Needs.{needs}
 use Rattle.pool.proofs.list_sorts.Laws.{sorts, sorts-next}
 use mathlib.Core.Path.{_≡_}
-use mathlib.Core.List.{map, reverse}
-use Prim.Native.Nat.{_-_, _≤_}
+use mathlib.Core.List.{map}
+use Prim.Native.Nat.{_-_}
 use lib.ListN.{length, drop}
 use Rattle.pool.specs.Cell.{sameCells, sortOf}
-use Rattle.pool.specs.SortRule.{pairSorts}
 use Rattle.pool.proofs.list_sorts.same_sorts.Statement.{statement}
 use Rattle.pool.proofs.list_sorts.same_sorts.Tie as tie
-use Rattle.pool.proofs.list_sorts.same_sorts.Reads as reads
-use Rattle.pool.proofs.list_sorts.same_sorts.Lts as lts
-use Rattle.pool.proofs.run.sort_of.Reads as sort-of-reads
 
 abbrev Inv-loop : tie.InvT-loop
 Inv-loop values cells os i₀ i = sameCells cells (map (sortOf values) os) ≡ sameCells (drop i cells) (drop i (map (sortOf values) os))

@@ -2,11 +2,6 @@ use Rattle.pool.proofs.list_sorts.Laws.{transposes}
 use borrow.Author.Needs.{needs}
 use Rattle.pool.proofs.list_sorts.transpose.Statement.{statement}
 use Rattle.pool.proofs.list_sorts.transpose.Tie as tie
-use Rattle.pool.proofs.list_sorts.transpose.Reads as reads
-use Rattle.pool.proofs.list_sorts.transpose.Lts as lts
-use Rattle.pool.proofs.list_sorts.is_relation.Reads as is-relation-reads
-use Rattle.pool.proofs.list_sorts.is_reversed.Reads as is-reversed-reads
-use Rattle.pool.proofs.list_sorts.relation_sorts.Reads as relation-sorts-reads
 
 returns : tie.Need-returns
 returns c = search transposes

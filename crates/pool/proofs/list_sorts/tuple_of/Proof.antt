@@ -3,11 +3,6 @@ use Rattle.pool.specs.SortRule.{isSort}
 use borrow.Author.Needs.{needs}
 use Rattle.pool.proofs.list_sorts.tuple_of.Statement.{statement}
 use Rattle.pool.proofs.list_sorts.tuple_of.Tie as tie
-use Rattle.pool.proofs.list_sorts.tuple_of.Reads as reads
-use Rattle.pool.proofs.list_sorts.tuple_of.Lts as lts
-use Rattle.pool.proofs.list_sorts.same_sorts.Reads as same-sorts-reads
-use Rattle.pool.proofs.run.cell.Reads as cell-reads
-use Rattle.pool.proofs.run.cells.Reads as cells-reads
 
 cast-at : tie.Need-cast-at
 cast-at c = search needs

@@ -2,8 +2,6 @@ use Rattle.pool.proofs.Cells.{cell-past}
 use borrow.Author.Needs.{needs}
 use Rattle.pool.proofs.run.cell.Statement.{statement}
 use Rattle.pool.proofs.run.cell.Tie as tie
-use Rattle.pool.proofs.run.cell.Reads as reads
-use Rattle.pool.proofs.run.cell.Lts as lts
 
 mul-result : tie.Need-mul-result
 mul-result c = search needs

@@ -2,9 +2,6 @@ use Rattle.pool.proofs.Cells.{runs}
 use borrow.Author.Needs.{needs}
 use Rattle.pool.proofs.run.cells.Statement.{statement}
 use Rattle.pool.proofs.run.cells.Tie as tie
-use Rattle.pool.proofs.run.cells.Reads as reads
-use Rattle.pool.proofs.run.cells.Lts as lts
-use Rattle.pool.proofs.run.wide.Reads as wide-reads
 
 sub-result : tie.Need-sub-result
 sub-result c = search needs

@@ -2,11 +2,6 @@ use Rattle.pool.proofs.Cells.{descriptions}
 use borrow.Author.Needs.{needs}
 use Rattle.pool.proofs.run.is_at.Statement.{statement}
 use Rattle.pool.proofs.run.is_at.Tie as tie
-use Rattle.pool.proofs.run.is_at.Reads as reads
-use Rattle.pool.proofs.run.is_at.Lts as lts
-use Rattle.pool.proofs.run.cell.Reads as cell-reads
-use Rattle.pool.proofs.run.cells.Reads as cells-reads
-use Rattle.pool.proofs.run.same_cells.Reads as same-cells-reads
 
 cell-requires : tie.Need-cell-requires
 cell-requires c κs = search needs

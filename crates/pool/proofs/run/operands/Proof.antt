@@ -2,10 +2,6 @@ use Rattle.pool.proofs.Cells.{operand-runs}
 use borrow.Author.Needs.{needs}
 use Rattle.pool.proofs.run.operands.Statement.{statement}
 use Rattle.pool.proofs.run.operands.Tie as tie
-use Rattle.pool.proofs.run.operands.Reads as reads
-use Rattle.pool.proofs.run.operands.Lts as lts
-use Rattle.pool.proofs.run.cell.Reads as cell-reads
-use Rattle.pool.proofs.run.cells.Reads as cells-reads
 
 cast-at : tie.Need-cast-at
 cast-at c = search needs

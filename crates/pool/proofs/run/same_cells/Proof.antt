@@ -6,8 +6,6 @@ use lib.ListN.{length, drop}
 use Rattle.pool.specs.Cell.{sameCells}
 use Rattle.pool.proofs.run.same_cells.Statement.{statement}
 use Rattle.pool.proofs.run.same_cells.Tie as tie
-use Rattle.pool.proofs.run.same_cells.Reads as reads
-use Rattle.pool.proofs.run.same_cells.Lts as lts
 
 abbrev Inv-loop : tie.InvT-loop
 Inv-loop a b i₀ i = sameCells a b ≡ sameCells (drop i a) (drop i b)

@@ -2,9 +2,6 @@ use Rattle.pool.specs.Cell.{sortOf}
 use borrow.Author.Needs.{needs}
 use Rattle.pool.proofs.run.sort_of.Statement.{statement}
 use Rattle.pool.proofs.run.sort_of.Tie as tie
-use Rattle.pool.proofs.run.sort_of.Reads as reads
-use Rattle.pool.proofs.run.sort_of.Lts as lts
-use Rattle.pool.proofs.run.cell.Reads as cell-reads
 
 cast-at : tie.Need-cast-at
 cast-at c = search needs

@@ -1,0 +1,192 @@
+-- Laws of `Check`, one for each way out of the public calls.
+-- Assumes nothing.
+use Prim.Native.Nat.{ℕ, _≤_, _<_}
+use mathlib.Core.Path.{_≡_, refl, sym, _∙_}
+use mathlib.Core.Bool.{Bool, true, false, not}
+use mathlib.Core.List.{List}
+use lib.ListN.{length, replicate, getD-replicate, length-replicate}
+use lib.Dec.{leb, eqb}
+use native.Mathlib.Omega.{arith}
+use mir.Val.{Fits}
+use mir.Syntax.{w32}
+use borrow.Author.Tests.{le-leb, lt-leb, eq-eqb, ne-eqb, leb-true, not-true, not-false}
+use Rattle.pool.specs.ByPlace.{by-test}
+use Rattle.pool.specs.Answer.{accepted, illFormed, repeated, wrongSort, notATerm, badArrays}
+use Rattle.pool.specs.Cell.{sortOf}
+use Rattle.pool.specs.WellFormed.{firstBad, isTerm}
+use Rattle.pool.specs.Description.{firstRepeat}
+use Rattle.pool.specs.SortRule.{firstWrongSort}
+use Rattle.pool.specs.Free.{Marked}
+use Rattle.pool.specs.Check.{arraysFit, checkCells, checkPool, andThen, checkTerm, sortAnswer, freeAnswer, markLeft, FreeVars}
+use Rattle.pool.specs.declared.Answer.{Answer}
+use Rattle.pool.specs.declared.Found.{Found}
+use Rattle.pool.specs.declared.Found.the-variants.{At, Nothing}
+use Rattle.pool.proofs.Walks.{first-below}
+
+-- ---- 30
+module _ (tags values : List ℕ) (n : ℕ) where
+  pub fit-lengths : (length tags ≡ length values → ⊥) → false ≡ arraysFit tags values n
+  unfolding arraysFit
+  fit-lengths h = rw (ne-eqb _ _ h)
+
+  module _ (e : length tags ≡ length values) where
+    pub fit-short : length tags < n → false ≡ arraysFit tags values n
+    unfolding arraysFit
+    fit-short h = rw (eq-eqb _ _ e, lt-leb _ _ h)
+
+    pub fit-rest : n ≤ length tags → leb n 8192 ≡ arraysFit tags values n
+    unfolding arraysFit
+    fit-rest h = rw (eq-eqb _ _ e, le-leb _ _ h)
+
+  -- arrays that fit hold at most 8,192 used cells, all of them there
+  fit-all : arraysFit tags values n ≡ true → (n ≤ length tags) × (n ≤ 8192)
+  unfolding arraysFit
+  fit-all e =
+      by-test (eqb (length tags) (length values))
+      (λ a. by-test (leb n (length tags))
+      (λ b. (leb-true n (length tags) b, leb-true n 8192 (rw (a, b) at e)))
+      (λ b. let z : false ≡ true = rw (a, b) at e in absurd (no z)))
+      (λ a. let z : false ≡ true = rw a at e in absurd (no z))
+    where
+      no : false ≡ true → ⊥
+      no z = let w : _≡_ {A = ℕ} 0 1 = cc in omega arith
+
+  module _ (r : Bool) (is : r ≡ arraysFit tags values n) where
+    pub fit-size : not r ≡ false → n ≤ 8192
+    fit-size e = fit-all (sym is ∙ not-false r e) .1
+
+    pub pool-arrays : (rules : List ℕ) → not r ≡ true → badArrays ≡ checkPool tags values rules n
+    unfolding checkPool
+    pool-arrays rules e = rw (← is, not-true r e)
+
+    pub pool-cells : (rules : List ℕ) → not r ≡ false → (a : Answer) → a ≡ checkCells tags values rules n → a ≡ checkPool tags values rules n
+    unfolding checkPool
+    pool-cells rules e a q = rw (← is, not-false r e, q)
+
+pub ruleset fits = (fit-lengths, fit-short, fit-rest)
+
+pub ruleset pools = (pool-arrays, pool-cells)
+
+-- ---- 14, 15, 16: what the walks found
+module _ (tags values rules : List ℕ) (n : ℕ) where
+  pub cells-none : n ≡ 0 → illFormed 0 ≡ checkCells tags values rules n
+  unfolding checkCells
+  cells-none h = rw (eq-eqb _ _ h)
+
+  module _ (h : n ≡ 0 → ⊥) (bad : Found) (is-bad : bad ≡ firstBad tags values n) where
+    pub cells-bad : (p : ℕ) → bad ≡ At p → illFormed p ≡ checkCells tags values rules n
+    unfolding checkCells
+    cells-bad p e = rw (ne-eqb _ _ h, ← is-bad, e)
+
+    module _ (good : bad ≡ Nothing) (rep : Found) (is-rep : rep ≡ firstRepeat tags values n) where
+      pub cells-repeated : (p : ℕ) → rep ≡ At p → repeated p ≡ checkCells tags values rules n
+      unfolding checkCells
+      cells-repeated p e = rw (ne-eqb _ _ h, ← is-bad, good, ← is-rep, e)
+
+      module _ (once : rep ≡ Nothing) (wrong : Found) (is-wrong : wrong ≡ firstWrongSort tags values rules n) where
+        pub cells-wrong : (p : ℕ) → wrong ≡ At p → wrongSort p ≡ checkCells tags values rules n
+        unfolding checkCells
+        cells-wrong p e = rw (ne-eqb _ _ h, ← is-bad, good, ← is-rep, once, ← is-wrong, e)
+
+        pub cells-right : wrong ≡ Nothing → accepted 0 0 ≡ checkCells tags values rules n
+        unfolding checkCells
+        cells-right e = rw (ne-eqb _ _ h, ← is-bad, good, ← is-rep, once, ← is-wrong, e)
+
+pub ruleset all-cells = (cells-none, cells-bad, cells-repeated, cells-wrong, cells-right)
+
+-- a place that a walk found stands below n, and fits u32 as n does
+module _ (tags values rules : List ℕ) (n p : ℕ) (small : n ≤ 8192) (found : Found) (at : found ≡ At p) where
+  fit : p < n → Fits w32 p
+  fit h = record { fits = omega arith }
+
+  pub bad-fits : found ≡ firstBad tags values n → Fits w32 p
+  unfolding firstBad
+  bad-fits e = fit (first-below values n _ p (sym e ∙ at))
+
+  pub repeat-fits : found ≡ firstRepeat tags values n → Fits w32 p
+  unfolding firstRepeat
+  repeat-fits e = fit (first-below values n _ p (sym e ∙ at))
+
+  pub wrong-fits : found ≡ firstWrongSort tags values rules n → Fits w32 p
+  unfolding firstWrongSort
+  wrong-fits e = fit (first-below values n _ p (sym e ∙ at))
+
+-- ---- the table in use
+module _ (tags values rules table : List ℕ) (n : ℕ) (same : rules ≡ table) (a : Answer) where
+  pub pool-by : a ≡ checkPool tags values rules n → a ≡ checkPool tags values table n
+  pool-by e = rw (← same) e
+
+  pub term-by : (t : ℕ) → a ≡ checkTerm tags values rules n t → a ≡ checkTerm tags values table n t
+  term-by t e = rw (← same) e
+
+-- ---- a refusal, or what comes next
+module _ (a : Answer) where
+  stop : (next : Answer) → (a .code ≡ 0 → ⊥) → a ≡ andThen a next
+  unfolding andThen
+  stop next h = rw (ne-eqb _ _ h)
+
+  go-on : (next : Answer) → a .code ≡ 0 → next ≡ andThen a next
+  unfolding andThen
+  go-on next h = rw (eq-eqb _ _ h)
+
+module _ (tags values rules : List ℕ) (n t : ℕ) where
+  module _ (a : Answer) (is : a ≡ checkPool tags values rules n) where
+    pub term-refused : (a .code ≡ 0 → ⊥) → a ≡ checkTerm tags values rules n t
+    unfolding checkTerm
+    term-refused h = rw (← is) (stop a _ h)
+
+    module _ (h : a .code ≡ 0) (r : Bool) (e : r ≡ isTerm tags n t) where
+      pub term-not : not r ≡ true → notATerm t ≡ checkTerm tags values rules n t
+      unfolding checkTerm
+      term-not o = rw (← is, ← e, not-true r o) (go-on a _ h)
+
+      pub term-is : not r ≡ false → accepted 0 0 ≡ checkTerm tags values rules n t
+      unfolding checkTerm
+      term-is o = rw (← is, ← e, not-false r o) (go-on a _ h)
+
+  module _ (a : Answer) (is : a ≡ checkTerm tags values rules n t) where
+    pub sort-refused : (a .code ≡ 0 → ⊥) → a ≡ sortAnswer tags values rules n t
+    unfolding sortAnswer
+    sort-refused h = rw (← is) (stop a _ h)
+
+    pub sort-is : a .code ≡ 0 → (s : ℕ) → s ≡ sortOf values t → accepted s 0 ≡ sortAnswer tags values rules n t
+    unfolding sortAnswer
+    sort-is h s e = rw (← is, e) (go-on a _ h)
+
+pub ruleset terms = (term-refused, term-not, term-is)
+
+pub ruleset sorts = (sort-refused, sort-is)
+
+-- ---- the free variables
+module _ (tags values rules : List ℕ) (n t : ℕ) (marks : List ℕ) where
+  pub marks-short : length marks < n → FreeVars tags values rules n t marks badArrays marks
+  unfolding freeAnswer markLeft
+  marks-short h = record { answer = rw (lt-leb _ _ h); size = refl; at = λ v _. refl }
+
+  module _ (l : n ≤ length marks) (a : Answer) (is : a ≡ checkTerm tags values rules n t) where
+    answered : a ≡ freeAnswer tags values rules n t (length marks)
+    unfolding freeAnswer
+    answered = rw (le-leb _ _ l, is)
+
+    pub marks-kept : a .code ≡ 30 → FreeVars tags values rules n t marks a marks
+    unfolding markLeft
+    marks-kept h = record { answer = answered; size = refl; at = λ v _. rw (eq-eqb _ _ h) }
+
+    module _ (h : a .code ≡ 30 → ⊥) (marks′ : List ℕ) where
+      pub marks-cleared : (a .code ≡ 0 → ⊥) → marks′ ≡ replicate (length marks) 0 → FreeVars tags values rules n t marks a marks′
+      unfolding markLeft
+      marks-cleared o e = record {
+        answer = answered;
+        size = rw (e, length-replicate);
+        at = λ v b. rw (ne-eqb _ _ h, ne-eqb _ _ o, e, getD-replicate {A = ℕ} (length marks) v 0 0 b);
+      }
+
+      pub marks-made : a .code ≡ 0 → Marked tags values n t (length marks) marks′ → FreeVars tags values rules n t marks a marks′
+      unfolding markLeft
+      marks-made o m = record {
+        answer = answered;
+        size = m .size;
+        at = λ v b. rw (ne-eqb _ _ h, eq-eqb _ _ o) (m .at v b);
+      }
+
+pub ruleset marked = (marks-short, marks-kept, marks-cleared, marks-made)

@@ -1,0 +1,77 @@
+use Rattle.pool.proofs.call.Laws.{all-cells, bad-fits, repeat-fits, wrong-fits}
+use borrow.Author.Needs.{needs}
+use Rattle.pool.proofs.call.check_cells.Statement.{statement}
+use Rattle.pool.proofs.call.check_cells.Tie as tie
+
+returns : tie.Need-returns
+returns c = search all-cells
+
+first-bad-requires : tie.Need-first-bad-requires
+first-bad-requires c κs = search needs
+
+enum-known-p : tie.Need-enum-known-p
+enum-known-p c = search needs
+
+cast-t10 : tie.Need-cast-t10
+cast-t10 c = search bad-fits
+
+returns-2 : tie.Need-returns-2
+returns-2 c = search all-cells
+
+enum-told : tie.Need-enum-told
+enum-told c = search needs
+
+first-repeat-requires : tie.Need-first-repeat-requires
+first-repeat-requires c κs = search needs
+
+enum-known-p-2 : tie.Need-enum-known-p-2
+enum-known-p-2 c = search needs
+
+cast-t12 : tie.Need-cast-t12
+cast-t12 c = search repeat-fits
+
+returns-3 : tie.Need-returns-3
+returns-3 c = search all-cells
+
+enum-told-2 : tie.Need-enum-told-2
+enum-told-2 c = search needs
+
+first-wrong-sort-requires : tie.Need-first-wrong-sort-requires
+first-wrong-sort-requires c κs = search needs
+
+enum-known-p-3 : tie.Need-enum-known-p-3
+enum-known-p-3 c = search needs
+
+cast-t14 : tie.Need-cast-t14
+cast-t14 c = search wrong-fits
+
+returns-4 : tie.Need-returns-4
+returns-4 c = search all-cells
+
+enum-told-3 : tie.Need-enum-told-3
+enum-told-3 c = search needs
+
+returns-5 : tie.Need-returns-5
+returns-5 c = search all-cells
+
+pub check-cells-spec : {M : Type 1} → statement M
+check-cells-spec =
+    tie.close
+    (tie.spec
+    returns
+    first-bad-requires
+    enum-known-p
+    cast-t10
+    returns-2
+    enum-told
+    first-repeat-requires
+    enum-known-p-2
+    cast-t12
+    returns-3
+    enum-told-2
+    first-wrong-sort-requires
+    enum-known-p-3
+    cast-t14
+    returns-4
+    enum-told-3
+    returns-5)

@@ -1,0 +1,20 @@
+use Rattle.pool.proofs.call.Laws.{pools, fit-size}
+use borrow.Author.Needs.{needs}
+use Rattle.pool.proofs.call.check_pool_by.Statement.{statement}
+use Rattle.pool.proofs.call.check_pool_by.Tie as tie
+
+arrays-fit-requires : tie.Need-arrays-fit-requires
+arrays-fit-requires c κs = search needs
+
+returns : tie.Need-returns
+returns c = search pools
+
+check-cells-requires : tie.Need-check-cells-requires
+check-cells-requires c κs = search fit-size
+
+returns-2 : tie.Need-returns-2
+returns-2 c = search pools
+
+pub check-pool-by-spec : {M : Type 1} → statement M
+check-pool-by-spec =
+    tie.close (tie.spec arrays-fit-requires returns check-cells-requires returns-2)
