@@ -53,7 +53,7 @@ fn same_sorts(values: &[u32], cells: &[u32], os: &[u32]) -> bool
     true
 }
 
-// Whether the cells are the second cells of the pairs.
+// Whether the cells are the second cells of the pairs. A first cell alone at the end is no pair.
 fn same_pair_sorts(cells: &[u32], pairs: &[u32]) -> bool
     ensures { λ r. ⌜ r ≡ sameCells (now (cells .entry)) (pairSorts (now (pairs .entry))) ⌝ }
 {
@@ -72,7 +72,7 @@ fn same_pair_sorts(cells: &[u32], pairs: &[u32]) -> bool
     cells.len() <= i
 }
 
-// Whether the cells are those of b in reverse.
+// Whether the cells of a are those of b in reverse.
 fn same_reversed(a: &[u32], b: &[u32]) -> bool
     ensures { λ r. ⌜ r ≡ sameCells (now (a .entry)) (reverse (now (b .entry))) ⌝ }
 {
@@ -89,7 +89,7 @@ fn same_reversed(a: &[u32], b: &[u32]) -> bool
     true
 }
 
-// Whether the cells are those of left and then those of right.
+// Whether the cells of a are those of left and then those of right.
 fn same_joined(a: &[u32], left: &[u32], right: &[u32]) -> bool
     ensures { λ r. ⌜ r ≡ sameCells (now (a .entry)) (now (left .entry) ++ now (right .entry)) ⌝ }
 {
@@ -135,7 +135,7 @@ pub(crate) fn lambda(tags: &[u32], values: &[u32], s: SortPlace, os: &[u32]) -> 
     same_pair_sorts(front, past(os, 1))
 }
 
-// What is left of a Function with these entries after m arguments.
+// m arguments to a Function with these entries: to one fewer, the last entry, else the Function of the entries that are left.
 fn apply(tags: &[u32], values: &[u32], s: SortPlace, m: usize, entries: &[u32]) -> bool
     ensures { λ r. ⌜ r ≡ isSort (now (tags .entry)) (now (values .entry)) (s .0) (apply m (now (entries .entry))) ⌝ }
 {
@@ -143,11 +143,11 @@ fn apply(tags: &[u32], values: &[u32], s: SortPlace, m: usize, entries: &[u32]) 
     if rest.len() == 1 {
         return s.0 == rest[0];
     }
-    if entries.len() < m {
-        return false;
+    if m <= entries.len() {
+        let at = s.0 as usize;
+        return run::is_at(tags, values, at, 10, rest);
     }
-    let at = s.0 as usize;
-    run::is_at(tags, values, at, 10, rest)
+    false
 }
 
 // An application: the run is the function and then its arguments.
@@ -166,7 +166,7 @@ pub(crate) fn application(tags: &[u32], values: &[u32], s: SortPlace, os: &[u32]
 }
 
 // ---- relations, Sets of Tuples
-// Whether the term at o states a relation.
+// Whether the sort that the term at o states is a relation.
 pub(crate) fn is_relation(tags: &[u32], values: &[u32], o: u32) -> bool
     ensures { λ r. ⌜ r ≡ isRelation (now (tags .entry)) (now (values .entry)) o ⌝ }
 {
@@ -179,7 +179,7 @@ pub(crate) fn is_relation(tags: &[u32], values: &[u32], o: u32) -> bool
     run::cell(tags, part) == 13
 }
 
-// The cells of the part of the Set at s.
+// The cells of the sort that the Set at s is of.
 fn part_cells(values: &[u32], s: SortPlace) -> &[u32]
     ensures { λ r. ⌜ now r ≡ cellsOf (now (values .entry)) (getD (now (values .entry)) (s .0 + 1) 0) ⌝ }
 {
@@ -195,7 +195,7 @@ pub(crate) fn relation_sorts<'a>(values: &'a [u32], o: u32) -> &'a [u32]
     part_cells(values, run::sort_of(values, TermPlace(o)))
 }
 
-// Whether the sort at s is a Set of a Tuple, with no cells but its part.
+// Whether the sort at s is a Set of a Tuple and has no other cell.
 fn is_tuple_set(tags: &[u32], values: &[u32], s: SortPlace) -> bool
     ensures { λ r. ⌜ r ≡ (isAt (now (tags .entry)) (now (values .entry)) (s .0) 12 (getD (now (values .entry)) (s .0 + 1) 0 ∷ []) && eqb (getD (now (tags .entry)) (getD (now (values .entry)) (s .0 + 1) 0) 0) 13) ⌝ }
 {

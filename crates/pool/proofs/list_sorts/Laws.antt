@@ -13,7 +13,7 @@ use native.Mathlib.Nat.{add-zero}
 use borrow.Author.Tests.{lt-ltb, le-ltb, le-leb, lt-leb, eq-eqb, ne-eqb, ltb-true, ltb-false, leb-true, leb-false, not-true, not-false}
 use Rattle.pool.specs.ByPlace.{by-test}
 use Rattle.pool.specs.Cell.{cellsOf, sortOf, sameCells, isAt}
-use Rattle.pool.specs.SortRule.{made, relation, no-answer, isSort, pairSorts, apply, sortTag, isRelation, relationSorts, transpose, join, product, application, lambda}
+use Rattle.pool.specs.SortRule.{relation, no-answer, isSort, pairSorts, apply, sortTag, isRelation, relationSorts, transpose, join, product, application, lambda}
 use Rattle.pool.proofs.Cells.{same-lengths, same-end, same-not, same-next}
 
 -- ---- parts of a list
@@ -251,6 +251,7 @@ module _ (tags values : List ℕ) (s : ℕ) where
 pub ruleset applications = (application-none, application-other, application-apply)
 
 -- ---- relations
+-- set is the sort of the term at o, and k its tag
 module _ (tags values : List ℕ) (o set k : ℕ) (ss : set ≡ sortOf values o) (ks : k ≡ getD tags set 0) where
   pub not-set : (k ≡ 12 → ⊥) → false ≡ isRelation tags values o
   unfolding isRelation sortTag
@@ -262,21 +263,25 @@ module _ (tags values : List ℕ) (o set k : ℕ) (ss : set ≡ sortOf values o)
 
 pub ruleset related = (not-set, set-of)
 
--- the sort at s is a Set of the Tuple at part
+-- the sort at s is a Set of a Tuple, whose place is part
+abbrev isTupleSet : List ℕ → List ℕ → ℕ → Bool
+isTupleSet tags values s = isAt tags values s 12 (getD values (s + 1) 0 ∷ []) && eqb (getD tags (getD values (s + 1) 0) 0) 13
+
 module _ (tags values : List ℕ) (s part : ℕ) (ps : part ≡ getD values (s + 1) 0) where
   pub part-cells : (run : List ℕ) → run ≡ cellsOf values part → run ≡ cellsOf values (getD values (s + 1) 0)
   part-cells run e = rw ps at e
 
   module _ (q : Bool) (is : q ≡ isAt tags values s 12 (part ∷ [])) where
-    pub no-tuple-set : not q ≡ true → false ≡ (isAt tags values s 12 (getD values (s + 1) 0 ∷ []) && eqb (getD tags (getD values (s + 1) 0) 0) 13)
+    pub no-tuple-set : not q ≡ true → false ≡ isTupleSet tags values s
     no-tuple-set n = rw (← ps, ← is, not-true q n)
 
-    pub tuple-set : not q ≡ false → (k : ℕ) → k ≡ getD tags part 0 → eqb k 13 ≡ (isAt tags values s 12 (getD values (s + 1) 0 ∷ []) && eqb (getD tags (getD values (s + 1) 0) 0) 13)
+    pub tuple-set : not q ≡ false → (k : ℕ) → k ≡ getD tags part 0 → eqb k 13 ≡ isTupleSet tags values s
     tuple-set y k ks = rw (← ps, ← is, not-false q y, ← ks)
 
 pub ruleset tuple-sets = (part-cells, no-tuple-set, tuple-set)
 
-module _ (tags values cells : List ℕ) (s : ℕ) (q : Bool) (is : q ≡ (isAt tags values s 12 (getD values (s + 1) 0 ∷ []) && eqb (getD tags (getD values (s + 1) 0) 0) 13)) where
+-- q says whether the sort at s is a Set of a Tuple
+module _ (tags values cells : List ℕ) (s : ℕ) (q : Bool) (is : q ≡ isTupleSet tags values s) where
   relation-is : isSort tags values s (relation cells) ≡ (q && sameCells (cellsOf values (getD values (s + 1) 0)) cells)
   unfolding isSort isAt
   relation-is = rw is (simp and-assoc)
@@ -289,7 +294,7 @@ module _ (tags values cells : List ℕ) (s : ℕ) (q : Bool) (is : q ≡ (isAt t
 
 pub ruleset relations = (relation-not, relation-cells)
 
--- RelTranspose
+-- RelTranspose: q says whether the operand is a relation
 module _ (tags values : List ℕ) (s : ℕ) where
   pub transpose-none : (os : List ℕ) → length os ≡ 0 → false ≡ isSort tags values s (transpose tags values os)
   unfolding isSort transpose
@@ -312,7 +317,7 @@ module _ (tags values : List ℕ) (s : ℕ) where
 
 pub ruleset transposes = (transpose-none, transpose-not, transpose-sorts)
 
--- RelJoin and RelProduct: o is the left operand, p the right
+-- RelJoin and RelProduct: q says whether the left operand is a relation, and t whether the right is
 module _ (tags values : List ℕ) (s : ℕ) where
   pub join-none : (os : List ℕ) → length os < 2 → false ≡ isSort tags values s (join tags values os)
   unfolding isSort join

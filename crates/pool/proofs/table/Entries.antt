@@ -62,6 +62,7 @@ same-is true false e = cc
 same-is false true e = cc
 same-is false false e = refl
 
+-- what is to hold of the entry x of the operator k, as a test
 right : ℕ → ℕ → Bool
 right k x = ltb x 8 && same (eqb x 0) (isBool k)
 

@@ -12,14 +12,14 @@ shared-slice-read-result c = search needs
 returns : tie.Need-returns
 returns c = search applied
 
-returns-2 : tie.Need-returns-2
-returns-2 c = search applied
-
 cast-at : tie.Need-cast-at
 cast-at c = search needs
 
 is-at-requires : tie.Need-is-at-requires
 is-at-requires c κs = search needs
+
+returns-2 : tie.Need-returns-2
+returns-2 c = search applied
 
 returns-3 : tie.Need-returns-3
 returns-3 c = search applied
@@ -31,7 +31,7 @@ apply-spec =
     past-requires
     shared-slice-read-result
     returns
-    returns-2
     cast-at
     is-at-requires
+    returns-2
     returns-3)

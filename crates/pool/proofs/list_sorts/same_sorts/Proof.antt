@@ -45,7 +45,13 @@ loop-less : tie.Need-loop-less Inv-loop μ-loop
 loop-less c = search needs
 
 loop-again : tie.Need-loop-again Inv-loop μ-loop
-loop-again c = sorts-next _ _ (c .before .before .before .before .before .before .before .before .before .before .before .args .os .now) _ _ (c .before .before .before .before .before .before .loop .inv) (c .before .before .before .before .before .before .before .if1 .left) (c .before .before .before .before .before .loop-test .taken) _ (c .before .before .before .sort-of .ensures) (c .if2 .left)
+loop-again c =
+    sorts-next _ _ (c .before .before .before .before .before .before .before .before .before .before .before .args .os .now) _ _
+    (c .before .before .before .before .before .before .loop .inv)
+    (c .before .before .before .before .before .before .before .if1 .left)
+    (c .before .before .before .before .before .loop-test .taken) _
+    (c .before .before .before .sort-of .ensures)
+    (c .if2 .left)
 
 returns-3 : tie.Need-returns-3 Inv-loop μ-loop
 returns-3 c = search sorts
