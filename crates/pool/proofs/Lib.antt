@@ -1,3 +1,4 @@
 pub mod Cells
 pub mod Bounds
 pub mod Walks
+pub mod tree

@@ -10,3 +10,7 @@ pub mod FreeMemo
 pub mod Table
 pub mod SortRule
 pub mod Check
+pub mod Sort
+pub mod Term
+pub mod Tree
+pub mod FreeTree

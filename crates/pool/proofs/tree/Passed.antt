@@ -1,0 +1,127 @@
+-- What a pool that passes the pool check is, and the theorems on its trees.
+-- Assumes nothing.
+use Prim.Native.Nat.{ℕ, _≤_, _<_}
+use mathlib.Core.Path.{_≡_, refl, ap}
+use mathlib.Core.Bool.{Bool, true, false, not, _||_, cond}
+use mathlib.Core.List.{List}
+use lib.ListN.{length, getD}
+use lib.Dec.{eqb, ltb}
+use native.Mathlib.Omega.{arith}
+use borrow.Author.Tests.{eqb-true, eqb-false, ltb-false, not-true, not-false}
+use Rattle.pool.specs.Answer.{accepted, illFormed, repeated, wrongSort, notATerm, badArrays}
+use Rattle.pool.specs.Cell.{cellsOf, sortOf}
+use Rattle.pool.specs.WellFormed.{firstBad, isSortTag, isTermTag, isTerm}
+use Rattle.pool.specs.Description.{firstRepeat}
+use Rattle.pool.specs.SortRule.{firstWrongSort}
+use Rattle.pool.specs.Check.{arraysFit, refuseAt, checkCells, checkPool, checkTerm}
+use Rattle.pool.specs.Free.{isFree}
+use Rattle.pool.specs.Term.{stated}
+use Rattle.pool.specs.FreeTree.{free, varAt}
+use Rattle.pool.specs.Tree.{sortFrom, sortTree, termFrom, tree}
+use Rattle.pool.specs.declared.Answer.{Answer}
+use Rattle.pool.specs.declared.Found.{Found}
+use Rattle.pool.specs.declared.Found.the-variants.{At, Nothing}
+use Rattle.pool.proofs.tree.Header.{Header, header}
+use Rattle.pool.proofs.tree.Walk.{place-fits}
+use Rattle.pool.proofs.tree.Sorts.{sort-is, sort-one}
+use Rattle.pool.proofs.tree.Terms.{term-is, term-one}
+use Rattle.pool.proofs.tree.Stated.{stated-is}
+use Rattle.pool.proofs.tree.Free.{free-is}
+
+-- ---- the checks that have passed
+pub record Passed (tags values rules : List ℕ) (n : ℕ) : Type 0 where
+  pub equal : length tags ≡ length values
+  pub whole : n ≤ length values
+  pub limit : n ≤ 8192
+  pub some : n ≡ 0 → ⊥
+  pub formed : firstBad tags values n ≡ Nothing
+  pub single : firstRepeat tags values n ≡ Nothing
+  pub sorted : firstWrongSort tags values rules n ≡ Nothing
+
+-- an answer with another number is no acceptance
+refused : {A : Type 0} (a : Answer) → (a .code ≡ 0 → ⊥) → a ≡ accepted 0 0 → A
+refused a h e = absurd (h (ap (λ (x : Answer). x .code) e))
+
+neither : (a b : Bool) → (a || b) ≡ false → (a ≡ false) × (b ≡ false)
+neither true b e = let y : _≡_ {A = ℕ} 0 1 = cc in absurd (omega arith)
+neither false b e = (refl, e)
+
+passes : (refusal : ℕ → Answer) → ((p : ℕ) → refusal p .code ≡ 0 → ⊥) → (w : Found) (next : Answer) → refuseAt refusal w next ≡ accepted 0 0 → (w ≡ Nothing) × (next ≡ accepted 0 0)
+passes refusal h (At p) next e = refused (refusal p) (h p) e
+passes refusal h Nothing next e = (refl, e)
+
+holds : (b : Bool) (x y : Answer) → (y .code ≡ 0 → ⊥) → cond b x y ≡ accepted 0 0 → (b ≡ true) × (x ≡ accepted 0 0)
+holds true x y h e = (refl, e)
+holds false x y h e = refused y h e
+
+fails : (b : Bool) (x y : Answer) → (x .code ≡ 0 → ⊥) → cond b x y ≡ accepted 0 0 → (b ≡ false) × (y ≡ accepted 0 0)
+fails true x y h e = refused x h e
+fails false x y h e = (refl, e)
+
+module _ (tags values rules : List ℕ) (n : ℕ) where
+  arrays-fit : arraysFit tags values n ≡ true → (length tags ≡ length values) × (n ≤ length tags) × (n ≤ 8192)
+  unfolding arraysFit
+  arrays-fit e =
+      let (a, f) = neither (not (eqb (length tags) (length values))) _ (not-true _ e) in
+      let (b, c) = neither (ltb (length tags) n) _ f in
+      (eqb-true _ _ (not-false _ a), ltb-false _ _ b, ltb-false _ _ c)
+
+  cells-pass : (next : Answer) → arraysFit tags values n ≡ true → checkCells tags values rules n next ≡ accepted 0 0 → Passed tags values rules n × (next ≡ accepted 0 0)
+  unfolding checkCells
+  cells-pass next fit e =
+      let (equal, whole, limit) = arrays-fit fit in
+      let (some, e₁) = fails (eqb n 0) (illFormed 0) from14 (λ z. omega arith) e in
+      let (formed, e₂) = passes illFormed (λ p z. omega arith) (firstBad tags values n) from15 e₁ in
+      let (single, e₃) = passes repeated (λ p z. omega arith) (firstRepeat tags values n) from16 e₂ in
+      let (sorted, e₄) = passes wrongSort (λ p z. omega arith) (firstWrongSort tags values rules n) next e₃ in
+      (record { equal = equal; whole = omega arith; limit = limit; some = eqb-false n 0 some; formed = formed; single = single; sorted = sorted }, e₄)
+    where
+      from16 : Answer
+      from16 = refuseAt wrongSort (firstWrongSort tags values rules n) next
+
+      from15 : Answer
+      from15 = refuseAt repeated (firstRepeat tags values n) from16
+
+      from14 : Answer
+      from14 = refuseAt illFormed (firstBad tags values n) from15
+
+  pub pool-passes : checkPool tags values rules n ≡ accepted 0 0 → Passed tags values rules n
+  unfolding checkPool
+  pool-passes e =
+      let (fit, cells) = holds (arraysFit tags values n) _ badArrays (λ z. omega arith) e in
+      cells-pass (accepted 0 0) fit cells .0
+
+  pub term-passes : (t : ℕ) → checkTerm tags values rules n t ≡ accepted 0 0 → Passed tags values rules n × (isTerm tags n t ≡ true)
+  unfolding checkTerm
+  term-passes t e =
+      let (fit, cells) = holds (arraysFit tags values n) _ badArrays (λ z. omega arith) e in
+      let (p, last) = cells-pass (cond (isTerm tags n t) (accepted 0 0) (notATerm t)) fit cells in
+      (p, holds (isTerm tags n t) (accepted 0 0) (notATerm t) (λ z. omega arith) last .0)
+
+-- ---- the trees of a pool that passes
+module _ {tags values rules : List ℕ} {n : ℕ} (c : Passed tags values rules n) where
+  -- a place with a tag is a header with its cells below n, each with tag 0 and holding what it must: an earlier sort or term where it names one
+  pub header-at : (t : ℕ) → t < n → (getD tags t 0 ≡ 0 → ⊥) → Header tags values n t
+  header-at t h tag = header tags values n t (place-fits tags values n (c .formed) t h tag)
+
+  pub sort-of-cells : (s : ℕ) → s < n → isSortTag (getD tags s 0) ≡ true → sortTree tags values s ≡ sortFrom (getD tags s 0) (cellsOf values s) (sortTree tags values)
+  sort-of-cells = sort-is tags values n (c .whole) (c .formed)
+
+  pub term-of-cells : (t : ℕ) → t < n → isTermTag (getD tags t 0) ≡ true
+      → tree tags values t ≡ termFrom (getD tags t 0) (cellsOf values t) (sortTree tags values) (tree tags values)
+  term-of-cells = term-is tags values n (c .whole) (c .formed)
+
+  pub one-sort : (s u : ℕ) → s < n → u < n → isSortTag (getD tags s 0) ≡ true → isSortTag (getD tags u 0) ≡ true
+      → sortTree tags values s ≡ sortTree tags values u → s ≡ u
+  one-sort = sort-one tags values n (c .whole) (c .formed) (c .single)
+
+  pub one-term : (t u : ℕ) → t < n → u < n → isTermTag (getD tags t 0) ≡ true → isTermTag (getD tags u 0) ≡ true
+      → tree tags values t ≡ tree tags values u → t ≡ u
+  one-term = term-one tags values n (c .whole) (c .formed) (c .single)
+
+  pub sort-of-term : (t : ℕ) → t < n → isTermTag (getD tags t 0) ≡ true → stated (tree tags values t) ≡ sortTree tags values (sortOf values t)
+  sort-of-term = stated-is tags values n (c .whole) (c .formed)
+
+  pub free-of-tree : (v : ℕ) → v < n → getD tags v 0 ≡ 21 → (t : ℕ) → t < n → isTermTag (getD tags t 0) ≡ true
+      → isFree tags values v t ≡ free (tree tags values t) (varAt tags values v)
+  free-of-tree = free-is tags values n (c .whole) (c .formed) (c .single)
