@@ -6,7 +6,6 @@ pub mod description;
 pub mod free_vars;
 mod list_sorts;
 mod plain_sorts;
-mod list_sorts;
 pub mod run;
 pub mod table;
 pub mod well_formed;
