@@ -1,19 +1,20 @@
 -- What a pool that passes the pool check is, and the theorems on its trees.
 -- Assumes nothing.
-use Prim.Native.Nat.{ℕ, _≤_, _<_}
+use Prim.Native.Nat.{ℕ, suc, _≤_, _<_}
 use mathlib.Core.Path.{_≡_, refl, ap}
-use mathlib.Core.Bool.{Bool, true, false, not, _||_, cond}
+use mathlib.Core.Bool.{Bool, true, false, _&&_, cond}
 use mathlib.Core.List.{List}
 use lib.ListN.{length, getD}
-use lib.Dec.{eqb, ltb}
+use lib.Dec.{eqb, leb}
 use native.Mathlib.Omega.{arith}
-use borrow.Author.Tests.{eqb-true, eqb-false, ltb-false, not-true, not-false}
+use borrow.Author.Tests.{eqb-true, eqb-false, leb-true}
+use Rattle.pool.specs.ByPlace.{by-test}
 use Rattle.pool.specs.Answer.{accepted, illFormed, repeated, wrongSort, notATerm, badArrays}
 use Rattle.pool.specs.Cell.{cellsOf, sortOf}
 use Rattle.pool.specs.WellFormed.{firstBad, isSortTag, isTermTag, isTerm}
 use Rattle.pool.specs.Description.{firstRepeat}
 use Rattle.pool.specs.SortRule.{firstWrongSort}
-use Rattle.pool.specs.Check.{arraysFit, refuseAt, checkCells, checkPool, checkTerm}
+use Rattle.pool.specs.Check.{arraysFit, refuseAt, checkCells, checkPool, andThen, checkTerm}
 use Rattle.pool.specs.Free.{isFree}
 use Rattle.pool.specs.Term.{stated}
 use Rattle.pool.specs.FreeTree.{free, varAt}
@@ -42,9 +43,9 @@ pub record Passed (tags values rules : List ℕ) (n : ℕ) : Type 0 where
 refused : {A : Type 0} (a : Answer) → (a .code ≡ 0 → ⊥) → a ≡ accepted 0 0 → A
 refused a h e = absurd (h (ap (λ (x : Answer). x .code) e))
 
-neither : (a b : Bool) → (a || b) ≡ false → (a ≡ false) × (b ≡ false)
-neither true b e = let y : _≡_ {A = ℕ} 0 1 = cc in absurd (omega arith)
-neither false b e = (refl, e)
+both : (a b : Bool) → a && b ≡ true → (a ≡ true) × (b ≡ true)
+both true b e = (refl, e)
+both false b e = let y : _≡_ {A = ℕ} 0 1 = cc in absurd (omega arith)
 
 passes : (refusal : ℕ → Answer) → ((p : ℕ) → refusal p .code ≡ 0 → ⊥) → (w : Found) (next : Answer) → refuseAt refusal w next ≡ accepted 0 0 → (w ≡ Nothing) × (next ≡ accepted 0 0)
 passes refusal h (At p) next e = refused (refusal p) (h p) e
@@ -62,22 +63,22 @@ module _ (tags values rules : List ℕ) (n : ℕ) where
   arrays-fit : arraysFit tags values n ≡ true → (length tags ≡ length values) × (n ≤ length tags) × (n ≤ 8192)
   unfolding arraysFit
   arrays-fit e =
-      let (a, f) = neither (not (eqb (length tags) (length values))) _ (not-true _ e) in
-      let (b, c) = neither (ltb (length tags) n) _ f in
-      (eqb-true _ _ (not-false _ a), ltb-false _ _ b, ltb-false _ _ c)
+      let (a, f) = both (eqb (length tags) (length values)) _ e in
+      let (b, c) = both (leb n (length tags)) _ f in
+      (eqb-true _ _ a, leb-true _ _ b, leb-true _ _ c)
 
-  cells-pass : (next : Answer) → arraysFit tags values n ≡ true → checkCells tags values rules n next ≡ accepted 0 0 → Passed tags values rules n × (next ≡ accepted 0 0)
+  cells-pass : arraysFit tags values n ≡ true → checkCells tags values rules n ≡ accepted 0 0 → Passed tags values rules n
   unfolding checkCells
-  cells-pass next fit e =
+  cells-pass fit e =
       let (equal, whole, limit) = arrays-fit fit in
       let (some, e₁) = fails (eqb n 0) (illFormed 0) from14 (λ z. omega arith) e in
       let (formed, e₂) = passes illFormed (λ p z. omega arith) (firstBad tags values n) from15 e₁ in
       let (single, e₃) = passes repeated (λ p z. omega arith) (firstRepeat tags values n) from16 e₂ in
-      let (sorted, e₄) = passes wrongSort (λ p z. omega arith) (firstWrongSort tags values rules n) next e₃ in
-      (record { equal = equal; whole = omega arith; limit = limit; some = eqb-false n 0 some; formed = formed; single = single; sorted = sorted }, e₄)
+      let (sorted, e₄) = passes wrongSort (λ p z. omega arith) (firstWrongSort tags values rules n) (accepted 0 0) e₃ in
+      record { equal = equal; whole = omega arith; limit = limit; some = eqb-false n 0 some; formed = formed; single = single; sorted = sorted }
     where
       from16 : Answer
-      from16 = refuseAt wrongSort (firstWrongSort tags values rules n) next
+      from16 = refuseAt wrongSort (firstWrongSort tags values rules n) (accepted 0 0)
 
       from15 : Answer
       from15 = refuseAt repeated (firstRepeat tags values n) from16
@@ -89,14 +90,37 @@ module _ (tags values rules : List ℕ) (n : ℕ) where
   unfolding checkPool
   pool-passes e =
       let (fit, cells) = holds (arraysFit tags values n) _ badArrays (λ z. omega arith) e in
-      cells-pass (accepted 0 0) fit cells .0
+      cells-pass fit cells
+
+  -- an acceptance carries no number
+  pub pool-accepts : checkPool tags values rules n .code ≡ 0 → checkPool tags values rules n ≡ accepted 0 0
+  unfolding checkPool checkCells
+  pool-accepts e =
+      by-test (arraysFit tags values n)
+      (λ a. by-test (eqb n 0) (λ b. absurd (other 13 (rw (a, b) at e)))
+      (λ b. rw (a, b)
+      (after illFormed (λ p z. omega arith) (firstBad tags values n) _
+      (λ e₁. after repeated (λ p z. omega arith) (firstRepeat tags values n) _
+      (λ e₂. after wrongSort (λ p z. omega arith) (firstWrongSort tags values rules n) _ (λ e₃. refl) e₂) e₁)
+      (rw (a, b) at e))))
+      (λ a. absurd (other 29 (rw a at e)))
+    where
+      other : (k : ℕ) → suc k ≡ 0 → ⊥
+      other k z = omega arith
+
+      after : (refusal : ℕ → Answer) → ((p : ℕ) → refusal p .code ≡ 0 → ⊥) → (w : Found) (next : Answer) → (next .code ≡ 0 → next ≡ accepted 0 0) → refuseAt refusal w next .code ≡ 0 → refuseAt refusal w next ≡ accepted 0 0
+      after refusal h (At p) next f e = absurd (h p e)
+      after refusal h Nothing next f e = f e
 
   pub term-passes : (t : ℕ) → checkTerm tags values rules n t ≡ accepted 0 0 → Passed tags values rules n × (isTerm tags n t ≡ true)
-  unfolding checkTerm
+  unfolding checkTerm andThen
   term-passes t e =
-      let (fit, cells) = holds (arraysFit tags values n) _ badArrays (λ z. omega arith) e in
-      let (p, last) = cells-pass (cond (isTerm tags n t) (accepted 0 0) (notATerm t)) fit cells in
-      (p, holds (isTerm tags n t) (accepted 0 0) (notATerm t) (λ z. omega arith) last .0)
+      by-test (eqb (checkPool tags values rules n .code) 0)
+      (λ a. (
+        pool-passes (pool-accepts (eqb-true _ 0 a)),
+        holds (isTerm tags n t) (accepted 0 0) (notATerm t) (λ z. omega arith) (rw a at e) .0,
+      ))
+      (λ a. refused (checkPool tags values rules n) (eqb-false _ 0 a) (rw a at e))
 
 -- ---- the trees of a pool that passes
 module _ {tags values rules : List ℕ} {n : ℕ} (c : Passed tags values rules n) where
