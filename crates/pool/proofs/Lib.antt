@@ -1,4 +1,1 @@
-pub mod Cells
-pub mod Bounds
-pub mod Walks
 pub mod tree

@@ -8,14 +8,14 @@ use mathlib.Core.List.{List}
 use lib.ListN.{length, getD}
 use lib.Dec.{leb, eqb}
 use Rattle.pool.specs.Answer.{accepted, illFormed, repeated, wrongSort, notATerm, badArrays}
-use Rattle.pool.specs.Cell.{sortOf}
-use Rattle.pool.specs.WellFormed.{firstBad, isTerm}
-use Rattle.pool.specs.Description.{firstRepeat}
-use Rattle.pool.specs.SortRule.{firstWrongSort}
-use Rattle.pool.specs.Free.{markOf}
+use Rattle.cells.specs.Cell.{sortOf}
+use Rattle.headers.specs.WellFormed.{firstBad, isTerm}
+use Rattle.headers.specs.Description.{firstRepeat}
+use Rattle.sorts.specs.SortRule.{firstWrongSort}
+use Rattle.free_vars.specs.Free.{markOf}
 use Rattle.pool.specs.declared.Answer.{Answer}
-use Rattle.pool.specs.declared.Found.{Found}
-use Rattle.pool.specs.declared.Found.the-variants.{At, Nothing}
+use Rattle.cells.specs.declared.Found.{Found}
+use Rattle.cells.specs.declared.Found.the-variants.{At, Nothing}
 
 -- "30 arrays unequal, N past them or over 8,192"
 unfoldable pub arraysFit : List ℕ → List ℕ → ℕ → Bool

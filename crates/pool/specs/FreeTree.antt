@@ -6,7 +6,7 @@ use Prim.Native.Nat.{ℕ, _+_}
 use mathlib.Core.Bool.{Bool, true, false, not, _&&_, _||_}
 use mathlib.Core.List.{List, [], _∷_}
 use lib.ListN.{getD}
-use Rattle.pool.specs.Cell.{sortOf}
+use Rattle.cells.specs.Cell.{sortOf}
 use Rattle.pool.specs.Term.{Var, Vars, Var-discrete, Term, Terms, Lets, stated, const, bitVector, var, app, quant, bind, letin, op, noTerm, tnil, tcons, lnil, lcons}
 use Rattle.pool.specs.Tree.{sortTree}
 

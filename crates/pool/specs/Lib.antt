@@ -1,14 +1,4 @@
-pub mod Cell
-pub mod Bounded
-pub mod Headers
-pub mod ByPlace
 pub mod Answer
-pub mod WellFormed
-pub mod Description
-pub mod Free
-pub mod FreeMemo
-pub mod Table
-pub mod SortRule
 pub mod Check
 pub mod Sort
 pub mod Term

@@ -9,8 +9,8 @@ use mathlib.Core.Bool.{true, false, cond}
 use mathlib.Core.List.{List, [], _∷_}
 use lib.ListN.{getD, drop}
 use lib.Dec.{ltb, eqb}
-use Rattle.pool.specs.Cell.{cellsOf}
-use Rattle.pool.specs.ByPlace.{byPlace}
+use Rattle.cells.specs.Cell.{cellsOf}
+use Rattle.cells.specs.ByPlace.{byPlace}
 use Rattle.pool.specs.Sort.{Sort, Sorts, bool, int, real, string, reglan, paramBitVec, bitVec, sortVar, atom, function, array, set, tuple, noSort, snil, scons}
 use Rattle.pool.specs.Term.{Vars, Term, Terms, Lets, const, bitVector, var, app, quant, bind, letin, op, noTerm, tnil, tcons, lnil, lcons}
 

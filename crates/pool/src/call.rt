@@ -1,18 +1,18 @@
 // The public calls on a pool: the pool check, the sort of a term, the free variables of a term.
 use crate::Answer;
-use crate::Found;
-use crate::TermPlace;
-use crate::compute_sort::first_wrong_sort;
-use crate::description::first_repeat;
-use crate::free_vars::clear_marks;
-use crate::free_vars::mark_free_vars;
-use crate::run::sort_of;
-use crate::table::built_in;
-use crate::well_formed::first_bad;
-use crate::well_formed::is_term;
+use cells::Found;
+use cells::TermPlace;
+use cells::run::sort_of;
+use free_vars::clear_marks;
+use free_vars::mark_free_vars;
+use headers::description::first_repeat;
+use headers::well_formed::first_bad;
+use headers::well_formed::is_term;
+use sorts::compute_sort::first_wrong_sort;
+use sorts::table::built_in;
 ghost use mathlib.Core.Path.{_≡_};
 ghost use Prim.Native.Nat.{_≤_};
-ghost use Rattle.pool.specs.Table.{builtIn};
+ghost use Rattle.sorts.specs.Table.{builtIn};
 ghost use Rattle.pool.specs.Check.{arraysFit, checkCells, checkPool, checkTerm, sortAnswer, FreeVars};
 
 // Check 30 on the pool's arrays.

@@ -10,18 +10,18 @@ use native.Mathlib.Omega.{arith}
 use mir.Val.{Fits}
 use mir.Syntax.{w32}
 use borrow.Author.Tests.{le-leb, lt-leb, eq-eqb, ne-eqb, leb-true, not-true, not-false}
-use Rattle.pool.specs.ByPlace.{by-test}
+use Rattle.cells.specs.ByPlace.{by-test}
 use Rattle.pool.specs.Answer.{accepted, illFormed, repeated, wrongSort, notATerm, badArrays}
-use Rattle.pool.specs.Cell.{sortOf}
-use Rattle.pool.specs.WellFormed.{firstBad, isTerm}
-use Rattle.pool.specs.Description.{firstRepeat}
-use Rattle.pool.specs.SortRule.{firstWrongSort}
-use Rattle.pool.specs.Free.{Marked}
+use Rattle.cells.specs.Cell.{sortOf}
+use Rattle.headers.specs.WellFormed.{firstBad, isTerm}
+use Rattle.headers.specs.Description.{firstRepeat}
+use Rattle.sorts.specs.SortRule.{firstWrongSort}
+use Rattle.free_vars.specs.Free.{Marked}
 use Rattle.pool.specs.Check.{arraysFit, checkCells, checkPool, andThen, checkTerm, sortAnswer, freeAnswer, markLeft, FreeVars}
 use Rattle.pool.specs.declared.Answer.{Answer}
-use Rattle.pool.specs.declared.Found.{Found}
-use Rattle.pool.specs.declared.Found.the-variants.{At, Nothing}
-use Rattle.pool.proofs.Walks.{first-below}
+use Rattle.cells.specs.declared.Found.{Found}
+use Rattle.cells.specs.declared.Found.the-variants.{At, Nothing}
+use Rattle.cells.proofs.Walks.{first-below}
 
 -- ---- 30
 module _ (tags values : List ℕ) (n : ℕ) where

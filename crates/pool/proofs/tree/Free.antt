@@ -9,18 +9,18 @@ use lib.ListN.{length, getD, drop}
 use lib.Dec.{ltb, eqb}
 use native.Mathlib.Omega.{arith}
 use borrow.Author.Tests.{eqb-true, eqb-false, leb-true, eq-eqb, ne-eqb, lt-ltb, le-ltb}
-use Rattle.pool.specs.Cell.{cellsOf, sortOf, operandsOf}
-use Rattle.pool.specs.ByPlace.{by-test, byPlace-is}
-use Rattle.pool.specs.WellFormed.{shapeOf, countFits, kindAt, pairKind, valueFits, isSortTag, isTermTag, firstBad}
-use Rattle.pool.specs.Description.{firstRepeat}
-use Rattle.pool.specs.Free.{pairIn, boundBy, letBinds, anyOf, underPairs, freeStep, isFree}
+use Rattle.cells.specs.Cell.{cellsOf, sortOf, operandsOf}
+use Rattle.cells.specs.ByPlace.{by-test, byPlace-is}
+use Rattle.headers.specs.WellFormed.{shapeOf, countFits, kindAt, pairKind, valueFits, isSortTag, isTermTag, firstBad}
+use Rattle.headers.specs.Description.{firstRepeat}
+use Rattle.free_vars.specs.Free.{pairIn, boundBy, letBinds, anyOf, underPairs, freeStep, isFree}
 use Rattle.pool.specs.Term.{Var, Var-discrete, var}
 use Rattle.pool.specs.Tree.{sortTree, varsOf, termsOf, letsOf, termFrom, tree}
 use Rattle.pool.specs.FreeTree.{isYes, same, has, letVars, free, frees, varAt}
-use Rattle.pool.specs.declared.Found.the-variants.{Nothing}
-use Rattle.pool.specs.declared.well_formed.Shape.{Shape}
-use Rattle.pool.specs.declared.well_formed.Shape.the-variants.{Application, Binder, Let, Operator}
-use Rattle.pool.specs.declared.well_formed.CellKind.the-variants.{OfSort, OfTerm}
+use Rattle.cells.specs.declared.Found.the-variants.{Nothing}
+use Rattle.headers.specs.declared.well_formed.Shape.{Shape}
+use Rattle.headers.specs.declared.well_formed.Shape.the-variants.{Application, Binder, Let, Operator}
+use Rattle.headers.specs.declared.well_formed.CellKind.the-variants.{OfSort, OfTerm}
 use Rattle.pool.proofs.tree.Header.{both, Each, Described, sort-cell, term-cell, term-tagged}
 use Rattle.pool.proofs.tree.Walk.{place-described}
 use Rattle.pool.proofs.tree.Tags.{shape-op, by-term-tag}

@@ -9,11 +9,11 @@ use lib.Seq.{drop-cons, length-take-le}
 use lib.Dec.{ltb, leb, eqb}
 use native.Mathlib.Omega.{arith}
 use borrow.Author.Tests.{ltb-true, leb-true, eqb-true}
-use Rattle.pool.specs.Bounded.{everyIn, every}
-use Rattle.pool.specs.Cell.{cellsOf}
-use Rattle.pool.specs.WellFormed.{shapeOf, countFits, kindAt, isSortTag, isTermTag, valueFits, cellFits, boolFirst, headerFits}
-use Rattle.pool.specs.declared.well_formed.Shape.{Shape}
-use Rattle.pool.specs.declared.well_formed.CellKind.the-variants.{OfSort, OfTerm}
+use Rattle.cells.specs.Bounded.{everyIn, every}
+use Rattle.cells.specs.Cell.{cellsOf}
+use Rattle.headers.specs.WellFormed.{shapeOf, countFits, kindAt, isSortTag, isTermTag, valueFits, cellFits, boolFirst, headerFits}
+use Rattle.headers.specs.declared.well_formed.Shape.{Shape}
+use Rattle.headers.specs.declared.well_formed.CellKind.the-variants.{OfSort, OfTerm}
 
 pub both : (a b : Bool) → (a && b) ≡ true → (a ≡ true) × (b ≡ true)
 both true b e = (refl, e)

@@ -9,11 +9,11 @@ use lib.ListN.{length, getD}
 use lib.Dec.{eqb}
 use native.Mathlib.Omega.{arith}
 use borrow.Author.Tests.{ne-eqb}
-use Rattle.pool.specs.Cell.{cellsOf}
-use Rattle.pool.specs.WellFormed.{shapeOf, kindAt, pairKind, isSortTag, isTermTag, valueFits}
-use Rattle.pool.specs.declared.well_formed.Shape.{Shape}
-use Rattle.pool.specs.declared.well_formed.CellKind.{CellKind}
-use Rattle.pool.specs.declared.well_formed.CellKind.the-variants.{Number, OfSort, OfTerm}
+use Rattle.cells.specs.Cell.{cellsOf}
+use Rattle.headers.specs.WellFormed.{shapeOf, kindAt, pairKind, isSortTag, isTermTag, valueFits}
+use Rattle.headers.specs.declared.well_formed.Shape.{Shape}
+use Rattle.headers.specs.declared.well_formed.CellKind.{CellKind}
+use Rattle.headers.specs.declared.well_formed.CellKind.the-variants.{Number, OfSort, OfTerm}
 use Rattle.pool.proofs.tree.Header.{Each, Described, sort-cell, term-cell}
 
 pub data Part (S T : Type 0) : Type 0 where

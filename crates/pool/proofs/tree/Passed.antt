@@ -8,20 +8,20 @@ use lib.ListN.{length, getD}
 use lib.Dec.{eqb, leb}
 use native.Mathlib.Omega.{arith}
 use borrow.Author.Tests.{eqb-true, eqb-false, leb-true}
-use Rattle.pool.specs.ByPlace.{by-test}
+use Rattle.cells.specs.ByPlace.{by-test}
 use Rattle.pool.specs.Answer.{accepted, illFormed, repeated, wrongSort, notATerm, badArrays}
-use Rattle.pool.specs.Cell.{cellsOf, sortOf}
-use Rattle.pool.specs.WellFormed.{firstBad, isSortTag, isTermTag, isTerm}
-use Rattle.pool.specs.Description.{firstRepeat}
-use Rattle.pool.specs.SortRule.{firstWrongSort}
+use Rattle.cells.specs.Cell.{cellsOf, sortOf}
+use Rattle.headers.specs.WellFormed.{firstBad, isSortTag, isTermTag, isTerm}
+use Rattle.headers.specs.Description.{firstRepeat}
+use Rattle.sorts.specs.SortRule.{firstWrongSort}
 use Rattle.pool.specs.Check.{arraysFit, refuseAt, checkCells, checkPool, andThen, checkTerm}
-use Rattle.pool.specs.Free.{isFree}
+use Rattle.free_vars.specs.Free.{isFree}
 use Rattle.pool.specs.Term.{stated}
 use Rattle.pool.specs.FreeTree.{free, varAt}
 use Rattle.pool.specs.Tree.{sortFrom, sortTree, termFrom, tree}
 use Rattle.pool.specs.declared.Answer.{Answer}
-use Rattle.pool.specs.declared.Found.{Found}
-use Rattle.pool.specs.declared.Found.the-variants.{At, Nothing}
+use Rattle.cells.specs.declared.Found.{Found}
+use Rattle.cells.specs.declared.Found.the-variants.{At, Nothing}
 use Rattle.pool.proofs.tree.Header.{Header, header}
 use Rattle.pool.proofs.tree.Walk.{place-fits}
 use Rattle.pool.proofs.tree.Sorts.{sort-is, sort-one}

@@ -11,16 +11,16 @@ use lib.ListN.{length, getD}
 use lib.Dec.{ltb}
 use native.Mathlib.Omega.{arith}
 use borrow.Author.Tests.{eqb-true, leb-true, lt-ltb}
-use Rattle.pool.specs.Cell.{cellsOf}
-use Rattle.pool.specs.ByPlace.{byPlace-is}
-use Rattle.pool.specs.WellFormed.{shapeOf, countFits, kindAt, valueFits, isSortTag, firstBad}
-use Rattle.pool.specs.Description.{firstRepeat}
+use Rattle.cells.specs.Cell.{cellsOf}
+use Rattle.cells.specs.ByPlace.{byPlace-is}
+use Rattle.headers.specs.WellFormed.{shapeOf, countFits, kindAt, valueFits, isSortTag, firstBad}
+use Rattle.headers.specs.Description.{firstRepeat}
 use Rattle.pool.specs.Sort.{Sort, Sorts, bool, int, real, string, reglan, paramBitVec, bitVec, sortVar, atom, function, array, set, tuple, noSort, snil, scons}
 use Rattle.pool.specs.Tree.{sortsOf, sortFrom, sortStep, sortTree}
-use Rattle.pool.specs.declared.Found.the-variants.{Nothing}
-use Rattle.pool.specs.declared.well_formed.Shape.{Shape}
-use Rattle.pool.specs.declared.well_formed.Shape.the-variants.{Named, Sorts as SortList}
-use Rattle.pool.specs.declared.well_formed.CellKind.the-variants.{OfSort}
+use Rattle.cells.specs.declared.Found.the-variants.{Nothing}
+use Rattle.headers.specs.declared.well_formed.Shape.{Shape}
+use Rattle.headers.specs.declared.well_formed.Shape.the-variants.{Named, Sorts as SortList}
+use Rattle.headers.specs.declared.well_formed.CellKind.the-variants.{OfSort}
 use Rattle.pool.proofs.tree.Header.{Each, Described, sort-cell, sort-tagged}
 use Rattle.pool.proofs.tree.Walk.{place-described, one-place}
 use Rattle.pool.proofs.tree.Tags.{by-sort-tag}

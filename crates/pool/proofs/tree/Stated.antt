@@ -8,14 +8,14 @@ use lib.ListN.{length, getD}
 use lib.Seq.{getD-take, getD-drop}
 use native.Mathlib.Omega.{arith}
 use borrow.Author.Tests.{eqb-true, leb-true}
-use Rattle.pool.specs.Cell.{cellsOf, sortOf}
-use Rattle.pool.specs.WellFormed.{shapeOf, countFits, kindAt, pairKind, isSortTag, isTermTag, firstBad}
+use Rattle.cells.specs.Cell.{cellsOf, sortOf}
+use Rattle.headers.specs.WellFormed.{shapeOf, countFits, kindAt, pairKind, isSortTag, isTermTag, firstBad}
 use Rattle.pool.specs.Sort.{Sort}
 use Rattle.pool.specs.Term.{Term, stated, var}
 use Rattle.pool.specs.Tree.{sortTree, termFrom, tree}
 use Rattle.pool.specs.FreeTree.{varAt}
-use Rattle.pool.specs.declared.Found.the-variants.{Nothing}
-use Rattle.pool.specs.declared.well_formed.CellKind.the-variants.{OfSort}
+use Rattle.cells.specs.declared.Found.the-variants.{Nothing}
+use Rattle.headers.specs.declared.well_formed.CellKind.the-variants.{OfSort}
 use Rattle.pool.proofs.tree.Header.{Header, header, sort-cell, term-tagged}
 use Rattle.pool.proofs.tree.Walk.{place-fits}
 use Rattle.pool.proofs.tree.Tags.{shape-op, by-term-tag}

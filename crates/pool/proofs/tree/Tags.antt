@@ -6,9 +6,9 @@ use mathlib.Core.Bool.{true, false, cond}
 use lib.Dec.{ltb, leb, eqb}
 use native.Mathlib.Omega.{arith}
 use borrow.Author.Tests.{ltb-true, leb-true, ltb-false, eqb-true, eqb-false, le-ltb, lt-ltb}
-use Rattle.pool.specs.ByPlace.{by-test}
-use Rattle.pool.specs.WellFormed.{shapeOf, countFits, isSortTag, isTermTag}
-use Rattle.pool.specs.declared.well_formed.Shape.the-variants.{Unknown, Operator}
+use Rattle.cells.specs.ByPlace.{by-test}
+use Rattle.headers.specs.WellFormed.{shapeOf, countFits, isSortTag, isTermTag}
+use Rattle.headers.specs.declared.well_formed.Shape.the-variants.{Unknown, Operator}
 use Rattle.pool.proofs.tree.Header.{both}
 
 -- ---- the shapes of the tags after the let's

@@ -11,17 +11,17 @@ use lib.ListN.{length, getD, drop}
 use lib.Dec.{ltb, leb, eqb}
 use native.Mathlib.Omega.{arith}
 use borrow.Author.Tests.{eqb-true, leb-true, lt-ltb, le-ltb, ne-eqb}
-use Rattle.pool.specs.Cell.{cellsOf}
-use Rattle.pool.specs.ByPlace.{byPlace-is}
-use Rattle.pool.specs.WellFormed.{shapeOf, countFits, kindAt, pairKind, valueFits, isTermTag, firstBad}
-use Rattle.pool.specs.Description.{firstRepeat}
+use Rattle.cells.specs.Cell.{cellsOf}
+use Rattle.cells.specs.ByPlace.{byPlace-is}
+use Rattle.headers.specs.WellFormed.{shapeOf, countFits, kindAt, pairKind, valueFits, isTermTag, firstBad}
+use Rattle.headers.specs.Description.{firstRepeat}
 use Rattle.pool.specs.Sort.{Sort}
 use Rattle.pool.specs.Term.{Vars, Term, Terms, Lets, const, bitVector, var, app, quant, bind, letin, op, noTerm, tnil, tcons, lnil, lcons}
 use Rattle.pool.specs.Tree.{sortTree, varsOf, termsOf, letsOf, termFrom, termStep, tree}
-use Rattle.pool.specs.declared.Found.the-variants.{Nothing}
-use Rattle.pool.specs.declared.well_formed.Shape.{Shape}
-use Rattle.pool.specs.declared.well_formed.Shape.the-variants.{Application, Binder, Let, Operator}
-use Rattle.pool.specs.declared.well_formed.CellKind.the-variants.{OfSort, OfTerm}
+use Rattle.cells.specs.declared.Found.the-variants.{Nothing}
+use Rattle.headers.specs.declared.well_formed.Shape.{Shape}
+use Rattle.headers.specs.declared.well_formed.Shape.the-variants.{Application, Binder, Let, Operator}
+use Rattle.headers.specs.declared.well_formed.CellKind.the-variants.{OfSort, OfTerm}
 use Rattle.pool.proofs.tree.Header.{both, Each, Described, term-cell, term-tagged}
 use Rattle.pool.proofs.tree.Walk.{place-described, one-place}
 use Rattle.pool.proofs.tree.Tags.{shape-op, by-term-tag}

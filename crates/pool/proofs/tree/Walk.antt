@@ -12,15 +12,15 @@ use lib.ListN.{length, getD}
 use lib.Dec.{leb, eqb, ltb}
 use native.Mathlib.Omega.{arith}
 use borrow.Author.Tests.{leb-true, leb-false, eqb-true, eqb-false, ltb-true, ltb-false, eq-eqb, not-false}
-use Rattle.pool.specs.ByPlace.{by-test}
-use Rattle.pool.specs.Headers.{firstFrom, firstHeader}
-use Rattle.pool.specs.Cell.{cellsOf, isAt}
-use Rattle.pool.specs.WellFormed.{headerFits, firstBad}
-use Rattle.pool.specs.Description.{find, isFound, repeats, firstRepeat}
-use Rattle.pool.specs.declared.Found.{Found}
-use Rattle.pool.specs.declared.Found.the-variants.{At, Nothing}
-use Rattle.pool.proofs.Walks.{first-here, first-next}
-use Rattle.pool.proofs.Cells.{same-refl}
+use Rattle.cells.specs.ByPlace.{by-test}
+use Rattle.cells.specs.Headers.{firstFrom, firstHeader}
+use Rattle.cells.specs.Cell.{cellsOf, isAt}
+use Rattle.headers.specs.WellFormed.{headerFits, firstBad}
+use Rattle.headers.specs.Description.{find, isFound, repeats, firstRepeat}
+use Rattle.cells.specs.declared.Found.{Found}
+use Rattle.cells.specs.declared.Found.the-variants.{At, Nothing}
+use Rattle.cells.proofs.Walks.{first-here, first-next}
+use Rattle.cells.proofs.Cells.{same-refl}
 use Rattle.pool.proofs.tree.Header.{Header, header, Described, described}
 
 -- a walk that finds nothing goes past each header

@@ -1,0 +1,4 @@
+pub mod Cell
+pub mod Bounded
+pub mod Headers
+pub mod ByPlace

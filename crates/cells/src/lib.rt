@@ -1,0 +1,14 @@
+// Cells of a shared term pool in document 01's packed form: two u32 arrays of one length, tag and value.
+pub mod run;
+
+// The place of a term: its header's index.
+pub struct TermPlace(pub u32);
+
+// The place of a sort: its header's index.
+pub struct SortPlace(pub u32);
+
+// What a walk over headers finds.
+pub enum Found {
+    At(usize),
+    Nothing,
+}

@@ -1,0 +1,221 @@
+use borrow.Author.Needs.{needs}
+use native.Mathlib.Omega.{arith}
+use lib.ListN.{length}
+use Rattle.free_vars.proofs.Laws.{walks, step-below}
+use Prim.Native.Nat.{ℕ, _<_, _*_, _+_, _^_}
+use borrow.Fn.Kinds.{In}
+use borrow.Fn.PlainCycle.{Measures, is, falls, and}
+use Rattle.free_vars.proofs.compute_free_vars.Reads as compute-free-vars
+use Rattle.free_vars.proofs.compute_free_vars.Kinds as compute-free-vars-kinds
+use Rattle.free_vars.proofs.+compute_free_vars+run_free_vars.Lts-compute_free_vars as compute-free-vars-lts
+use Rattle.free_vars.proofs.run_free_vars.Reads as run-free-vars
+use Rattle.free_vars.proofs.run_free_vars.Kinds as run-free-vars-kinds
+use Rattle.free_vars.proofs.+compute_free_vars+run_free_vars.Lts-run_free_vars as run-free-vars-lts
+use Rattle.free_vars.proofs.look.Reads as look-reads
+use Rattle.free_vars.proofs.note.Reads as note-reads
+use Rattle.cells.proofs.run.operands.Reads as operands-reads
+use Rattle.free_vars.proofs.+compute_free_vars+run_free_vars.{statement}
+use Rattle.free_vars.proofs.+compute_free_vars+run_free_vars.Tie.{close}
+
+-- The measures: the place, and at one place the rest of the run, below the term walker.
+abbrev μ-compute-free-vars : Measures 3 compute-free-vars-kinds.ps ℕ
+μ-compute-free-vars κs a = a .1 .1 .1 .1 .0 .0 * 2 ^ 65 + 2 ^ 64
+
+abbrev μ-run-free-vars : Measures 4 run-free-vars-kinds.ps ℕ
+μ-run-free-vars κs a = a .1 .1 .1 .1 .0 .0 * 2 ^ 65 + length (a .1 .1 .1 .1 .1 .0 .now)
+
+abbrev compute-free-vars-at : ℕ → In 3 compute-free-vars-kinds.ps
+compute-free-vars-at t =
+    and
+    3
+    compute-free-vars-kinds.ps
+    (is 3 compute-free-vars-kinds.ps μ-compute-free-vars t)
+    compute-free-vars.Pre
+
+abbrev compute-free-vars-below : ℕ → In 3 compute-free-vars-kinds.ps
+compute-free-vars-below t =
+    and
+    3
+    compute-free-vars-kinds.ps
+    (falls 3 compute-free-vars-kinds.ps _<_ μ-compute-free-vars t)
+    compute-free-vars.Pre
+
+abbrev run-free-vars-at : ℕ → In 4 run-free-vars-kinds.ps
+run-free-vars-at t =
+    and 4 run-free-vars-kinds.ps (is 4 run-free-vars-kinds.ps μ-run-free-vars t) run-free-vars.Pre
+
+abbrev run-free-vars-below : ℕ → In 4 run-free-vars-kinds.ps
+run-free-vars-below t =
+    and
+    4
+    run-free-vars-kinds.ps
+    (falls 4 run-free-vars-kinds.ps _<_ μ-run-free-vars t)
+    run-free-vars.Pre
+
+-- what the calls in `run-free-vars` ask and tell, below the measure t
+abbrev run-free-vars-calls : ℕ → run-free-vars-lts.Claims
+run-free-vars-calls t = (run-free-vars-below t, run-free-vars.Post, compute-free-vars-below t, compute-free-vars.Post)
+
+-- what the calls in `compute-free-vars` ask and tell, below the measure t
+abbrev compute-free-vars-calls : ℕ → compute-free-vars-lts.Claims
+compute-free-vars-calls t = (look-reads.Asked, look-reads.Learnt, note-reads.Asked, note-reads.Learnt, compute-free-vars-below t, compute-free-vars.Post, operands-reads.Asked, operands-reads.Learnt, run-free-vars-below t, run-free-vars.Post)
+
+compute-free-vars-look-requires : (t : ℕ) → compute-free-vars-lts.Need-look-requires (compute-free-vars-calls t) (compute-free-vars-at t) compute-free-vars.Post
+compute-free-vars-look-requires t c κs = search needs
+
+compute-free-vars-enum-told : (t : ℕ) → compute-free-vars-lts.Need-enum-told (compute-free-vars-calls t) (compute-free-vars-at t) compute-free-vars.Post
+compute-free-vars-enum-told t c = search needs
+
+compute-free-vars-enum-told-2 : (t : ℕ) → compute-free-vars-lts.Need-enum-told-2 (compute-free-vars-calls t) (compute-free-vars-at t) compute-free-vars.Post
+compute-free-vars-enum-told-2 t c = search needs
+
+compute-free-vars-note-requires : (t : ℕ) → compute-free-vars-lts.Need-note-requires (compute-free-vars-calls t) (compute-free-vars-at t) compute-free-vars.Post
+compute-free-vars-note-requires t c κs = search needs
+
+compute-free-vars-enum-known-step : (t : ℕ) → compute-free-vars-lts.Need-enum-known-step (compute-free-vars-calls t) (compute-free-vars-at t) compute-free-vars.Post
+compute-free-vars-enum-known-step t c = search needs
+
+compute-free-vars-compute-free-vars-requires :
+    (t : ℕ) → compute-free-vars-lts.Need-compute-free-vars-requires (compute-free-vars-calls t) (compute-free-vars-at t) compute-free-vars.Post
+compute-free-vars-compute-free-vars-requires t c κs =
+    let h = step-below _ _ _ _ _ (c .before .before .before .before .look .ensures) _ (c .before .before .step .given .1) in
+    (omega arith, search needs)
+
+compute-free-vars-note-requires-2 : (t : ℕ) → compute-free-vars-lts.Need-note-requires-2 (compute-free-vars-calls t) (compute-free-vars-at t) compute-free-vars.Post
+compute-free-vars-note-requires-2 t c κs = search needs
+
+compute-free-vars-enum-told-3 : (t : ℕ) → compute-free-vars-lts.Need-enum-told-3 (compute-free-vars-calls t) (compute-free-vars-at t) compute-free-vars.Post
+compute-free-vars-enum-told-3 t c = search needs
+
+compute-free-vars-operands-requires : (t : ℕ) → compute-free-vars-lts.Need-operands-requires (compute-free-vars-calls t) (compute-free-vars-at t) compute-free-vars.Post
+compute-free-vars-operands-requires t c κs = search needs
+
+compute-free-vars-run-free-vars-requires :
+    (t : ℕ) → compute-free-vars-lts.Need-run-free-vars-requires (compute-free-vars-calls t) (compute-free-vars-at t) compute-free-vars.Post
+compute-free-vars-run-free-vars-requires t c κs = search needs
+
+compute-free-vars-note-requires-3 : (t : ℕ) → compute-free-vars-lts.Need-note-requires-3 (compute-free-vars-calls t) (compute-free-vars-at t) compute-free-vars.Post
+compute-free-vars-note-requires-3 t c κs = search needs
+
+compute-free-vars-same-length : (t : ℕ) → compute-free-vars-lts.Need-same-length (compute-free-vars-calls t) (compute-free-vars-at t) compute-free-vars.Post
+compute-free-vars-same-length t c = search needs
+
+compute-free-vars-returns : (t : ℕ) → compute-free-vars-lts.Need-returns (compute-free-vars-calls t) (compute-free-vars-at t) compute-free-vars.Post
+compute-free-vars-returns t c = search walks
+
+compute-free-vars-same-length-2 : (t : ℕ) → compute-free-vars-lts.Need-same-length-2 (compute-free-vars-calls t) (compute-free-vars-at t) compute-free-vars.Post
+compute-free-vars-same-length-2 t c = search needs
+
+compute-free-vars-returns-2 : (t : ℕ) → compute-free-vars-lts.Need-returns-2 (compute-free-vars-calls t) (compute-free-vars-at t) compute-free-vars.Post
+compute-free-vars-returns-2 t c = search walks
+
+compute-free-vars-same-length-3 : (t : ℕ) → compute-free-vars-lts.Need-same-length-3 (compute-free-vars-calls t) (compute-free-vars-at t) compute-free-vars.Post
+compute-free-vars-same-length-3 t c = search needs
+
+compute-free-vars-returns-3 : (t : ℕ) → compute-free-vars-lts.Need-returns-3 (compute-free-vars-calls t) (compute-free-vars-at t) compute-free-vars.Post
+compute-free-vars-returns-3 t c = search walks
+
+compute-free-vars-same-length-4 : (t : ℕ) → compute-free-vars-lts.Need-same-length-4 (compute-free-vars-calls t) (compute-free-vars-at t) compute-free-vars.Post
+compute-free-vars-same-length-4 t c = search needs
+
+compute-free-vars-returns-4 : (t : ℕ) → compute-free-vars-lts.Need-returns-4 (compute-free-vars-calls t) (compute-free-vars-at t) compute-free-vars.Post
+compute-free-vars-returns-4 t c = search walks
+
+run-free-vars-returns : (t : ℕ) → run-free-vars-lts.Need-returns (run-free-vars-calls t) (run-free-vars-at t) run-free-vars.Post
+run-free-vars-returns t c = search walks
+
+run-free-vars-shared-slice-read-u : (t : ℕ) → run-free-vars-lts.Need-shared-slice-read-u (run-free-vars-calls t) (run-free-vars-at t) run-free-vars.Post
+run-free-vars-shared-slice-read-u t c = search needs
+
+run-free-vars-sub-run-free-vars : (t : ℕ) → run-free-vars-lts.Need-sub-run-free-vars (run-free-vars-calls t) (run-free-vars-at t) run-free-vars.Post
+run-free-vars-sub-run-free-vars t c = search needs
+
+run-free-vars-part-run-free-vars-start : (t : ℕ) → run-free-vars-lts.Need-part-run-free-vars-start (run-free-vars-calls t) (run-free-vars-at t) run-free-vars.Post
+run-free-vars-part-run-free-vars-start t c = search needs
+
+run-free-vars-part-run-free-vars-end : (t : ℕ) → run-free-vars-lts.Need-part-run-free-vars-end (run-free-vars-calls t) (run-free-vars-at t) run-free-vars.Post
+run-free-vars-part-run-free-vars-end t c = search needs
+
+run-free-vars-run-free-vars-requires : (t : ℕ) → run-free-vars-lts.Need-run-free-vars-requires (run-free-vars-calls t) (run-free-vars-at t) run-free-vars.Post
+run-free-vars-run-free-vars-requires t c κs = search needs
+
+run-free-vars-same-length : (t : ℕ) → run-free-vars-lts.Need-same-length (run-free-vars-calls t) (run-free-vars-at t) run-free-vars.Post
+run-free-vars-same-length t c = search needs
+
+run-free-vars-returns-2 : (t : ℕ) → run-free-vars-lts.Need-returns-2 (run-free-vars-calls t) (run-free-vars-at t) run-free-vars.Post
+run-free-vars-returns-2 t c = search walks
+
+run-free-vars-compute-free-vars-requires :
+    (t : ℕ) → run-free-vars-lts.Need-compute-free-vars-requires (run-free-vars-calls t) (run-free-vars-at t) run-free-vars.Post
+run-free-vars-compute-free-vars-requires t c κs = search needs
+
+run-free-vars-same-length-2 : (t : ℕ) → run-free-vars-lts.Need-same-length-2 (run-free-vars-calls t) (run-free-vars-at t) run-free-vars.Post
+run-free-vars-same-length-2 t c = search needs
+
+run-free-vars-returns-3 : (t : ℕ) → run-free-vars-lts.Need-returns-3 (run-free-vars-calls t) (run-free-vars-at t) run-free-vars.Post
+run-free-vars-returns-3 t c = search walks
+
+run-free-vars-sub-run-free-vars-2 : (t : ℕ) → run-free-vars-lts.Need-sub-run-free-vars-2 (run-free-vars-calls t) (run-free-vars-at t) run-free-vars.Post
+run-free-vars-sub-run-free-vars-2 t c = search needs
+
+run-free-vars-part-run-free-vars-start-2 :
+    (t : ℕ) → run-free-vars-lts.Need-part-run-free-vars-start-2 (run-free-vars-calls t) (run-free-vars-at t) run-free-vars.Post
+run-free-vars-part-run-free-vars-start-2 t c = search needs
+
+run-free-vars-part-run-free-vars-end-2 : (t : ℕ) → run-free-vars-lts.Need-part-run-free-vars-end-2 (run-free-vars-calls t) (run-free-vars-at t) run-free-vars.Post
+run-free-vars-part-run-free-vars-end-2 t c = search needs
+
+run-free-vars-run-free-vars-requires-2 : (t : ℕ) → run-free-vars-lts.Need-run-free-vars-requires-2 (run-free-vars-calls t) (run-free-vars-at t) run-free-vars.Post
+run-free-vars-run-free-vars-requires-2 t c κs = search needs
+
+run-free-vars-same-length-3 : (t : ℕ) → run-free-vars-lts.Need-same-length-3 (run-free-vars-calls t) (run-free-vars-at t) run-free-vars.Post
+run-free-vars-same-length-3 t c = search needs
+
+run-free-vars-returns-4 : (t : ℕ) → run-free-vars-lts.Need-returns-4 (run-free-vars-calls t) (run-free-vars-at t) run-free-vars.Post
+run-free-vars-returns-4 t c = search walks
+
+pub +compute-free-vars+run-free-vars-spec : {M : Type 1} → statement M
++compute-free-vars+run-free-vars-spec =
+    close μ-compute-free-vars μ-run-free-vars (λ t. compute-free-vars-lts.spec (compute-free-vars-calls t)
+    (compute-free-vars-at t)
+    compute-free-vars.Post
+    (compute-free-vars-look-requires t)
+    (compute-free-vars-enum-told t)
+    (compute-free-vars-enum-told-2 t)
+    (compute-free-vars-note-requires t)
+    (compute-free-vars-enum-known-step t)
+    (compute-free-vars-compute-free-vars-requires t)
+    (compute-free-vars-note-requires-2 t)
+    (compute-free-vars-enum-told-3 t)
+    (compute-free-vars-operands-requires t)
+    (compute-free-vars-run-free-vars-requires t)
+    (compute-free-vars-note-requires-3 t)
+    (compute-free-vars-same-length t)
+    (compute-free-vars-returns t)
+    (compute-free-vars-same-length-2 t)
+    (compute-free-vars-returns-2 t)
+    (compute-free-vars-same-length-3 t)
+    (compute-free-vars-returns-3 t)
+    (compute-free-vars-same-length-4 t)
+    (compute-free-vars-returns-4 t))
+    λ t. run-free-vars-lts.spec
+    (run-free-vars-below t, run-free-vars.Post, compute-free-vars-below t, compute-free-vars.Post)
+    (run-free-vars-at t)
+    run-free-vars.Post
+    (run-free-vars-returns t)
+    (run-free-vars-shared-slice-read-u t)
+    (run-free-vars-sub-run-free-vars t)
+    (run-free-vars-part-run-free-vars-start t)
+    (run-free-vars-part-run-free-vars-end t)
+    (run-free-vars-run-free-vars-requires t)
+    (run-free-vars-same-length t)
+    (run-free-vars-returns-2 t)
+    (run-free-vars-compute-free-vars-requires t)
+    (run-free-vars-same-length-2 t)
+    (run-free-vars-returns-3 t)
+    (run-free-vars-sub-run-free-vars-2 t)
+    (run-free-vars-part-run-free-vars-start-2 t)
+    (run-free-vars-part-run-free-vars-end-2 t)
+    (run-free-vars-run-free-vars-requires-2 t)
+    (run-free-vars-same-length-3 t)
+    (run-free-vars-returns-4 t)

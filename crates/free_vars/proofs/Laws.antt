@@ -1,0 +1,302 @@
+-- Laws of `Free` and `FreeMemo`, one for each way through the code.
+-- Assumes nothing.
+use Prim.Native.Nat.{ℕ, zero, suc, _+_, _-_, _≤_, _<_}
+use mathlib.Core.Path.{_≡_, refl, sym, ap, fun-ext, _∙_}
+use mathlib.Core.Bool.{Bool, true, false, cond, _||_}
+use mathlib.Core.List.{List, [], _∷_}
+use lib.ListN.{length, getD, take, drop, set, replicate, length-set, length-drop, length-replicate, getD-replicate, drop-of-length-le}
+use lib.Seq.{drop-cons, take-all, getD-set-same, getD-set-other, set-out, ext-getD}
+use lib.Dec.{ltb, eqb}
+use native.Mathlib.Omega.{arith}
+use native.Mathlib.Numerals.{add-one, lt-of-le-of-ne}
+use borrow.Author.Tests.{lt-ltb, le-ltb, eq-eqb, ne-eqb, eqb-true, eqb-false, ltb-true, ltb-false}
+use Rattle.cells.specs.Cell.{sortOf, operandsOf}
+use Rattle.cells.specs.ByPlace.{by-test, downTo, byPlace, byPlace-is}
+use Rattle.free_vars.specs.Free.{pairIn, boundBy, letBinds, anyOf, underPairs, freeStep, isFree, markOf, Marked}
+use Rattle.free_vars.specs.FreeMemo.{pairSort, isPair, pairsBind, freeBelow, Means, Right, Answered, Noted}
+use Rattle.cells.specs.declared.TermPlace.{TermPlace}
+use Rattle.free_vars.specs.declared.Step.{Step}
+use Rattle.free_vars.specs.declared.Step.the-variants.{Yes, No, Body, Run}
+
+-- ---- pairs
+module _ (values : List ℕ) (lets : Bool) (name sort a b : ℕ) where
+  pub pair-name : (a ≡ name → ⊥) → false ≡ isPair values lets name sort a b
+  unfolding isPair
+  pair-name n = rw (ne-eqb _ _ n)
+
+  module _ (e : a ≡ name) where
+    pub pair-value : lets ≡ true → (s : ℕ) → s ≡ sortOf values b → eqb s sort ≡ isPair values lets name sort a b
+    unfolding isPair pairSort
+    pair-value l s q = rw (eq-eqb _ _ e, l, ← q)
+
+    pub pair-sort : lets ≡ false → eqb b sort ≡ isPair values lets name sort a b
+    unfolding isPair pairSort
+    pair-sort l = rw (eq-eqb _ _ e, l)
+
+pub ruleset pair = (pair-name, pair-value, pair-sort)
+
+pub bind-start : (values : List ℕ) (lets : Bool) (v : ℕ) (run : List ℕ) (name sort : ℕ) → name ≡ getD values (v + 2) 0 → sort ≡ sortOf values v
+    → pairsBind values lets v run ≡ pairIn (pairSort values lets) name sort (drop 1 run)
+unfolding pairsBind
+bind-start values lets v run name sort a b = rw (a, b)
+
+-- w says whether the pairs from i on hold the name with the sort
+module _ (w : Bool) (values : List ℕ) (lets : Bool) (name sort : ℕ) (l : List ℕ) (i : ℕ) (inv : w ≡ pairIn (pairSort values lets) name sort (drop i l)) where
+  pub bind-end : length l ≤ i → false ≡ w
+  unfolding pairIn
+  bind-end h = rw (inv, drop-of-length-le l h)
+
+  module _ (h : i < length l) where
+    pub bind-odd : length l - i < 2 → false ≡ w
+    unfolding pairIn
+    bind-odd o = rw (inv, drop-cons l i 0 h, drop-of-length-le l {i = suc i} (omega arith))
+
+    module _ (e : 2 ≤ length l - i) (r : Bool) (is : r ≡ isPair values lets name sort (getD l i 0) (getD l (i + 1) 0)) where
+      two : drop i l ≡ getD l i 0 ∷ (getD l (i + 1) 0 ∷ drop (i + 2) l)
+      two =
+          let after : suc (i + 1) ≡ i + 2 = omega arith in
+          rw (drop-cons l i 0 h, drop-cons l (suc i) 0 (omega arith), ← add-one i, after)
+
+      pub bind-here : r ≡ true → true ≡ w
+      unfolding pairIn isPair
+      bind-here y = rw (inv, two, ← is, y)
+
+      pub bind-next : r ≡ false → w ≡ pairIn (pairSort values lets) name sort (drop (i + 2) l)
+      unfolding pairIn isPair
+      bind-next y = rw (inv, two, ← is, y)
+
+pub ruleset binding = (bind-start, bind-end, bind-odd, bind-here, bind-next)
+
+-- ---- the definition, with its recursion one step open
+free-is : (tags values : List ℕ) (v t : ℕ) → isFree tags values v t ≡ freeStep tags values v t (freeBelow tags values v t)
+unfolding isFree freeBelow
+free-is tags values v t = byPlace-is (freeStep tags values v) false t
+
+module _ (tags values : List ℕ) (v t u : ℕ) where
+  below-is : u < t → freeBelow tags values v t u ≡ isFree tags values v u
+  unfolding freeBelow
+  below-is h = rw (lt-ltb _ _ h)
+
+  below-not : t ≤ u → freeBelow tags values v t u ≡ false
+  unfolding freeBelow
+  below-not h = rw (le-ltb _ _ h)
+
+-- ---- what the walk does at t
+module _ (tags values : List ℕ) (v t : ℕ) where
+  pub look-noted : (memo : List ℕ) → Right tags values v memo → (m : ℕ) → m ≡ getD memo t 0 → m ≡ 1 → false ≡ isFree tags values v t
+  look-noted memo right m is e = right .at t (sym is ∙ e)
+
+  pub look-self : t ≡ v → true ≡ isFree tags values v t
+  unfolding freeStep
+  look-self e = rw (free-is, eq-eqb _ _ e)
+
+  module _ (n : t ≡ v → ⊥) (tag : ℕ) (k : tag ≡ getD tags t 0) where
+    pub look-low : tag < 22 → false ≡ isFree tags values v t
+    unfolding freeStep
+    look-low h = rw (free-is, ne-eqb _ _ n, ← k, lt-ltb _ _ h)
+
+    pub look-application : 22 ≤ tag → tag < 23 → anyOf (freeBelow tags values v t) (operandsOf tags values t) ≡ isFree tags values v t
+    unfolding freeStep
+    look-application l h = rw (free-is tags values v t, ne-eqb _ _ n, ← k, le-ltb _ _ l, lt-ltb _ _ h)
+
+    pub look-operator : 28 ≤ tag → anyOf (freeBelow tags values v t) (operandsOf tags values t) ≡ isFree tags values v t
+    unfolding freeStep
+    look-operator h =
+        rw
+        (free-is tags values v t, ne-eqb _ _ n, ← k, le-ltb tag 22 (omega arith), le-ltb tag 23 (omega arith), le-ltb tag 27 (omega arith), le-ltb _ _ h)
+
+    module _ (l : 23 ≤ tag) (h : tag < 28) (run : List ℕ) (o : run ≡ operandsOf tags values t) (p : Bool) (is : p ≡ pairsBind values (eqb tag 27) v run) where
+      under : isFree tags values v t ≡ cond p false (freeBelow tags values v t (getD run 0 0))
+      unfolding freeStep underPairs boundBy letBinds pairsBind pairSort
+      under =
+          by-test (ltb tag 27)
+          (λ e. rw (free-is tags values v t, ne-eqb _ _ n, ← k, le-ltb tag 22 (omega arith), le-ltb _ _ l, e, ← o, is, ne-eqb tag 27 (omega (arith, ltb-true tag 27 e))))
+          (λ e. rw (free-is tags values v t, ne-eqb _ _ n, ← k, le-ltb tag 22 (omega arith), le-ltb _ _ l, e, lt-ltb _ _ h, ← o, is, eq-eqb tag 27 (omega (arith, ltb-false tag 27 e))))
+
+      pub look-bound : p ≡ true → false ≡ isFree tags values v t
+      look-bound e = rw (under, e)
+
+      module _ (z : p ≡ false) (body : ℕ) (a : body ≡ getD run 0 0) where
+        pub look-late : t ≤ body → false ≡ isFree tags values v t
+        look-late g = rw (under, z, ← a, below-not tags values v t body g)
+
+        pub look-body : body < t → isFree tags values v body ≡ isFree tags values v t
+        look-body g = rw (under, z, ← a, below-is tags values v t body g)
+
+pub ruleset looks = (look-noted, look-self, look-low, look-application, look-operator, look-bound, look-late, look-body)
+
+-- ---- noting an answer; past the end of the memo nothing is set
+module _ (memo : List ℕ) (t : ℕ) (s : Bool) where
+  pub note-yes : s ≡ true → Noted memo t s memo true
+  note-yes e = record { same = sym e; kept = rw e }
+
+  module _ (e : s ≡ false) where
+    pub note-no : Noted memo t s (set memo t 1) false
+    note-no = record { same = sym e; kept = rw e }
+
+    pub note-past : length memo ≤ t → Noted memo t s memo false
+    note-past h = record { same = sym e; kept = rw (e, set-out memo t 1 h) }
+
+pub ruleset notes = (note-yes, note-no, note-past)
+
+-- ---- the answer at t, from the step r at t
+module _ (tags values : List ℕ) (v t : ℕ) (r : Step) (m : Means tags values v t r) where
+  module _ (memo : List ℕ) (right : Right tags values v memo) where
+    pub step-yes : r ≡ Yes → Answered tags values v memo true (isFree tags values v t)
+    step-yes e = record { is = rw e at m; right = right }
+
+    pub step-no : r ≡ No → Answered tags values v memo false (isFree tags values v t)
+    step-no e = record { is = rw e at m; right = right }
+
+  module _ (u : TermPlace) (e : r ≡ Body u) where
+    pub step-below : u .0 < t
+    step-below = (rw e at m) .0
+
+    pub step-body : (memo : List ℕ) (s : Bool) → Answered tags values v memo s (isFree tags values v (u .0)) → Answered tags values v memo s (isFree tags values v t)
+    step-body memo s a = record { is = a .is ∙ (rw e at m) .1; right = a .right }
+
+  pub step-run : r ≡ Run → (run : List ℕ) → run ≡ operandsOf tags values t
+      → (memo : List ℕ) (s : Bool) → Answered tags values v memo s (anyOf (freeBelow tags values v t) run) → Answered tags values v memo s (isFree tags values v t)
+  step-run e run o memo s a = record { is = a .is ∙ rw o (rw e at m); right = a .right }
+
+module _ (tags values : List ℕ) (v t : ℕ) (memo : List ℕ) (s : Bool) (a : Answered tags values v memo s (isFree tags values v t)) where
+  -- a right no keeps the memo right
+  more-right : s ≡ false → Right tags values v (set memo t 1)
+  more-right e = record {
+    at = λ u q. by-test (eqb u t)
+        (λ o. rw (eqb-true u t o) (sym e ∙ a .is))
+        (λ o. a .right .at u (sym (getD-set-other memo t u 1 0 (eqb-false u t o)) ∙ q));
+  }
+
+  pub noted : (after : List ℕ) (r : Bool) → Noted memo t s after r → Answered tags values v after r (isFree tags values v t)
+  noted after r n = record {
+    is = n .same ∙ a .is;
+    right = rw (n .kept) (by-test s (λ e. rw e (a .right)) (λ e. rw e (more-right e)));
+  }
+
+-- ---- the walk along a run
+any-none : (test : ℕ → Bool) (l : List ℕ) → length l ≡ 0 → false ≡ anyOf test l
+unfolding anyOf
+any-none test [] e = refl
+any-none test (x ∷ l) e = absurd (omega arith)
+
+module _ (tags values : List ℕ) (v t : ℕ) (run : List ℕ) where
+  pub run-end : (memo : List ℕ) → Right tags values v memo → length run ≡ 0 → Answered tags values v memo false (anyOf (freeBelow tags values v t) run)
+  run-end memo right e = record { is = any-none _ run e; right = right }
+
+  module _ (some : length run ≡ 0 → ⊥) where
+    any-is : anyOf (freeBelow tags values v t) run
+        ≡ freeBelow tags values v t (getD run 0 0) || anyOf (freeBelow tags values v t) (take (length run - 1) (drop 1 run))
+    unfolding anyOf
+    any-is =
+        rw (take-all (length run - 1) (drop 1 run) (rw (length-drop 1 run) (omega arith)))
+        (ap (anyOf (freeBelow tags values v t)) (drop-cons run 0 0 (omega arith)))
+
+    pub run-skip : t ≤ getD run 0 0 → (memo : List ℕ) (s : Bool)
+        → Answered tags values v memo s (anyOf (freeBelow tags values v t) (take (length run - 1) (drop 1 run)))
+        → Answered tags values v memo s (anyOf (freeBelow tags values v t) run)
+    run-skip h memo s a = record { is = rw (any-is, below-not tags values v t (getD run 0 0) h) (a .is); right = a .right }
+
+    module _ (h : getD run 0 0 < t) (memo : List ℕ) (r : Bool) (a : Answered tags values v memo r (isFree tags values v (getD run 0 0))) where
+      pub run-found : r ≡ true → Answered tags values v memo true (anyOf (freeBelow tags values v t) run)
+      run-found e = record { is = rw (any-is, below-is tags values v t (getD run 0 0) h, ← a .is, e); right = a .right }
+
+      pub run-on : r ≡ false → (memo′ : List ℕ) (s : Bool)
+          → Answered tags values v memo′ s (anyOf (freeBelow tags values v t) (take (length run - 1) (drop 1 run)))
+          → Answered tags values v memo′ s (anyOf (freeBelow tags values v t) run)
+      run-on e memo′ s b = record { is = rw (any-is, below-is tags values v t (getD run 0 0) h, ← a .is, e) (b .is); right = b .right }
+
+pub ruleset walks = (step-yes, step-no, step-body, step-run, noted, run-end, run-skip, run-found, run-on)
+
+-- ---- a fresh memo
+pub fresh : (tags values : List ℕ) (v k : ℕ) → Right tags values v (replicate k 0)
+fresh tags values v k = record { at = λ u e. absurd (omega (arith, zeros k u)) }
+  where
+    zeros : (k u : ℕ) → getD {A = ℕ} (replicate k 0) u 0 ≡ 0
+    zeros zero u = refl
+    zeros (suc k) zero = refl
+    zeros (suc k) (suc u) = zeros k u
+
+-- ---- a variable after t is not free in the term at t
+either-false : (b : Bool) → cond b false false ≡ false
+either-false true = refl
+either-false false = refl
+
+any-false : (l : List ℕ) → anyOf (λ u. false) l ≡ false
+unfolding anyOf
+any-false [] = refl
+any-false (x ∷ l) = any-false l
+
+module _ (tags values : List ℕ) (v : ℕ) where
+  step-none : (t : ℕ) → t < v → freeStep tags values v t (λ u. false) ≡ false
+  unfolding freeStep underPairs
+  step-none t h = simp (ne-eqb t v (omega arith), any-false, either-false)
+
+  down-none : (f t : ℕ) → t < v → downTo (freeStep tags values v) false f t ≡ false
+  unfolding downTo
+  down-none zero t h = refl
+  down-none (suc f) t h =
+      ap (freeStep tags values v t) (fun-ext (λ u. by-test (ltb u t) (λ e. rw e (down-none f u (omega (arith, ltb-true u t e)))) (λ e. rw e)))
+      ∙ step-none t h
+
+  pub later-not : (t : ℕ) → t < v → isFree tags values v t ≡ false
+  unfolding isFree byPlace
+  later-not t h = down-none (suc t) t h
+
+-- ---- the mark of a place
+module _ (tags values : List ℕ) (n t v : ℕ) where
+  pub mark-past : n ≤ v → 0 ≡ markOf tags values n t v
+  unfolding markOf
+  mark-past h = rw (le-ltb _ _ h)
+
+  module _ (h : v < n) (k : ℕ) (is : k ≡ getD tags v 0) where
+    pub mark-other : (k ≡ 21 → ⊥) → 0 ≡ markOf tags values n t v
+    unfolding markOf
+    mark-other o = rw (lt-ltb _ _ h, ← is, ne-eqb _ _ o)
+
+    module _ (e : k ≡ 21) where
+      pub mark-later : t < v → 0 ≡ markOf tags values n t v
+      unfolding markOf
+      mark-later l = rw (lt-ltb _ _ h, ← is, eq-eqb _ _ e, later-not tags values v t l)
+
+      module _ (s : Bool) (q : s ≡ isFree tags values v t) where
+        pub mark-yes : s ≡ true → 1 ≡ markOf tags values n t v
+        unfolding markOf
+        mark-yes y = rw (lt-ltb _ _ h, ← is, eq-eqb _ _ e, ← q, y)
+
+        pub mark-no : s ≡ false → 0 ≡ markOf tags values n t v
+        unfolding markOf
+        mark-no y = rw (lt-ltb _ _ h, ← is, eq-eqb _ _ e, ← q, y)
+
+pub ruleset mark = (mark-past, mark-other, mark-later, mark-yes, mark-no)
+
+-- ---- a loop that fills an array of k elements: the element u is f u, for each u before i
+pub record Filled (f : ℕ → ℕ) (k : ℕ) (l : List ℕ) (i : ℕ) : Type 0 where
+  pub size : length l ≡ k
+  pub before : (u : ℕ) → u < i → getD l u 0 ≡ f u
+
+module _ (f : ℕ → ℕ) (k : ℕ) (l : List ℕ) where
+  pub fill-start : length l ≡ k → Filled f k l 0
+  fill-start e = record { size = e; before = λ u h. absurd (omega arith) }
+
+  module _ (i : ℕ) (m : Filled f k l i) where
+    pub fill-next : i < length l → (x : ℕ) → x ≡ f i → Filled f k (set l i x) (i + 1)
+    fill-next h x e = record {
+      size = length-set l i x ∙ m .size;
+      before = λ u b. by-test (eqb u i)
+          (λ q. rw (eqb-true u i q) (getD-set-same l i x 0 h ∙ e))
+          (λ q. getD-set-other l i u x 0 (eqb-false u i q) ∙ m .before u (lt-of-le-of-ne (omega arith) (eqb-false u i q)));
+    }
+
+    pub fill-end : length l ≤ i → (u : ℕ) → u < k → getD l u 0 ≡ f u
+    fill-end h u b = m .before u (omega (arith, m .size))
+
+pub marked : (tags values : List ℕ) (n t k : ℕ) (l : List ℕ) (i : ℕ) → Filled (markOf tags values n t) k l i → length l ≤ i → Marked tags values n t k l
+marked tags values n t k l i m h = record { size = m .size; at = fill-end _ k l i m h }
+
+pub cleared : (k : ℕ) (l : List ℕ) (i : ℕ) → Filled (λ u. 0) k l i → length l ≤ i → l ≡ replicate k 0
+cleared k l i m h =
+    ext-getD 0 l (replicate k 0) (m .size ∙ sym (length-replicate k 0))
+    (λ u b. fill-end _ k l i m h u (omega (arith, m .size)) ∙ sym (getD-replicate k u 0 0 (omega (arith, m .size))))
+
+pub ruleset fills = (fill-start, fill-next, marked, cleared)

@@ -1,0 +1,65 @@
+use Rattle.free_vars.proofs.Laws.{looks}
+use borrow.Author.Needs.{needs}
+use Rattle.free_vars.proofs.look.Statement.{statement}
+use Rattle.free_vars.proofs.look.Tie as tie
+
+cast-at : tie.Need-cast-at
+cast-at c = search needs
+
+noted-at-requires : tie.Need-noted-at-requires
+noted-at-requires c κs = search needs
+
+returns : tie.Need-returns
+returns c = search looks
+
+returns-2 : tie.Need-returns-2
+returns-2 c = search looks
+
+cell-requires : tie.Need-cell-requires
+cell-requires c κs = search needs
+
+returns-3 : tie.Need-returns-3
+returns-3 c = search looks
+
+returns-4 : tie.Need-returns-4
+returns-4 c = search looks
+
+returns-5 : tie.Need-returns-5
+returns-5 c = search looks
+
+operands-requires : tie.Need-operands-requires
+operands-requires c κs = search needs
+
+pairs-bind-requires : tie.Need-pairs-bind-requires
+pairs-bind-requires c κs = search needs
+
+returns-6 : tie.Need-returns-6
+returns-6 c = search looks
+
+cell-requires-2 : tie.Need-cell-requires-2
+cell-requires-2 c κs = search needs
+
+returns-7 : tie.Need-returns-7
+returns-7 c = search looks
+
+returns-8 : tie.Need-returns-8
+returns-8 c = search looks
+
+pub look-spec : {M : Type 1} → statement M
+look-spec =
+    tie.close
+    (tie.spec
+    cast-at
+    noted-at-requires
+    returns
+    returns-2
+    cell-requires
+    returns-3
+    returns-4
+    returns-5
+    operands-requires
+    pairs-bind-requires
+    returns-6
+    cell-requires-2
+    returns-7
+    returns-8)

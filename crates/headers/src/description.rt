@@ -1,0 +1,152 @@
+// Descriptions, a header's tag and cells: check 15, adding a term and cutting back.
+use cells::Found;
+use cells::run;
+ghost use mathlib.Core.Path.{_≡_};
+ghost use mathlib.Core.List.{_∷_};
+ghost use Prim.Native.Nat.{_+_, _≤_};
+ghost use lib.ListN.{length, replicate};
+ghost use Rattle.headers.specs.Description.{find, repeats, firstRepeat, isFull, Room, Put, Added-is, zeroFrom, Cut};
+
+// What adding a description gives: where it stood already, its new place and the new count, or no room.
+pub enum Added {
+    There(usize),
+    New(usize, usize),
+    Full,
+}
+
+// The first header below n with this tag and these cells.
+pub fn find(tags: &[u32], values: &[u32], n: usize, tag: u32, cells: &[u32]) -> Found
+    ensures { λ r. ⌜ r ≡ find (now (tags .entry)) (now (values .entry)) n tag (now (cells .entry)) ⌝ }
+{
+    let mut p: usize = 0;
+    while p < n {
+        if run::is_at(tags, values, p, tag, cells) {
+            return Found::At(p);
+        }
+        let k = run::cell(values, p) as usize;
+        if n - p <= k {
+            return Found::Nothing;
+        }
+        p += 1 + k;
+    }
+    Found::Nothing
+}
+
+// Whether the header at p repeats an earlier one.
+fn repeats(tags: &[u32], values: &[u32], p: usize) -> bool
+    ensures { λ r. ⌜ r ≡ repeats (now (tags .entry)) (now (values .entry)) p ⌝ }
+{
+    let earlier = find(tags, values, p, run::cell(tags, p), run::cells(values, p));
+    match earlier {
+        Found::At(_) => true,
+        Found::Nothing => false,
+    }
+}
+
+// Check 15: the first header below n that repeats an earlier one.
+pub fn first_repeat(tags: &[u32], values: &[u32], n: usize) -> Found
+    ensures { λ r. ⌜ r ≡ firstRepeat (now (tags .entry)) (now (values .entry)) n ⌝ }
+{
+    let mut p: usize = 0;
+    while p < n {
+        if repeats(tags, values, p) {
+            return Found::At(p);
+        }
+        let k = run::cell(values, p) as usize;
+        if n - p <= k {
+            return Found::Nothing;
+        }
+        p += 1 + k;
+    }
+    Found::Nothing
+}
+
+// Whether there is no room after n for a header with k cells.
+fn is_full(tags: &[u32], values: &[u32], limit: usize, n: usize, k: usize) -> bool
+    ensures { λ r. ⌜ r ≡ isFull (now (tags .entry)) (now (values .entry)) limit n k ⌝ }
+{
+    if 4294967295 < k {
+        return true;
+    }
+    if tags.len() <= n {
+        return true;
+    }
+    // So that n + 1 + k fits.
+    if tags.len() - n <= k {
+        return true;
+    }
+    if values.len() < n + 1 + k {
+        return true;
+    }
+    limit < n + 1 + k
+}
+
+// Writes cells, with tag 0, from `at` on.
+fn put_cells(tags: &mut [u32], values: &mut [u32], at: usize, cells: &[u32])
+    requires { ⌜ at + length (now cells) ≤ length (now tags) ⌝ }
+    requires { ⌜ at + length (now cells) ≤ length (now values) ⌝ }
+    ensures { λ _. ⌜ Put (now (tags .entry)) (now (values .entry)) at (replicate (length (now (cells .entry))) 0) (now (cells .entry)) (now (tags .exit)) (now (values .exit)) ⌝ }
+{
+    let mut j: usize = 0;
+    while j < cells.len() {
+        let i = at + j;
+        tags[i] = 0;
+        values[i] = cells[j];
+        j += 1;
+    }
+}
+
+// Writes a header and its cells from n on, and gives the new count.
+fn put(tags: &mut [u32], values: &mut [u32], n: usize, tag: u32, cells: &[u32]) -> usize
+    requires { ⌜ Room (now tags) (now values) n (length (now cells)) ⌝ }
+    ensures { λ r. ⌜ r ≡ n + 1 + length (now (cells .entry)) ⌝ }
+    ensures { λ _. ⌜ Put (now (tags .entry)) (now (values .entry)) n (tag ∷ replicate (length (now (cells .entry))) 0) (length (now (cells .entry)) ∷ now (cells .entry)) (now (tags .exit)) (now (values .exit)) ⌝ }
+{
+    tags[n] = tag;
+    values[n] = cells.len() as u32;
+    put_cells(tags, values, n + 1, cells);
+    n + 1 + cells.len()
+}
+
+// Adds a description to the n cells in use, at most `limit` of them: where it stands already, nothing changes.
+pub fn add(
+    tags: &mut [u32],
+    values: &mut [u32],
+    limit: usize,
+    n: usize,
+    tag: u32,
+    cells: &[u32],
+) -> Added
+    ensures { λ r. ⌜ Added-is (now (tags .entry)) (now (values .entry)) limit n tag (now (cells .entry)) r (now (tags .exit)) (now (values .exit)) ⌝ }
+{
+    let there = find(tags, values, n, tag, cells);
+    match there {
+        Found::At(p) => Added::There(p),
+        Found::Nothing => {
+            if is_full(tags, values, limit, n, cells.len()) {
+                return Added::Full;
+            }
+            let end = put(tags, values, n, tag, cells);
+            Added::New(n, end)
+        }
+    }
+}
+
+// Writes 0 to every cell from n on.
+fn zero_from(a: &mut [u32], n: usize)
+    ensures { λ _. ⌜ now (a .exit) ≡ zeroFrom n (now (a .entry)) ⌝ }
+{
+    let mut i = n;
+    while i < a.len() {
+        a[i] = 0;
+        i += 1;
+    }
+}
+
+// Cuts a pool back to its first n cells.
+pub fn cut_back(tags: &mut [u32], values: &mut [u32], n: usize)
+    ensures { λ _. ⌜ Cut n (now (tags .entry)) (now (values .entry)) (now (tags .exit)) (now (values .exit)) ⌝ }
+{
+    zero_from(tags, n);
+    zero_from(values, n);
+}

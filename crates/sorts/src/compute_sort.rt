@@ -1,0 +1,197 @@
+// Check 16: the sort that `compute_sort` gives a term, and whether the term states it.
+use crate::list_sorts;
+use crate::plain_sorts;
+use crate::table;
+use cells::Found;
+use cells::SortPlace;
+use cells::TermPlace;
+use cells::run;
+ghost use mathlib.Core.Path.{_≡_};
+ghost use mathlib.Core.Bool.{not, _&&_};
+ghost use mathlib.Core.List.{[], _∷_};
+ghost use Prim.Native.Nat.{_-_, _≤_};
+ghost use lib.ListN.{length, getD};
+ghost use Rattle.cells.specs.Cell.{isAt};
+ghost use Rattle.headers.specs.WellFormed.{isTermTag};
+ghost use Rattle.sorts.specs.SortRule.{isSort, specialOf, bySpecial, byRule, statesSort, firstWrongSort};
+
+// The operators with a sort rule of their own.
+pub enum Special {
+    Arithmetic,
+    Select,
+    BitVectors,
+    Concat,
+    OneBit,
+    BitCount,
+    BvConst,
+    RareList,
+    Singleton,
+    Insert,
+    TupleOf,
+    TupleUnit,
+    Transpose,
+    Join,
+    Product,
+    NoRule,
+}
+
+// The special rule of an operator code. 01: "special sort rules are decided by operator code".
+fn special_of(op: u32) -> Special
+    ensures { λ r. ⌜ r ≡ specialOf op ⌝ }
+{
+    match op {
+        10..=12 => Special::Arithmetic, // Add, Sub, Mult
+        42 => Special::Select,
+        79..=88 | 91..=94 | 96..=100 => Special::BitVectors, // BvNot to BvLShr, BvNAnd to BvXNor, BvSub to BvAShr
+        90 => Special::Concat, // BvConcat
+        95 => Special::OneBit, // BvComp
+        110..=111 => Special::BitCount, // BvPBbTerm, BvBbTerm
+        112 => Special::BvConst,
+        115 => Special::RareList,
+        123 => Special::Singleton, // SetSingleton
+        127 => Special::Insert, // SetInsert
+        129 => Special::TupleOf, // Tuple
+        130 => Special::TupleUnit,
+        131 => Special::Transpose, // RelTranspose
+        133 => Special::Join, // RelJoin
+        134 => Special::Product, // RelProduct
+        _ => Special::NoRule,
+    }
+}
+
+// Whether the sort at s is BitVec with as many bits as there are operands. The width is compared as an index, since a count of
+// operands may not fit a cell.
+fn bit_count(tags: &[u32], values: &[u32], s: SortPlace, os: &[u32]) -> bool
+    ensures { λ r. ⌜ r ≡ isAt (now (tags .entry)) (now (values .entry)) (s .0) 7 (length (now (os .entry)) ∷ []) ⌝ }
+{
+    let at = s.0 as usize;
+    if run::cell(tags, at) != 7 {
+        return false;
+    }
+    let parts = run::cells(values, at);
+    if parts.len() != 1 {
+        return false;
+    }
+    run::wide(parts[0]) == os.len()
+}
+
+// Whether the sort at s is the one that a special rule gives.
+fn by_special(tags: &[u32], values: &[u32], s: SortPlace, special: Special, os: &[u32]) -> bool
+    ensures { λ r. ⌜ r ≡ isSort (now (tags .entry)) (now (values .entry)) (s .0)
+        (bySpecial (now (tags .entry)) (now (values .entry)) special (now (os .entry))) ⌝ }
+{
+    match special {
+        Special::Arithmetic => plain_sorts::arithmetic(tags, values, s, os),
+        Special::Select => plain_sorts::selected(tags, values, s, os),
+        Special::BitVectors => plain_sorts::bit_vector(tags, values, s, os),
+        Special::Concat => plain_sorts::concat(tags, values, s, os),
+        Special::OneBit => plain_sorts::is_single(tags, values, s, 7, 1),
+        Special::BitCount => bit_count(tags, values, s, os),
+        Special::BvConst => plain_sorts::bv_const(tags, values, s, os),
+        Special::RareList => plain_sorts::rare_list(tags, values, s, os),
+        Special::Singleton => plain_sorts::singleton(tags, values, s, os),
+        Special::Insert => plain_sorts::last_sort(tags, values, s, os),
+        Special::TupleOf => list_sorts::tuple_of(tags, values, s, os),
+        Special::TupleUnit => plain_sorts::is_plain(tags, values, s, 13),
+        Special::Transpose => list_sorts::transpose(tags, values, s, os),
+        Special::Join => list_sorts::join(tags, values, s, os),
+        Special::Product => list_sorts::product(tags, values, s, os),
+        Special::NoRule => false,
+    }
+}
+
+// Whether the sort at s is the one that a rule of the table gives the operands of an operator. Rules 0 to 4 are the sorts with tags
+// 1 to 5, 5 is the first operand's, 6 the second's, and above that the operator's own.
+fn by_rule(tags: &[u32], values: &[u32], s: SortPlace, rule: u32, op: u32, os: &[u32]) -> bool
+    ensures { λ r. ⌜ r ≡ isSort (now (tags .entry)) (now (values .entry)) (s .0)
+        (byRule (now (tags .entry)) (now (values .entry)) rule op (now (os .entry))) ⌝ }
+{
+    if rule < 5 {
+        return plain_sorts::is_plain(tags, values, s, rule + 1);
+    }
+    if rule == 5 {
+        return plain_sorts::first_sort(tags, values, s, os);
+    }
+    if rule == 6 {
+        if os.len() == 0 {
+            return false;
+        }
+        return plain_sorts::first_sort(tags, values, s, &os[1..]);
+    }
+    by_special(tags, values, s, special_of(op), os)
+}
+
+// How far a tag stands after another, and 0 before it.
+fn after(tag: u32, first: u32) -> u32
+    ensures { λ r. ⌜ r ≡ tag - first ⌝ }
+{
+    if tag < first { 0 } else { tag - first }
+}
+
+// Whether the term at t states the sort that `compute_sort` gives by this table of rules. A constant's tag is 14 above its sort's, a
+// variable's sort is the one it states, a quantifier's is Bool, and a let's its body's.
+pub fn states_sort(tags: &[u32], values: &[u32], rules: &[u32], t: TermPlace) -> bool
+    ensures { λ r. ⌜ r ≡ statesSort (now (tags .entry)) (now (values .entry)) (now (rules .entry)) (t .0) ⌝ }
+{
+    let at = t.0 as usize;
+    let tag = run::cell(tags, at);
+    let s = run::sort_of(values, TermPlace(t.0));
+    if tag < 20 {
+        return plain_sorts::is_plain(tags, values, s, after(tag, 14));
+    }
+    if tag < 21 {
+        return plain_sorts::is_single(tags, values, s, 7, run::cell(values, at + 2));
+    }
+    if tag < 22 {
+        return true;
+    }
+    let os = run::operands(tags, values, t);
+    if tag < 23 {
+        return list_sorts::application(tags, values, s, os);
+    }
+    if tag < 25 {
+        return plain_sorts::is_plain(tags, values, s, 1);
+    }
+    if tag < 26 {
+        return plain_sorts::choice(tags, values, s, os);
+    }
+    if tag < 27 {
+        return list_sorts::lambda(tags, values, s, os);
+    }
+    if tag < 28 {
+        return plain_sorts::first_sort(tags, values, s, os);
+    }
+    let op = after(tag, 32);
+    by_rule(tags, values, s, table::rule_of(rules, op), op, os)
+}
+
+// Whether the header at t is a term's with the wrong sort.
+fn states_wrong(tags: &[u32], values: &[u32], rules: &[u32], t: TermPlace) -> bool
+    ensures { λ r. ⌜ r ≡ (isTermTag (getD (now (tags .entry)) (t .0) 0) && not (statesSort (now (tags .entry)) (now (values .entry)) (now (rules .entry)) (t .0))) ⌝ }
+{
+    let at = t.0 as usize;
+    if run::cell(tags, at) < 16 {
+        return false;
+    }
+    !states_sort(tags, values, rules, t)
+}
+
+// 01, "16 wrong sort (the first place)". A place is a u32, so the count must fit one.
+pub fn first_wrong_sort(tags: &[u32], values: &[u32], rules: &[u32], n: usize) -> Found
+    requires { ⌜ n ≤ 4294967295 ⌝ }
+    ensures { λ r. ⌜ r ≡ firstWrongSort (now (tags .entry)) (now (values .entry)) (now (rules .entry)) n ⌝ }
+{
+    let mut p: usize = 0;
+    while p < n {
+        if states_wrong(tags, values, rules, TermPlace(p as u32)) {
+            return Found::At(p);
+        }
+        let k = run::cell(values, p) as usize;
+        // its cells reach the count, so no header follows
+        if n - p <= k {
+            return Found::Nothing;
+        }
+        p += 1 + k;
+    }
+    Found::Nothing
+}
