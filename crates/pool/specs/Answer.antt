@@ -4,28 +4,29 @@
 use Prim.Native.Nat.{ℕ}
 use Rattle.pool.specs.declared.Answer.{Answer}
 
-abbrev answer : ℕ → ℕ → ℕ → Answer
-answer k a b = record { code = k; first = a; second = b }
+-- the code, and the two numbers that it carries
+abbrev pub refused : ℕ → ℕ → ℕ → Answer
+refused k a b = record { code = k; first = a; second = b }
 
 abbrev pub accepted : ℕ → ℕ → Answer
-accepted a b = answer 0 a b
+accepted a b = record { code = 0; first = a; second = b }
 
 -- 14: pool ill-formed (place of the first bad header, 0 if N is 0)
 abbrev pub illFormed : ℕ → Answer
-illFormed p = answer 14 p 0
+illFormed p = refused 14 p 0
 
 -- 15: repeated description (the first later place)
 abbrev pub repeated : ℕ → Answer
-repeated p = answer 15 p 0
+repeated p = refused 15 p 0
 
 -- 16: wrong sort (the first place)
 abbrev pub wrongSort : ℕ → Answer
-wrongSort p = answer 16 p 0
+wrongSort p = refused 16 p 0
 
 -- 17: not a term's place (it)
 abbrev pub notATerm : ℕ → Answer
-notATerm t = answer 17 t 0
+notATerm t = refused 17 t 0
 
 -- 30: arrays unequal, N past them or over 8,192; a lent array that is too short
 abbrev pub badArrays : Answer
-badArrays = answer 30 0 0
+badArrays = refused 30 0 0

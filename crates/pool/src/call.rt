@@ -34,38 +34,18 @@ fn check_cells(tags: &[u32], values: &[u32], rules: &[u32], n: usize) -> Answer
     ensures { λ r. ⌜ r ≡ checkCells (now (tags .entry)) (now (values .entry)) (now (rules .entry)) n ⌝ }
 {
     if n == 0 {
-        return Answer {
-            code: 14,
-            first: 0,
-            second: 0,
-        };
+        return Answer::refused(14, 0, 0);
     }
     if let Found::At(p) = first_bad(tags, values, n) {
-        return Answer {
-            code: 14,
-            first: p as u32,
-            second: 0,
-        };
+        return Answer::refused(14, p as u32, 0);
     }
     if let Found::At(p) = first_repeat(tags, values, n) {
-        return Answer {
-            code: 15,
-            first: p as u32,
-            second: 0,
-        };
+        return Answer::refused(15, p as u32, 0);
     }
     if let Found::At(p) = first_wrong_sort(tags, values, rules, n) {
-        return Answer {
-            code: 16,
-            first: p as u32,
-            second: 0,
-        };
+        return Answer::refused(16, p as u32, 0);
     }
-    Answer {
-        code: 0,
-        first: 0,
-        second: 0,
-    }
+    Answer::accepted(0, 0)
 }
 
 // The pool check under a lent table of sort rules: 30, 14, 15, 16.
@@ -73,11 +53,7 @@ pub fn check_pool_by(tags: &[u32], values: &[u32], rules: &[u32], n: usize) -> A
     ensures { λ r. ⌜ r ≡ checkPool (now (tags .entry)) (now (values .entry)) (now (rules .entry)) n ⌝ }
 {
     if !arrays_fit(tags, values, n) {
-        return Answer {
-            code: 30,
-            first: 0,
-            second: 0,
-        };
+        return Answer::refused(30, 0, 0);
     }
     check_cells(tags, values, rules, n)
 }
@@ -91,17 +67,9 @@ pub fn check_term_by(tags: &[u32], values: &[u32], rules: &[u32], n: usize, t: T
         return checked;
     }
     if !is_term(tags, n, t) {
-        return Answer {
-            code: 17,
-            first: t.0,
-            second: 0,
-        };
+        return Answer::refused(17, t.0, 0);
     }
-    Answer {
-        code: 0,
-        first: 0,
-        second: 0,
-    }
+    Answer::accepted(0, 0)
 }
 
 // The pool check under the built-in table.
@@ -129,11 +97,7 @@ pub fn sort_of_term(tags: &[u32], values: &[u32], n: usize, t: TermPlace) -> Ans
         return checked;
     }
     let sort = sort_of(values, t);
-    Answer {
-        code: 0,
-        first: sort.0,
-        second: 0,
-    }
+    Answer::accepted(sort.0, 0)
 }
 
 // The free variables of the term at t: 1 at their places in the lent marks, and 0 elsewhere.
@@ -141,11 +105,7 @@ pub fn free_vars(tags: &[u32], values: &[u32], n: usize, t: TermPlace, marks: &m
     ensures { λ r. ⌜ FreeVars (now (tags .entry)) (now (values .entry)) builtIn n (t .0) (now (marks .entry)) r (now (marks .exit)) ⌝ }
 {
     if marks.len() < n {
-        return Answer {
-            code: 30,
-            first: 0,
-            second: 0,
-        };
+        return Answer::refused(30, 0, 0);
     }
     let checked = check_term(tags, values, n, t);
     if checked.code == 30 {

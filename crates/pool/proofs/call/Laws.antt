@@ -55,9 +55,9 @@ module _ (tags values : List ℕ) (n : ℕ) where
     pub fit-size : not r ≡ false → n ≤ 8192
     fit-size e = fit-all (sym is ∙ not-false r e) .1
 
-    pub pool-arrays : (rules : List ℕ) → not r ≡ true → badArrays ≡ checkPool tags values rules n
+    pub pool-arrays : (rules : List ℕ) → not r ≡ true → (made : Answer) → made ≡ badArrays → made ≡ checkPool tags values rules n
     unfolding checkPool
-    pool-arrays rules e = rw (← is, not-true r e)
+    pool-arrays rules e made q = rw (← is, not-true r e) q
 
     pub pool-cells : (rules : List ℕ) → not r ≡ false → (a : Answer) → a ≡ checkCells tags values rules n → a ≡ checkPool tags values rules n
     unfolding checkPool
@@ -69,28 +69,28 @@ pub ruleset pools = (pool-arrays, pool-cells)
 
 -- ---- 14, 15, 16: what the walks found
 module _ (tags values rules : List ℕ) (n : ℕ) where
-  pub cells-none : n ≡ 0 → illFormed 0 ≡ checkCells tags values rules n
+  pub cells-none : n ≡ 0 → (made : Answer) → made ≡ illFormed 0 → made ≡ checkCells tags values rules n
   unfolding checkCells
-  cells-none h = rw (eq-eqb _ _ h)
+  cells-none h made q = rw (eq-eqb _ _ h) q
 
   module _ (h : n ≡ 0 → ⊥) (bad : Found) (is-bad : bad ≡ firstBad tags values n) where
-    pub cells-bad : (p : ℕ) → bad ≡ At p → illFormed p ≡ checkCells tags values rules n
+    pub cells-bad : (p : ℕ) → bad ≡ At p → (made : Answer) → made ≡ illFormed p → made ≡ checkCells tags values rules n
     unfolding checkCells
-    cells-bad p e = rw (ne-eqb _ _ h, ← is-bad, e)
+    cells-bad p e made q = rw (ne-eqb _ _ h, ← is-bad, e) q
 
     module _ (good : bad ≡ Nothing) (rep : Found) (is-rep : rep ≡ firstRepeat tags values n) where
-      pub cells-repeated : (p : ℕ) → rep ≡ At p → repeated p ≡ checkCells tags values rules n
+      pub cells-repeated : (p : ℕ) → rep ≡ At p → (made : Answer) → made ≡ repeated p → made ≡ checkCells tags values rules n
       unfolding checkCells
-      cells-repeated p e = rw (ne-eqb _ _ h, ← is-bad, good, ← is-rep, e)
+      cells-repeated p e made q = rw (ne-eqb _ _ h, ← is-bad, good, ← is-rep, e) q
 
       module _ (once : rep ≡ Nothing) (wrong : Found) (is-wrong : wrong ≡ firstWrongSort tags values rules n) where
-        pub cells-wrong : (p : ℕ) → wrong ≡ At p → wrongSort p ≡ checkCells tags values rules n
+        pub cells-wrong : (p : ℕ) → wrong ≡ At p → (made : Answer) → made ≡ wrongSort p → made ≡ checkCells tags values rules n
         unfolding checkCells
-        cells-wrong p e = rw (ne-eqb _ _ h, ← is-bad, good, ← is-rep, once, ← is-wrong, e)
+        cells-wrong p e made q = rw (ne-eqb _ _ h, ← is-bad, good, ← is-rep, once, ← is-wrong, e) q
 
-        pub cells-right : wrong ≡ Nothing → accepted 0 0 ≡ checkCells tags values rules n
+        pub cells-right : wrong ≡ Nothing → (made : Answer) → made ≡ accepted 0 0 → made ≡ checkCells tags values rules n
         unfolding checkCells
-        cells-right e = rw (ne-eqb _ _ h, ← is-bad, good, ← is-rep, once, ← is-wrong, e)
+        cells-right e made q = rw (ne-eqb _ _ h, ← is-bad, good, ← is-rep, once, ← is-wrong, e) q
 
 pub ruleset all-cells = (cells-none, cells-bad, cells-repeated, cells-wrong, cells-right)
 
@@ -136,22 +136,22 @@ module _ (tags values rules : List ℕ) (n t : ℕ) where
     term-refused h = rw (← is) (stop a _ h)
 
     module _ (h : a .code ≡ 0) (r : Bool) (e : r ≡ isTerm tags n t) where
-      pub term-not : not r ≡ true → notATerm t ≡ checkTerm tags values rules n t
+      pub term-not : not r ≡ true → (made : Answer) → made ≡ notATerm t → made ≡ checkTerm tags values rules n t
       unfolding checkTerm
-      term-not o = rw (← is, ← e, not-true r o) (go-on a _ h)
+      term-not o made q = q ∙ rw (← is, ← e, not-true r o) (go-on a _ h)
 
-      pub term-is : not r ≡ false → accepted 0 0 ≡ checkTerm tags values rules n t
+      pub term-is : not r ≡ false → (made : Answer) → made ≡ accepted 0 0 → made ≡ checkTerm tags values rules n t
       unfolding checkTerm
-      term-is o = rw (← is, ← e, not-false r o) (go-on a _ h)
+      term-is o made q = q ∙ rw (← is, ← e, not-false r o) (go-on a _ h)
 
   module _ (a : Answer) (is : a ≡ checkTerm tags values rules n t) where
     pub sort-refused : (a .code ≡ 0 → ⊥) → a ≡ sortAnswer tags values rules n t
     unfolding sortAnswer
     sort-refused h = rw (← is) (stop a _ h)
 
-    pub sort-is : a .code ≡ 0 → (s : ℕ) → s ≡ sortOf values t → accepted s 0 ≡ sortAnswer tags values rules n t
+    pub sort-is : a .code ≡ 0 → (s : ℕ) → s ≡ sortOf values t → (made : Answer) → made ≡ accepted s 0 → made ≡ sortAnswer tags values rules n t
     unfolding sortAnswer
-    sort-is h s e = rw (← is, e) (go-on a _ h)
+    sort-is h s e made q = q ∙ rw (← is, e) (go-on a _ h)
 
 pub ruleset terms = (term-refused, term-not, term-is)
 
@@ -159,9 +159,9 @@ pub ruleset sorts = (sort-refused, sort-is)
 
 -- ---- the free variables
 module _ (tags values rules : List ℕ) (n t : ℕ) (marks : List ℕ) where
-  pub marks-short : length marks < n → FreeVars tags values rules n t marks badArrays marks
+  pub marks-short : length marks < n → (made : Answer) → made ≡ badArrays → FreeVars tags values rules n t marks made marks
   unfolding freeAnswer markLeft
-  marks-short h = record { answer = rw (lt-leb _ _ h); size = refl; at = λ v _. refl }
+  marks-short h made q = record { answer = rw (lt-leb _ _ h) q; size = refl; at = λ v _. rw q }
 
   module _ (l : n ≤ length marks) (a : Answer) (is : a ≡ checkTerm tags values rules n t) where
     answered : a ≡ freeAnswer tags values rules n t (length marks)

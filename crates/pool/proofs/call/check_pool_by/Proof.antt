@@ -6,6 +6,9 @@ use Rattle.pool.proofs.call.check_pool_by.Tie as tie
 arrays-fit-requires : tie.Need-arrays-fit-requires
 arrays-fit-requires c κs = search needs
 
+refused-requires : tie.Need-refused-requires
+refused-requires c κs = search needs
+
 returns : tie.Need-returns
 returns c = search pools
 
@@ -17,4 +20,5 @@ returns-2 c = search pools
 
 pub check-pool-by-spec : {M : Type 1} → statement M
 check-pool-by-spec =
-    tie.close (tie.spec arrays-fit-requires returns check-cells-requires returns-2)
+    tie.close
+    (tie.spec arrays-fit-requires refused-requires returns check-cells-requires returns-2)

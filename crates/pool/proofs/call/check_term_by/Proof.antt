@@ -12,12 +12,26 @@ returns c = search terms
 is-term-requires : tie.Need-is-term-requires
 is-term-requires c κs = search needs
 
+refused-requires : tie.Need-refused-requires
+refused-requires c κs = search needs
+
 returns-2 : tie.Need-returns-2
 returns-2 c = search terms
+
+accepted-requires : tie.Need-accepted-requires
+accepted-requires c κs = search needs
 
 returns-3 : tie.Need-returns-3
 returns-3 c = search terms
 
 pub check-term-by-spec : {M : Type 1} → statement M
 check-term-by-spec =
-    tie.close (tie.spec check-pool-by-requires returns is-term-requires returns-2 returns-3)
+    tie.close
+    (tie.spec
+    check-pool-by-requires
+    returns
+    is-term-requires
+    refused-requires
+    returns-2
+    accepted-requires
+    returns-3)

@@ -3,6 +3,9 @@ use borrow.Author.Needs.{needs}
 use Rattle.pool.proofs.call.free_vars.Statement.{statement}
 use Rattle.pool.proofs.call.free_vars.Tie as tie
 
+refused-requires : tie.Need-refused-requires
+refused-requires c κs = search needs
+
 returns : tie.Need-returns
 returns c = search marked
 
@@ -34,6 +37,7 @@ pub free-vars-spec : {M : Type 1} → statement M
 free-vars-spec =
     tie.close
     (tie.spec
+    refused-requires
     returns
     check-term-requires
     returns-2
