@@ -19,7 +19,7 @@ use Rattle.pool.specs.Sort.{Sort, Sorts, bool, int, real, string, reglan
 use Rattle.pool.specs.Tree.{sortsOf, sortFrom, sortStep, sortTree}
 use Rattle.cells.specs.declared.Found.the-variants.{Nothing}
 use Rattle.headers.specs.declared.well_formed.Shape.{Shape}
-use Rattle.headers.specs.declared.well_formed.Shape.the-variants.{Named}
+use Rattle.headers.specs.declared.well_formed.Shape.the-variants.{Named, Sorts as SortList}
 use Rattle.headers.specs.declared.well_formed.CellKind.the-variants.{OfSort}
 use Rattle.pool.proofs.tree.Header.{Each, Described, sort-cell, sort-tagged}
 use Rattle.pool.proofs.tree.Walk.{place-described, one-place}
