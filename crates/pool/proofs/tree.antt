@@ -6,5 +6,12 @@ pub mod Parts
 pub mod Sorts
 pub mod Terms
 pub mod Stated
+pub mod Forms
+pub mod SortLists
+pub mod Computed
+pub mod Operators
+pub mod Specials
+pub mod SortRules
+pub mod WrongSort
 pub mod Free
 pub mod Passed

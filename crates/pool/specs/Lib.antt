@@ -4,3 +4,4 @@ pub mod Sort
 pub mod Term
 pub mod Tree
 pub mod FreeTree
+pub mod SortTree

@@ -4,6 +4,7 @@ use Prim.Native.Nat.{ℕ, suc, _≤_, _<_}
 use mathlib.Core.Path.{_≡_, refl, ap}
 use mathlib.Core.Bool.{Bool, true, false, _&&_, cond}
 use mathlib.Core.List.{List}
+use mathlib.Core.Option.{Option}
 use lib.ListN.{length, getD}
 use lib.Dec.{eqb, leb}
 use native.Mathlib.Omega.{arith}
@@ -19,6 +20,7 @@ use Rattle.free_vars.specs.Free.{isFree}
 use Rattle.pool.specs.Term.{stated}
 use Rattle.pool.specs.FreeTree.{free, varAt}
 use Rattle.pool.specs.Tree.{sortFrom, sortTree, termFrom, tree}
+use Rattle.pool.specs.SortTree.{sortOfTerm}
 use Rattle.pool.specs.declared.Answer.{Answer}
 use Rattle.cells.specs.declared.Found.{Found}
 use Rattle.cells.specs.declared.Found.the-variants.{At, Nothing}
@@ -28,6 +30,7 @@ use Rattle.pool.proofs.tree.Sorts.{sort-is, sort-one}
 use Rattle.pool.proofs.tree.Terms.{term-is, term-one}
 use Rattle.pool.proofs.tree.Stated.{stated-is}
 use Rattle.pool.proofs.tree.Free.{free-is}
+use Rattle.pool.proofs.tree.WrongSort.{sorted-computed}
 
 -- ---- the checks that have passed
 pub record Passed (tags values rules : List ℕ) (n : ℕ) : Type 0 where
@@ -149,3 +152,7 @@ module _ {tags values rules : List ℕ} {n : ℕ} (c : Passed tags values rules 
   pub free-of-tree : (v : ℕ) → v < n → getD tags v 0 ≡ 21 → (t : ℕ) → t < n → isTermTag (getD tags t 0) ≡ true
       → isFree tags values v t ≡ free (tree tags values t) (varAt tags values v)
   free-of-tree = free-is tags values n (c .whole) (c .formed) (c .single)
+
+  -- every term states the sort that is computed of its tree
+  pub computed-sort : (t : ℕ) → t < n → isTermTag (getD tags t 0) ≡ true → sortOfTerm rules (tree tags values t) ≡ Option.some (stated (tree tags values t))
+  computed-sort = sorted-computed tags values rules n (c .whole) (c .formed) n (omega arith) (c .sorted)

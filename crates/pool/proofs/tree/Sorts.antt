@@ -1,10 +1,11 @@
 -- The sorts of a pool that passes checks 14 and 15.
 --     sort-is        the sort at a place is what its cells say, of the sorts at the places that they hold
 --     sort-one       two places with equal sorts are one place
+--     made-one       a place with the sort of a tag and cells has that tag and those cells
 -- A sort's tag and parts are read off its tree again.
 -- Assumes nothing.
 use Prim.Native.Nat.{ℕ, zero, suc, _≤_, _<_}
-use mathlib.Core.Path.{_≡_, refl, ap, ap₂, _∙_}
+use mathlib.Core.Path.{_≡_, refl, sym, ap, ap₂, _∙_}
 use mathlib.Core.Bool.{true, cond}
 use mathlib.Core.List.{List, [], _∷_}
 use lib.ListN.{length, getD}
@@ -24,7 +25,7 @@ use Rattle.headers.specs.declared.well_formed.CellKind.the-variants.{OfSort}
 use Rattle.pool.proofs.tree.Header.{Each, Described, sort-cell, sort-tagged}
 use Rattle.pool.proofs.tree.Walk.{place-described, one-place}
 use Rattle.pool.proofs.tree.Tags.{by-sort-tag}
-use Rattle.pool.proofs.tree.Parts.{Part, number, sort, parts, Reads, one-description, not-first, no-cell, one-cell, two-cells, from-one}
+use Rattle.pool.proofs.tree.Parts.{Part, number, sort, parts, parts-one, Reads, one-description, not-first, no-cell, one-cell, two-cells, from-one}
 
 -- ---- a sort's tag and parts
 unfoldable tagOf : Sort → ℕ
@@ -157,3 +158,15 @@ module _ (tags values : List ℕ) (n : ℕ) (whole : n ≤ length values) (forme
     pub sort-one : (s u : ℕ) → s < n → u < n → isSortTag (getD tags s 0) ≡ true → isSortTag (getD tags u 0) ≡ true
         → sortTree tags values s ≡ sortTree tags values u → s ≡ u
     sort-one s u = same-sort (suc s) s u (omega arith)
+
+    -- a place has the sort of a tag and cells only if they are its own
+    pub made-one : (s k : ℕ) (cells : List ℕ) → s < n → isSortTag (getD tags s 0) ≡ true
+        → isSortTag k ≡ true → countFits (shapeOf k) (length cells) ≡ true → Each tags n (shapeOf k) 0 cells
+        → sortTree tags values s ≡ sortFrom k cells (sortTree tags values) → (getD tags s 0 ≡ k) × (cellsOf values s ≡ cells)
+    made-one s k cells h l m c f e =
+        let (t, p) = reads (sortTree tags values) cells k m c in
+        let tag : getD tags s 0 ≡ k = sym (read-at s h l .tag-is) ∙ (ap tagOf e ∙ t) in (
+          tag,
+          parts-one (sortTree tags values) (λ u. u) tags s n (λ a b i j. sort-one a b (omega arith) j) (λ a b i j x y q. q) (shapeOf k) 0 (cellsOf values s) cells
+              (rw tag at (at s h l .each-cell)) f (rw tag at (sym (read-at s h l .parts-are)) ∙ (ap partsOf e ∙ p)),
+        )

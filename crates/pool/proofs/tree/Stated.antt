@@ -40,7 +40,7 @@ module _ (m : ℕ) where
   unfolding countFits kindAt
   first-op k h l e = (rw (shape-op k h l), leb-true 1 m (rw (shape-op k h l) at e))
 
-  first-sort : (k : ℕ) → isTermTag k ≡ true → First k
+  pub first-sort : (k : ℕ) → isTermTag k ≡ true → First k
   unfolding countFits shapeOf kindAt pairKind
   first-sort k t c =
       by-term-tag First

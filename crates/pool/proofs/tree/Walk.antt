@@ -68,6 +68,11 @@ module _ (tags values : List ℕ) (n : ℕ) where
     unfolding firstBad firstHeader isBad
     place-fits t h tag = not-false _ (reach isBad n t h (omega arith) tag (suc t) 0 (omega arith) (omega arith) formed formed)
 
+    -- a walk up to m that finds nothing leaves no place below m at which the test holds
+    pub place-passes : (test : ℕ → Bool) (m : ℕ) → m ≤ n → firstHeader values m test ≡ Nothing → (t : ℕ) → t < m → (getD tags t 0 ≡ 0 → ⊥) → test t ≡ false
+    unfolding firstBad firstHeader isBad
+    place-passes test m l none t h tag = reach test m t h l tag (suc t) 0 (omega arith) (omega arith) formed none
+
     pub place-described : n ≤ length values → (t : ℕ) → t < n → (getD tags t 0 ≡ 0 → ⊥) → Described tags values t
     place-described whole t h tag = described tags values t n whole (header tags values n t (place-fits t h tag))
 
