@@ -1,0 +1,2 @@
+-- The laws of reading a call file.
+pub mod Laws

@@ -1,0 +1,63 @@
+-- Laws of `Format`, one for each way out of the functions of `call_file`.
+-- Assumes nothing.
+use Prim.Native.Nat.{ℕ, _+_, _*_, _≤_, _<_}
+use mathlib.Core.Path.{_≡_, refl, sym, _∙_}
+use mathlib.Core.Bool.{Bool, true, false, not, _&&_}
+use mathlib.Core.List.{List}
+use mathlib.Core.Logic.{⊎-elim}
+use lib.ListN.{length, getD, set}
+use lib.Seq.{getD-set-same, getD-set-other}
+use lib.Dec.{leb, eqb}
+use native.Mathlib.Omega.{arith}
+use native.Mathlib.Nat.{eq-or-lt-of-le}
+use borrow.Author.Tests.{lt-leb, le-leb, leb-true, eqb-true, not-false}
+use Rattle.calls.specs.Format.{wordAt, headOf, isWhole, Whole}
+use Rattle.calls.specs.declared.call_file.Head.{Head}
+
+-- ---- the lengths
+both : (a b : Bool) → a && b ≡ true → (a ≡ true) × (b ≡ true)
+both true b e = (refl, e)
+both false b e = let z : _≡_ {A = ℕ} 0 1 = cc in absurd (omega arith)
+
+module _ (bytes : List ℕ) (head : Head) where
+  pub whole-tags : 9000 < head .tags → false ≡ isWhole bytes head
+  unfolding isWhole
+  whole-tags h = rw (lt-leb _ _ h)
+
+  module _ (t : head .tags ≤ 9000) where
+    pub whole-values : 9000 < head .values → false ≡ isWhole bytes head
+    unfolding isWhole
+    whole-values h = rw (le-leb _ _ t, lt-leb _ _ h)
+
+    pub whole-size : head .values ≤ 9000 → eqb (length bytes) (4 * (8 + head .tags + head .values)) ≡ isWhole bytes head
+    unfolding isWhole
+    whole-size h = rw (le-leb _ _ t, le-leb _ _ h)
+
+  -- what a call may count on
+  pub whole-is : (w : Bool) → w ≡ isWhole bytes head → not w ≡ false → Whole bytes head
+  unfolding isWhole
+  whole-is w is e =
+      let (t, rest) = both (leb (head .tags) 9000) _ (sym is ∙ not-false w e) in
+      let (v, size) = both (leb (head .values) 9000) _ rest in
+      record { tags = leb-true _ _ t; values = leb-true _ _ v; size = eqb-true _ _ size }
+
+pub ruleset whole = (whole-tags, whole-values, whole-size)
+
+-- ---- words
+pub words-next : (bytes : List ℕ) (start i : ℕ) (out : List ℕ) (w : ℕ) → w ≡ wordAt bytes (start + i) → i < length out
+    → ((j : ℕ) → j < i → getD out j 0 ≡ wordAt bytes (start + j))
+    → (j : ℕ) → j < i + 1 → getD (set out i w) j 0 ≡ wordAt bytes (start + j)
+words-next bytes start i out w e h before j less =
+    ⊎-elim
+    (λ q. rw q (getD-set-same out i w 0 h ∙ e))
+    (λ l. getD-set-other out i j w 0 (λ q. omega arith) ∙ before j l)
+    (eq-or-lt-of-le (omega arith))
+
+-- ---- the first words
+pub head-read : (bytes : List ℕ) (k t v n p x t' v' n' x' : ℕ) → k ≡ wordAt bytes 0 → t' ≡ wordAt bytes 1 → v' ≡ wordAt bytes 2
+    → n' ≡ wordAt bytes 3 → p ≡ wordAt bytes 4 → x' ≡ wordAt bytes 6 → t ≡ t' → v ≡ v' → n ≡ n' → x ≡ x'
+    → _≡_ {A = Head} (record { call = k; tags = t; values = v; n = n; place = p; lent = x }) (headOf bytes)
+unfolding headOf
+head-read bytes k t v n p x t' v' n' x' z a b c d e f g h i = rw (f, g, h, i, z, a, b, c, d, e)
+
+pub ruleset head = head-read

@@ -1,0 +1,2 @@
+-- The laws of gathering a text.
+pub mod Laws

@@ -1,0 +1,154 @@
+// The public calls of the pool from a shell: a call file on standard input, or the call files that the
+// arguments name, each after a line with its name.
+mod call_file;
+mod report;
+
+ghost use Prim.Native.Nat.{_+_, _*_, _≤_};
+ghost use mathlib.Core.Path.{_≡_};
+ghost use lib.ListN.{length};
+ghost use Rattle.calls.specs.Format.{Whole};
+use call_file::Head;
+use libc::STDIN_FILENO;
+use libc::STDOUT_FILENO;
+use pool::TermPlace;
+
+fn bad_file() {
+    io::write_all(STDOUT_FILENO, b"bad file\n");
+}
+
+// Arrays for a file: their contracts give the length alone.
+fn cells() -> [u32; 9000]
+    ensures { λ r. ⌜ 9000 ≡ length r ⌝ }
+{
+    [0; 9000]
+}
+
+fn sevens() -> [u8; 9000]
+    ensures { λ r. ⌜ 9000 ≡ length r ⌝ }
+{
+    [7; 9000]
+}
+
+// One byte more than the longest call file has.
+fn file_bytes() -> [u8; 108033]
+    ensures { λ r. ⌜ 108033 ≡ length r ⌝ }
+{
+    [0; 108033]
+}
+
+// Call 1 on arrays of the file's lengths.
+fn sort_in(bytes: &[u8], head: Head, tags: &mut [u32], values: &mut [u32])
+    requires { ⌜ 4 * (8 + length (now tags) + length (now values)) ≤ length (now bytes) ⌝ }
+{
+    let t = tags.len();
+    call_file::read_words(bytes, 8, tags);
+    call_file::read_words(bytes, 8 + t, values);
+    let answer = pool::call::sort_of_term(tags, values, head.n, TermPlace(head.place));
+    report::answer(answer);
+    report::line(b"tags", tags);
+    report::line(b"values", values);
+}
+
+fn sort(bytes: &[u8], head: Head)
+    requires { ⌜ Whole (now bytes) head ⌝ }
+{
+    let t = head.tags;
+    let v = head.values;
+    let mut tags = cells();
+    let mut values = cells();
+    sort_in(bytes, head, &mut tags[..t], &mut values[..v]);
+}
+
+// Call 2 on arrays of the file's lengths.
+fn free_vars_in(bytes: &[u8], head: Head, tags: &mut [u32], values: &mut [u32], marks: &mut [u8])
+    requires { ⌜ 4 * (8 + length (now tags) + length (now values)) ≤ length (now bytes) ⌝ }
+{
+    let t = tags.len();
+    call_file::read_words(bytes, 8, tags);
+    call_file::read_words(bytes, 8 + t, values);
+    let answer = pool::call::free_vars(tags, values, head.n, TermPlace(head.place), marks);
+    report::answer(answer);
+    report::line(b"tags", tags);
+    report::line(b"values", values);
+    report::byte_line(b"marks", marks);
+}
+
+fn free_vars(bytes: &[u8], head: Head)
+    requires { ⌜ Whole (now bytes) head ⌝ }
+{
+    let t = head.tags;
+    let v = head.values;
+    let x = head.lent;
+    if 9000 < x {
+        bad_file();
+        return;
+    }
+    let mut tags = cells();
+    let mut values = cells();
+    let mut marks = sevens();
+    free_vars_in(
+        bytes,
+        head,
+        &mut tags[..t],
+        &mut values[..v],
+        &mut marks[..x],
+    );
+}
+
+// The calls that are built.
+fn run(bytes: &[u8]) {
+    if bytes.len() < 32 {
+        bad_file();
+        return;
+    }
+    let head = call_file::read_head(bytes);
+    if !call_file::is_whole(bytes, head) {
+        bad_file();
+        return;
+    }
+    let call = head.call;
+    match call {
+        1 => sort(bytes, head),
+        2 => free_vars(bytes, head),
+        _ => bad_file(),
+    }
+}
+
+fn run_file(fd: i32) {
+    let mut bytes = file_bytes();
+    let n = io::read_full(fd, &mut bytes);
+    run(&bytes[..n]);
+}
+
+// The call file that argument i names.
+fn replay_one(i: usize) {
+    let mut path = io::buffer();
+    let length = os::arg(i, &mut path);
+    io::write_all(STDOUT_FILENO, &path[..length]);
+    io::write_all(STDOUT_FILENO, b":\n");
+    let fd = os::open_read(&path[..length]);
+    if fd < 0 {
+        os::fail(&path[..length]);
+        bad_file();
+        return;
+    }
+    run_file(fd);
+    libc::close(fd);
+}
+
+fn replay(count: usize) {
+    let mut i = 1;
+    while i < count {
+        replay_one(i);
+        i += 1;
+    }
+}
+
+fn main() {
+    let count = os::arg_count();
+    if count < 2 {
+        run_file(STDIN_FILENO);
+        return;
+    }
+    replay(count);
+}
