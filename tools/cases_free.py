@@ -77,9 +77,9 @@ def others():
     yield accepted('free-repeated-operand', p, p.op('And', p.x, p.x, p.op('Or', p.x, p.y)), [p.x, p.y])
     p = Names()
     yield accepted('free-of-a-part', p, p.op('Not', p.x), [p.x])
-    p = Names()
-    last = p.op('And', *([p.x] * 4000))
-    yield accepted('free-4000-operands', p, last, [p.x])
+    p = Pool()
+    x = p.var(X)
+    yield accepted('free-8186-operands', p, p.op('And', *([x] * 8186)), [x])  # all 8,192 cells
 
 
 def chains():
