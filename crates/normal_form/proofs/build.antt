@@ -1,0 +1,3 @@
+-- Laws of putting terms into the pool.
+pub mod Laws
+pub mod Building

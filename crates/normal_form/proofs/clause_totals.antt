@@ -1,0 +1,2 @@
+-- Laws of the totals.
+pub mod Laws

@@ -1,0 +1,2 @@
+-- Laws of the clause list.
+pub mod Laws

@@ -1,0 +1,2 @@
+-- Laws of the empty `or`.
+pub mod Laws

@@ -1,0 +1,2 @@
+-- Laws of how a term is read.
+pub mod Laws

@@ -1,0 +1,118 @@
+-- The public calls of this crate: which refusal comes first, what is accepted, and what the lent arrays hold at the end.
+-- 01, "What stops a step": "Other public calls on a term run 30, 14, 15, 16, 17, then 31, 13, 32 where they apply."
+-- Rests on pool's Check, and on Built and Clauses.
+use Prim.Native.Nat.{ℕ, _+_, _-_}
+use mathlib.Core.Path.{_≡_}
+use mathlib.Core.Bool.{Bool, true, false, not, _&&_, cond}
+use mathlib.Core.List.{List, [], _∷_, _++_}
+use lib.ListN.{length, take, replicate}
+use lib.Dec.{leb, eqb}
+use Rattle.pool.specs.Answer.{accepted, badArrays}
+use Rattle.pool.specs.Check.{andThen, checkTerm}
+use Rattle.headers.specs.Description.{zeroFrom}
+use Rattle.pool.specs.declared.Answer.{Answer}
+use Rattle.normal_form.specs.Normal.{Normal, lit, nmany, nall}
+use Rattle.normal_form.specs.Clauses.{cnf, emptyOr, literalTotal}
+use Rattle.normal_form.specs.Built.{Pool, Placed, count, normalForm, takenOut, normalAt}
+
+-- 31: the new terms take the count past the arrays or 8,192
+abbrev pub noRoom : Answer
+noRoom = record { code = 31; first = 0; second = 0 }
+
+-- 13: an empty `or` reached
+abbrev pub emptyOrReached : Answer
+emptyOrReached = record { code = 13; first = 0; second = 0 }
+
+-- 32: over 2,048 clauses or 8,192 literals
+abbrev pub tooManyClauses : Answer
+tooManyClauses = record { code = 32; first = 0; second = 0 }
+
+-- the used cells
+abbrev pub poolOf : List ℕ → List ℕ → ℕ → Pool
+poolOf tags values n = record { tags = take n tags; values = take n values }
+
+unfoldable pub fits : Pool → ℕ → Bool
+fits q size = leb (count q) size && leb (count q) 8192
+
+-- the used cells, and 0 in every cell past them
+unfoldable pub padded : List ℕ → ℕ → List ℕ
+padded used size = used ++ replicate (size - length used) 0
+
+-- what a call that builds leaves in an array: "30 changes nothing"; accepted, the new terms are kept; refused, zeroes past N
+unfoldable pub arrayLeft : Answer → List ℕ → ℕ → List ℕ → List ℕ
+arrayLeft a cells n used = cond (eqb (a .code) 30) cells (cond (eqb (a .code) 0) (padded used (length cells)) (zeroFrom n cells))
+
+-- ---- a clause list as two arrays of numbers
+-- every literal of a form that is read back from a pool is a place
+abbrev pub literalPlace : Normal (List ℕ) ℕ → ℕ
+literalPlace (lit b x) = x
+literalPlace (nmany b ns) = 0
+literalPlace (nall b vs m) = 0
+
+-- the literal places, clause after clause
+abbrev pub clausePlaces : List (Normal (List ℕ) ℕ) → List ℕ
+clausePlaces [] = []
+clausePlaces (l ∷ c) = literalPlace l ∷ clausePlaces c
+
+abbrev pub literalPlaces : List (List (Normal (List ℕ) ℕ)) → List ℕ
+literalPlaces [] = []
+literalPlaces (c ∷ cs) = clausePlaces c ++ literalPlaces cs
+
+-- "clause ends (literals up to each clause's last)", after m literals
+abbrev pub clauseEnds : ℕ → List (List (Normal (List ℕ) ℕ)) → List ℕ
+clauseEnds m [] = []
+clauseEnds m (c ∷ cs) = (m + length c) ∷ clauseEnds (m + length c) cs
+
+-- ---- the normal form
+module _ (tags values rules : List ℕ) (n t : ℕ) where
+  abbrev pub normalPlace : Bool → Placed
+  normalPlace polarity = normalForm (poolOf tags values n) t polarity
+
+  -- "the first gives its place and the new count"
+  unfoldable pub normalAnswer : Bool → Answer
+  normalAnswer polarity =
+      andThen (checkTerm tags values rules n t)
+      (cond (fits (normalPlace polarity .pool) (length tags))
+      (accepted (normalPlace polarity .place) (count (normalPlace polarity .pool)))
+      noRoom)
+
+  pub record NormalForm (polarity : Bool) (r : Answer) (tags′ values′ : List ℕ) : Type 0 where
+    pub answer : r ≡ normalAnswer polarity
+    pub tags-are : tags′ ≡ arrayLeft r tags n (normalPlace polarity .pool .tags)
+    pub values-are : values′ ≡ arrayLeft r values n (normalPlace polarity .pool .values)
+
+  -- ---- the clause list: that of the normal form at true polarity with foralls taken out
+  abbrev pub clausal : Placed
+  clausal = takenOut (normalPlace true .pool) (normalPlace true .place)
+
+  abbrev pub clausalForm : Normal (List ℕ) ℕ
+  clausalForm = normalAt (clausal .pool) (clausal .place)
+
+  -- l and e are the lengths of the two lent arrays; "its two totals": clauses, then literals
+  unfoldable pub clauseAnswer : ℕ → ℕ → Answer
+  clauseAnswer l e =
+      cond (leb 8192 l && leb 2048 e)
+      (andThen (checkTerm tags values rules n t)
+      (cond (fits (clausal .pool) (length tags))
+      (cond (emptyOr clausalForm) emptyOrReached
+      (cond (leb (length (cnf clausalForm)) 2048 && leb (literalTotal (cnf clausalForm)) 8192)
+      (accepted (length (cnf clausalForm)) (literalTotal (cnf clausalForm)))
+      tooManyClauses))
+      noRoom))
+      badArrays
+
+  -- what the call leaves in a lent array: unchanged at 30; accepted, the list and zeroes; refused otherwise, all zeroes
+  unfoldable pub listLeft : Answer → List ℕ → List ℕ → List ℕ
+  listLeft a lent list = cond (eqb (a .code) 30) lent (cond (eqb (a .code) 0) (padded list (length lent)) (replicate (length lent) 0))
+
+  -- "Accepted, .. the second its two totals and the new count"; refused, 0
+  unfoldable pub countLeft : Answer → ℕ
+  countLeft a = cond (eqb (a .code) 0) (count (clausal .pool)) 0
+
+  pub record ClauseList (literals ends : List ℕ) (r : Answer) (m : ℕ) (tags′ values′ literals′ ends′ : List ℕ) : Type 0 where
+    pub answer : r ≡ clauseAnswer (length literals) (length ends)
+    pub new-count : m ≡ countLeft r
+    pub tags-are : tags′ ≡ arrayLeft r tags n (clausal .pool .tags)
+    pub values-are : values′ ≡ arrayLeft r values n (clausal .pool .values)
+    pub literals-are : literals′ ≡ listLeft r literals (literalPlaces (cnf clausalForm))
+    pub ends-are : ends′ ≡ listLeft r ends (clauseEnds 0 (cnf clausalForm))
