@@ -19,8 +19,8 @@ use Rattle.cells.proofs.Cells.{same-refl}
 use Rattle.cells.proofs.Walks.{first-here, first-below}
 use Rattle.headers.proofs.description.Fills.{Fills, filled, more, orElse, fills-grown}
 use Rattle.headers.proofs.description.Growth.{Same, find-grown}
-use Rattle.normal_form.specs.Normal.{Normal, Normals, lit, nmany, nall, nnil, ncons}
-use Rattle.normal_form.specs.Built.{Pool, Placed, PlacedAll, count, extend, placeAt, put, tagOfMany, tagOfQuantifier, intern, interns}
+use Rattle.formulas.specs.Normal.{Normal, Normals, lit, nmany, nall, nnil, ncons}
+use Rattle.formulas.specs.Built.{Pool, Placed, PlacedAll, count, extend, placeAt, put, tagOfMany, tagOfQuantifier, intern, interns}
 use Rattle.normal_form.specs.Walk.{Stands, StandAll}
 
 -- a pool whose headers with their cells fill it

@@ -1,10 +1,1 @@
-pub mod Over
-pub mod Leaves
-pub mod NormalTruth
-pub mod Totals
-pub mod Coincide
-pub mod ClauseTruth
-pub mod Mapped
 pub mod Interning
-pub mod Reading
-pub mod ClauseAt

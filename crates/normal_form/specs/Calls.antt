@@ -11,21 +11,14 @@ use Rattle.pool.specs.Answer.{accepted, badArrays}
 use Rattle.pool.specs.Check.{andThen, checkTerm}
 use Rattle.headers.specs.Description.{zeroFrom}
 use Rattle.pool.specs.declared.Answer.{Answer}
-use Rattle.normal_form.specs.Normal.{Normal, lit, nmany, nall}
-use Rattle.normal_form.specs.Clauses.{cnf, emptyOr, literalTotal}
-use Rattle.normal_form.specs.Built.{Pool, Placed, count, normalForm, takenOut, normalAt}
+use Rattle.formulas.specs.Normal.{Normal}
+use Rattle.clauses.specs.Lists.{emptyOrReached, tooManyClauses, padded, literalPlaces, clauseEnds}
+use Rattle.formulas.specs.Clauses.{cnf, emptyOr, literalTotal}
+use Rattle.formulas.specs.Built.{Pool, Placed, count, normalForm, takenOut, normalAt}
 
 -- 31: the new terms take the count past the arrays or 8,192
 abbrev pub noRoom : Answer
 noRoom = record { code = 31; first = 0; second = 0 }
-
--- 13: an empty `or` reached
-abbrev pub emptyOrReached : Answer
-emptyOrReached = record { code = 13; first = 0; second = 0 }
-
--- 32: over 2,048 clauses or 8,192 literals
-abbrev pub tooManyClauses : Answer
-tooManyClauses = record { code = 32; first = 0; second = 0 }
 
 -- the used cells
 abbrev pub poolOf : List ℕ → List ℕ → ℕ → Pool
@@ -34,34 +27,9 @@ poolOf tags values n = record { tags = take n tags; values = take n values }
 unfoldable pub fits : Pool → ℕ → Bool
 fits q size = leb (count q) size && leb (count q) 8192
 
--- the used cells, and 0 in every cell past them
-unfoldable pub padded : List ℕ → ℕ → List ℕ
-padded used size = used ++ replicate (size - length used) 0
-
 -- what a call that builds leaves in an array: "30 changes nothing"; accepted, the new terms are kept; refused, zeroes past N
 unfoldable pub arrayLeft : Answer → List ℕ → ℕ → List ℕ → List ℕ
 arrayLeft a cells n used = cond (eqb (a .code) 30) cells (cond (eqb (a .code) 0) (padded used (length cells)) (zeroFrom n cells))
-
--- ---- a clause list as two arrays of numbers
--- every literal of a form that is read back from a pool is a place
-abbrev pub literalPlace : Normal (List ℕ) ℕ → ℕ
-literalPlace (lit b x) = x
-literalPlace (nmany b ns) = 0
-literalPlace (nall b vs m) = 0
-
--- the literal places, clause after clause
-abbrev pub clausePlaces : List (Normal (List ℕ) ℕ) → List ℕ
-clausePlaces [] = []
-clausePlaces (l ∷ c) = literalPlace l ∷ clausePlaces c
-
-abbrev pub literalPlaces : List (List (Normal (List ℕ) ℕ)) → List ℕ
-literalPlaces [] = []
-literalPlaces (c ∷ cs) = clausePlaces c ++ literalPlaces cs
-
--- "clause ends (literals up to each clause's last)", after m literals
-abbrev pub clauseEnds : ℕ → List (List (Normal (List ℕ) ℕ)) → List ℕ
-clauseEnds m [] = []
-clauseEnds m (c ∷ cs) = (m + length c) ∷ clauseEnds (m + length c) cs
 
 -- ---- the normal form
 module _ (tags values rules : List ℕ) (n t : ℕ) where

@@ -1,14 +1,2 @@
-pub mod Formula
-pub mod Normal
-pub mod Clauses
-pub mod Skeleton
-pub mod Truth
-pub mod Totals
-pub mod Cases
-pub mod TruthCases
-pub mod Mapped
-pub mod Built
 pub mod Calls
 pub mod Walk
-pub mod ClauseWalk
-pub mod ClauseList

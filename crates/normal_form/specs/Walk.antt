@@ -1,19 +1,19 @@
 -- What the walkers that build promise each other: what is built, what the memo may hold, and what a refusal leaves.
 -- The memo is no part of a public contract.
 -- Rests on Built and Calls.
-use Prim.Native.Nat.{ℕ, suc, _+_, _-_, _/_, _%_, _≤_, _<_}
+use Prim.Native.Nat.{ℕ, suc, _+_, _-_, _≤_, _<_}
 use mathlib.Core.Path.{_≡_}
-use mathlib.Core.Bool.{Bool, true, false, not}
+use mathlib.Core.Bool.{Bool, true, false, not, cond}
 use mathlib.Core.List.{List, map}
 use lib.ListN.{length, getD, take, drop}
-use lib.Dec.{eqb}
+use lib.Dec.{ltb}
 use Rattle.cells.specs.Cell.{operandsOf}
 use Rattle.headers.proofs.description.Fills.{Fills}
 use Rattle.normal_form.specs.declared.build.Built.{Built}
 use Rattle.normal_form.specs.declared.build.Built.the-variants.{At, Full}
-use Rattle.normal_form.specs.Normal.{Normal, Normals, pair, nnf}
-use Rattle.normal_form.specs.Formula.{form}
-use Rattle.normal_form.specs.Built.{Pool, Placed, PlacedAll, count, intern, interns, normalsOf}
+use Rattle.formulas.specs.Normal.{Normal, Normals, pair, nnf, prenex}
+use Rattle.formulas.specs.Formula.{form}
+use Rattle.formulas.specs.Built.{Pool, Placed, count, intern, interns, normalsOf, normalAt}
 use Rattle.normal_form.specs.Calls.{poolOf, fits}
 
 -- arrays of one length whose first n cells are filled by headers with their cells; the walk reads the first lim of them
@@ -55,10 +55,10 @@ pub record Cells (cells : List ℕ) (k : ℕ) (scratch : List ℕ) : Type 0 wher
   pub are : take k scratch ≡ cells
 
 -- ---- the memo
--- its index of a term and a polarity
+-- its index of a term and a polarity: the forms at true polarity come first
 unfoldable pub slotOf : ℕ → Bool → ℕ
-slotOf t true = t + t + 1
-slotOf t false = t + t
+slotOf t true = t
+slotOf t false = 8192 + t
 
 -- where it has the forms of these terms
 abbrev pub placesIn : List ℕ → Bool → List ℕ → List ℕ
@@ -94,42 +94,57 @@ pub record Builds (formAt : ℕ → Normal (List ℕ) ℕ) (lim : ℕ) (tags val
   pub puts : Puts lim tags values o r tags′ values′
   pub memo-is : Remembers formAt memo r tags′ values′ memo′
 
--- ---- the negation normal form, of the first lim cells
-unfoldable pub normalOf : ℕ → List ℕ → List ℕ → ℕ → Bool → Normal (List ℕ) ℕ
-normalOf lim tags values t polarity = nnf (form (take lim tags) (take lim values) t) polarity
+-- ---- the two walks over the first lim cells
+-- the negation normal form of a term, or the taken-out form of a term in normal form
+pub data Walk : Type 0 where
+  normal : Walk
+  taken-out : Walk
+
+-- the form that a walk builds of the term at t; a taken-out form has no polarity
+unfoldable pub formOf : Walk → ℕ → List ℕ → List ℕ → ℕ → Bool → Normal (List ℕ) ℕ
+formOf normal lim tags values t polarity = nnf (form (take lim tags) (take lim values) t) polarity
+formOf taken-out lim tags values t polarity = prenex (normalAt (poolOf tags values lim) t)
+
+abbrev pub normalOf : ℕ → List ℕ → List ℕ → ℕ → Bool → Normal (List ℕ) ℕ
+normalOf lim tags values t polarity = formOf normal lim tags values t polarity
 
 abbrev pub runOf : ℕ → List ℕ → List ℕ → ℕ → List ℕ
 runOf lim tags values t = operandsOf (take lim tags) (take lim values) t
 
 -- the form of the memo's entry i
-unfoldable pub entryForm : ℕ → List ℕ → List ℕ → ℕ → Normal (List ℕ) ℕ
-entryForm lim tags values i = normalOf lim tags values (i / 2) (eqb (i % 2) 1)
+unfoldable pub entryForm : Walk → ℕ → List ℕ → List ℕ → ℕ → Normal (List ℕ) ℕ
+entryForm w lim tags values i = cond (ltb i 8192) (formOf w lim tags values i true) (formOf w lim tags values (i - 8192) false)
+
+-- how many entries a walk uses: a taken-out form is kept at true polarity alone
+abbrev pub roomFor : Walk → ℕ
+roomFor normal = 16384
+roomFor taken-out = 8192
 
 -- what the walkers start from
-pub record Ready (lim n : ℕ) (tags values memo : List ℕ) : Type 0 where
+pub record Ready (w : Walk) (lim n : ℕ) (tags values memo : List ℕ) : Type 0 where
   pub state : State lim n tags values
-  pub room : 16384 ≤ length memo
-  pub right : Right (entryForm lim tags values) (poolOf tags values n) memo
+  pub room : roomFor w ≤ length memo
+  pub right : Right (entryForm w lim tags values) (poolOf tags values n) memo
 
 -- a form is put into the pool of n cells
-abbrev pub Formed : ℕ → ℕ → List ℕ → List ℕ → List ℕ → Normal (List ℕ) ℕ → Built → List ℕ → List ℕ → List ℕ → Type 0
-Formed lim n tags values memo f r tags′ values′ memo′ =
-    Builds (entryForm lim tags values) lim tags values memo (intern f (poolOf tags values n)) r tags′ values′ memo′
+abbrev pub Formed : Walk → ℕ → ℕ → List ℕ → List ℕ → List ℕ → Normal (List ℕ) ℕ → Built → List ℕ → List ℕ → List ℕ → Type 0
+Formed w lim n tags values memo f r tags′ values′ memo′ =
+    Builds (entryForm w lim tags values) lim tags values memo (intern f (poolOf tags values n)) r tags′ values′ memo′
 
 -- the form of the term at t, which the memo then has
-pub record Normed (lim n : ℕ) (tags values memo : List ℕ) (t : ℕ) (polarity : Bool) (r : Built) (tags′ values′ memo′ : List ℕ) : Type 0 where
-  pub formed : Formed lim n tags values memo (normalOf lim tags values t polarity) r tags′ values′ memo′
+pub record Known (w : Walk) (lim n : ℕ) (tags values memo : List ℕ) (t : ℕ) (polarity : Bool) (r : Built) (tags′ values′ memo′ : List ℕ) : Type 0 where
+  pub formed : Formed w lim n tags values memo (formOf w lim tags values t polarity) r tags′ values′ memo′
   pub known : (p m : ℕ) → r ≡ At p m → getD memo′ (slotOf t polarity) 0 ≡ suc p
 
 -- the forms of the operands of the term at t from i on, whose places the memo then has
-abbrev pub operandForms : ℕ → List ℕ → List ℕ → ℕ → Bool → ℕ → Normals (List ℕ) ℕ
-operandForms lim tags values t polarity i = normalsOf (λ u. normalOf lim tags values u polarity) (drop i (runOf lim tags values t))
+abbrev pub operandForms : Walk → ℕ → List ℕ → List ℕ → ℕ → Bool → ℕ → Normals (List ℕ) ℕ
+operandForms w lim tags values t polarity i = normalsOf (λ u. formOf w lim tags values u polarity) (drop i (runOf lim tags values t))
 
-pub record OperandsNormed (lim n : ℕ) (tags values memo : List ℕ) (t : ℕ) (polarity : Bool) (i : ℕ) (r : Built) (tags′ values′ memo′ : List ℕ) : Type 0 where
-  pub builds : Builds (entryForm lim tags values) lim tags values memo
-      (record { pool = interns (operandForms lim tags values t polarity i) (poolOf tags values n) .pool; place = 0 }) r tags′ values′ memo′
+pub record OperandsKnown (w : Walk) (lim n : ℕ) (tags values memo : List ℕ) (t : ℕ) (polarity : Bool) (i : ℕ) (r : Built) (tags′ values′ memo′ : List ℕ) : Type 0 where
+  pub builds : Builds (entryForm w lim tags values) lim tags values memo
+      (record { pool = interns (operandForms w lim tags values t polarity i) (poolOf tags values n) .pool; place = 0 }) r tags′ values′ memo′
   pub places : (p m : ℕ) → r ≡ At p m
-      → interns (operandForms lim tags values t polarity i) (poolOf tags values n) .places ≡ placesIn memo′ polarity (drop i (runOf lim tags values t))
+      → interns (operandForms w lim tags values t polarity i) (poolOf tags values n) .places ≡ placesIn memo′ polarity (drop i (runOf lim tags values t))
 
 -- every operand of the term at t stands before it
 pub record Before (lim : ℕ) (tags values : List ℕ) (t : ℕ) : Type 0 where
@@ -146,7 +161,7 @@ pub record AllBelow (lim a b c d : ℕ) : Type 0 where
 abbrev pub twoPairs : Bool → (ℕ → Bool → Normal (List ℕ) ℕ) → ℕ → ℕ → ℕ → Bool → ℕ → Normal (List ℕ) ℕ
 twoPairs p f a b c q d = pair p (pair (not p) (f a (not p)) (f b p)) (pair (not p) (f c q) (f d p))
 
--- the normal form of the term at t, in arrays whose first n cells are a pool
+-- the form of a term, o, in arrays whose first n cells are a pool
 abbrev pub NormalBuilt : ℕ → List ℕ → List ℕ → Placed → Built → List ℕ → List ℕ → Type 0
 NormalBuilt n tags values o (At p m) tags′ values′ = Holds n o p m tags′ values′ × (fits (o .pool) (length tags) ≡ true)
 NormalBuilt n tags values o Full tags′ values′ = Left n tags values tags′ values′ × (fits (o .pool) (length tags) ≡ false)

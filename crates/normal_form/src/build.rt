@@ -1,7 +1,7 @@
 // Putting terms into the pool.
 use pool::description::Added;
 use pool::description::add;
-ghost use Rattle.normal_form.specs.Built.{put};
+ghost use Rattle.formulas.specs.Built.{put};
 ghost use Rattle.normal_form.specs.Calls.{poolOf};
 ghost use Rattle.normal_form.specs.Walk.{State, Puts};
 

@@ -3,8 +3,8 @@
 // The scratch holds the cells of one new term at a time.
 use crate::build::Built;
 use crate::build::put;
-use crate::view::View;
-use crate::view::view_of;
+use formulas::view::View;
+use formulas::view::view_of;
 use pool::TermPlace;
 use pool::run::cell;
 use pool::run::operands;
@@ -13,23 +13,23 @@ ghost use mathlib.Core.Bool.{not};
 ghost use mathlib.Core.List.{_∷_, []};
 ghost use Prim.Native.Nat.{_-_, _≤_, _<_};
 ghost use lib.ListN.{length, getD, drop};
-ghost use Rattle.normal_form.specs.Normal.{flip, lit, pair};
-ghost use Rattle.normal_form.specs.Built.{put, tagOfMany, tagOfQuantifier, intern, normalForm};
+ghost use Rattle.formulas.specs.Normal.{flip, lit, pair};
+ghost use Rattle.formulas.specs.Built.{put, tagOfMany, tagOfQuantifier, intern, normalForm};
 ghost use Rattle.normal_form.specs.Calls.{poolOf};
-ghost use Rattle.normal_form.specs.Walk.{State, Puts, Cells, slotOf, placesIn, normalOf, runOf, Ready, Formed, Normed, OperandsNormed, Before, AllBelow, twoPairs, NormalBuilt};
+ghost use Rattle.normal_form.specs.Walk.{State, Puts, Cells, slotOf, placesIn, normal, normalOf, runOf, Ready, Formed, Known, OperandsKnown, Before, AllBelow, twoPairs, NormalBuilt};
 
 // The place of a term, and a polarity.
 struct Signed(u32, bool);
 
-// The memo's index of a term and a polarity.
-fn slot(t: u32, polarity: bool) -> usize
+// The memo's index of a term and a polarity: the forms at true polarity come first.
+pub(crate) fn slot(t: u32, polarity: bool) -> usize
     ensures { λ r. ⌜ r ≡ slotOf t polarity ⌝ }
 {
     let at = t as usize;
     if polarity {
-        return at + at + 1;
+        return at;
     }
-    at + at
+    8192 + at
 }
 
 // Where the memo has the form of a term, and 0 where it has none.
@@ -105,7 +105,7 @@ fn gather_pairs(run: &[u32], body: u32, scratch: &mut [u32]) -> usize
 }
 
 // Puts the connective of the term at t over its operands' forms, which the memo has.
-fn put_many(
+pub(crate) fn put_many(
     tags: &mut [u32],
     values: &mut [u32],
     memo: &[u32],
@@ -183,10 +183,10 @@ fn negation_normal_form(
     t: u32,
     polarity: bool,
 ) -> Built
-    requires { ⌜ Ready lim n (now tags) (now values) (now memo) ⌝ }
+    requires { ⌜ Ready normal lim n (now tags) (now values) (now memo) ⌝ }
     requires { ⌜ 8192 ≤ length (now scratch) ⌝ }
     requires { ⌜ t < lim ⌝ }
-    ensures { λ r. ⌜ Normed lim n (now (tags .entry)) (now (values .entry)) (now (memo .entry)) t polarity r (now (tags .exit)) (now (values .exit)) (now (memo .exit)) ⌝ }
+    ensures { λ r. ⌜ Known normal lim n (now (tags .entry)) (now (values .entry)) (now (memo .entry)) t polarity r (now (tags .exit)) (now (values .exit)) (now (memo .exit)) ⌝ }
 {
     let i = slot(t, polarity);
     let known = memo[i];
@@ -211,10 +211,10 @@ fn expand(
     t: u32,
     polarity: bool,
 ) -> Built
-    requires { ⌜ Ready lim n (now tags) (now values) (now memo) ⌝ }
+    requires { ⌜ Ready normal lim n (now tags) (now values) (now memo) ⌝ }
     requires { ⌜ 8192 ≤ length (now scratch) ⌝ }
     requires { ⌜ t < lim ⌝ }
-    ensures { λ r. ⌜ Formed lim n (now (tags .entry)) (now (values .entry)) (now (memo .entry)) (normalOf lim (now (tags .entry)) (now (values .entry)) t polarity) r (now (tags .exit)) (now (values .exit)) (now (memo .exit)) ⌝ }
+    ensures { λ r. ⌜ Formed normal lim n (now (tags .entry)) (now (values .entry)) (now (memo .entry)) (normalOf lim (now (tags .entry)) (now (values .entry)) t polarity) r (now (tags .exit)) (now (values .exit)) (now (memo .exit)) ⌝ }
 {
     let view = view_of(&tags[..lim], &values[..lim], TermPlace(t));
     match view {
@@ -269,11 +269,11 @@ fn operand_forms(
     i: usize,
     polarity: bool,
 ) -> Built
-    requires { ⌜ Ready lim n (now tags) (now values) (now memo) ⌝ }
+    requires { ⌜ Ready normal lim n (now tags) (now values) (now memo) ⌝ }
     requires { ⌜ 8192 ≤ length (now scratch) ⌝ }
     requires { ⌜ t < lim ⌝ }
     requires { ⌜ Before lim (now tags) (now values) t ⌝ }
-    ensures { λ r. ⌜ OperandsNormed lim n (now (tags .entry)) (now (values .entry)) (now (memo .entry)) t polarity i r (now (tags .exit)) (now (values .exit)) (now (memo .exit)) ⌝ }
+    ensures { λ r. ⌜ OperandsKnown normal lim n (now (tags .entry)) (now (values .entry)) (now (memo .entry)) t polarity i r (now (tags .exit)) (now (values .exit)) (now (memo .exit)) ⌝ }
 {
     let run = operands(&tags[..lim], &values[..lim], TermPlace(t));
     if run.len() <= i {
@@ -299,11 +299,11 @@ fn pair_of(
     a: Signed,
     b: u32,
 ) -> Built
-    requires { ⌜ Ready lim n (now tags) (now values) (now memo) ⌝ }
+    requires { ⌜ Ready normal lim n (now tags) (now values) (now memo) ⌝ }
     requires { ⌜ 8192 ≤ length (now scratch) ⌝ }
     requires { ⌜ a .0 < lim ⌝ }
     requires { ⌜ b < lim ⌝ }
-    ensures { λ r. ⌜ Formed lim n (now (tags .entry)) (now (values .entry)) (now (memo .entry)) (pair (not polarity) (normalOf lim (now (tags .entry)) (now (values .entry)) (a .0) (a .1)) (normalOf lim (now (tags .entry)) (now (values .entry)) b polarity)) r (now (tags .exit)) (now (values .exit)) (now (memo .exit)) ⌝ }
+    ensures { λ r. ⌜ Formed normal lim n (now (tags .entry)) (now (values .entry)) (now (memo .entry)) (pair (not polarity) (normalOf lim (now (tags .entry)) (now (values .entry)) (a .0) (a .1)) (normalOf lim (now (tags .entry)) (now (values .entry)) b polarity)) r (now (tags .exit)) (now (values .exit)) (now (memo .exit)) ⌝ }
 {
     let Built::At(p, m) = negation_normal_form(tags, values, memo, scratch, lim, n, a.0, a.1) else {
         return Built::Full;
@@ -330,10 +330,10 @@ fn two_pairs(
     c: Signed,
     d: u32,
 ) -> Built
-    requires { ⌜ Ready lim n (now tags) (now values) (now memo) ⌝ }
+    requires { ⌜ Ready normal lim n (now tags) (now values) (now memo) ⌝ }
     requires { ⌜ 8192 ≤ length (now scratch) ⌝ }
     requires { ⌜ AllBelow lim a b (c .0) d ⌝ }
-    ensures { λ r. ⌜ Formed lim n (now (tags .entry)) (now (values .entry)) (now (memo .entry)) (twoPairs polarity (λ t p. normalOf lim (now (tags .entry)) (now (values .entry)) t p) a b (c .0) (c .1) d) r (now (tags .exit)) (now (values .exit)) (now (memo .exit)) ⌝ }
+    ensures { λ r. ⌜ Formed normal lim n (now (tags .entry)) (now (values .entry)) (now (memo .entry)) (twoPairs polarity (λ t p. normalOf lim (now (tags .entry)) (now (values .entry)) t p) a b (c .0) (c .1) d) r (now (tags .exit)) (now (values .exit)) (now (memo .exit)) ⌝ }
 {
     let first = Signed(a, !polarity);
     let Built::At(p, m) = pair_of(tags, values, memo, scratch, lim, n, polarity, first, b) else {

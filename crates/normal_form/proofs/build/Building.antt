@@ -10,8 +10,8 @@ use native.Mathlib.Omega.{arith}
 use native.Mathlib.Decide.{ℕ-discrete}
 use Rattle.normal_form.specs.declared.build.Built.{Built}
 use Rattle.normal_form.specs.declared.build.Built.the-variants.{At, Full}
-use Rattle.normal_form.specs.Normal.{Normal}
-use Rattle.normal_form.specs.Built.{Pool, Placed, count, put, intern}
+use Rattle.formulas.specs.Normal.{Normal}
+use Rattle.formulas.specs.Built.{Pool, Placed, count, put, intern}
 use Rattle.normal_form.specs.Calls.{poolOf, fits}
 use Rattle.normal_form.specs.Walk.{State, Left, Holds, Puts, Stands, Right, Keeps, Noted, Remembers, Builds}
 use Rattle.normal_form.proofs.Interning.{Good, GoesOn, stands-still, intern-stands}

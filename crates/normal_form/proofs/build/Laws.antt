@@ -22,7 +22,7 @@ use Rattle.headers.proofs.description.Fills.{Fills, filled, orElse, fills-grown
 use Rattle.headers.proofs.description.Growth.{Same, find-grown, new-grown}
 use Rattle.normal_form.specs.declared.build.Built.{Built}
 use Rattle.normal_form.specs.declared.build.Built.the-variants.{At, Full}
-use Rattle.normal_form.specs.Built.{Pool, Placed, count, extend, placeAt, put}
+use Rattle.formulas.specs.Built.{Pool, Placed, count, extend, placeAt, put}
 use Rattle.normal_form.specs.Calls.{poolOf, fits}
 use Rattle.normal_form.specs.Walk.{State, Left, Holds, Outcome, Puts}
 use Rattle.normal_form.proofs.Interning.{Good, extend-count}

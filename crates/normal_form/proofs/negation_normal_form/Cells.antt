@@ -1,6 +1,6 @@
 -- Laws of the memo's indices, of gathering cells in the scratch, and of one new term.
 -- Assumes nothing.
-use Prim.Native.Nat.{ℕ, zero, suc, _+_, _-_, _/_, _%_, _≤_, _<_}
+use Prim.Native.Nat.{ℕ, suc, _+_, _-_, _≤_, _<_}
 use mathlib.Core.Path.{_≡_, refl, sym, ap, _∙_}
 use mathlib.Core.Bool.{Bool, true, false}
 use mathlib.Core.List.{List, [], _∷_, _++_, map}
@@ -12,19 +12,19 @@ use native.Mathlib.Numerals.{add-one}
 use Rattle.cells.specs.ByPlace.{by-test}
 use Rattle.cells.specs.Cell.{cellsOf, operandsOf}
 use Rattle.normal_form.specs.declared.build.Built.{Built}
-use Rattle.normal_form.specs.declared.build.Built.the-variants.{At, Full}
-use Rattle.normal_form.specs.Normal.{lit, flip}
-use Rattle.normal_form.specs.Built.{put, tagOfMany, tagOfQuantifier, intern}
+use Rattle.normal_form.specs.declared.build.Built.the-variants.{At}
+use Rattle.formulas.specs.Normal.{lit, flip}
+use Rattle.formulas.specs.Built.{put, tagOfMany, tagOfQuantifier, intern}
 use Rattle.normal_form.specs.Calls.{poolOf}
-use Rattle.normal_form.specs.Walk.{State, Left, Holds, Puts, Cells, slotOf, placesIn, runOf}
+use Rattle.normal_form.specs.Walk.{State, Puts, Cells, slotOf, placesIn, runOf}
 
 -- ---- the memo's index
 module _ (t : ℕ) (polarity : Bool) where
-  pub slot-true : polarity ≡ true → t + t + 1 ≡ slotOf t polarity
+  pub slot-true : polarity ≡ true → t ≡ slotOf t polarity
   unfolding slotOf
   slot-true e = rw e
 
-  pub slot-false : polarity ≡ false → t + t ≡ slotOf t polarity
+  pub slot-false : polarity ≡ false → 8192 + t ≡ slotOf t polarity
   unfolding slotOf
   slot-false e = rw e
 

@@ -1,20 +1,20 @@
 -- Laws of a term's normal form, one for each way that a term is read; and the operands' places, which stand before the term.
 -- Assumes nothing.
 use Prim.Native.Nat.{ℕ, zero, suc, _<_}
-use mathlib.Core.Path.{_≡_, refl, sym, ap, ap₂, _∙_}
+use mathlib.Core.Path.{_≡_, refl, _∙_}
 use mathlib.Core.Bool.{Bool, true, false, not, _&&_, cond}
 use mathlib.Core.List.{List, [], _∷_}
 use lib.ListN.{length, getD, drop}
 use lib.Dec.{ltb, eqb}
 use native.Mathlib.Omega.{arith}
 use borrow.Author.Tests.{ltb-true, lt-ltb, eqb-true}
-use Rattle.cells.specs.ByPlace.{by-test, byPlace-is}
+use Rattle.cells.specs.ByPlace.{byPlace-is}
 use Rattle.cells.specs.Cell.{sortOf, operandsOf}
-use Rattle.normal_form.specs.declared.view.View.{View}
-use Rattle.normal_form.specs.declared.view.View.the-variants.{Opaque, Not, Many, Implies, Ite, Iff, Quantifier}
-use Rattle.normal_form.specs.Formula.{Form, Forms, opaque, allBefore, equality, connective, quantifier, viewOf, formsOf, formBy, form}
-use Rattle.normal_form.specs.Normal.{Normal, Normals, lit, nmany, nall, flip, pair, nnf, nnfs}
-use Rattle.normal_form.specs.Built.{normalsOf}
+use Rattle.formulas.specs.declared.view.View.{View}
+use Rattle.formulas.specs.declared.view.View.the-variants.{Opaque, Not, Many, Implies, Ite, Iff, Quantifier}
+use Rattle.formulas.specs.Formula.{Form, opaque, allBefore, equality, connective, quantifier, viewOf, formsOf, formBy, form}
+use Rattle.formulas.specs.Normal.{lit, nmany, nall, flip, pair, nnf, nnfs}
+use Rattle.formulas.specs.Built.{normalsOf}
 use Rattle.normal_form.specs.Walk.{twoPairs}
 
 -- ---- operands stand before the term

@@ -3,8 +3,10 @@ use native.Mathlib.Omega.{arith}
 use mathlib.Core.Path.{refl}
 use Rattle.normal_form.proofs.negation_normal_form.Cells.{parts, run-short}
 use Rattle.normal_form.proofs.negation_normal_form.Forms.{not-below, implies-below, ite-below, iff-below, quantifier-body}
-use Rattle.normal_form.proofs.negation_normal_form.Steps.{slot-within, before-same, operand-before, state-after, own-after, place-small, ready-after, normals, normal-full, normal-kept, pairs, pair-right-full, pair-put, twos, two-right-full, two-put}
-use Rattle.normal_form.proofs.negation_normal_form.Laws.{maxOf, max-left, max-right, max-below, many-before, expands, expand-many, expand-quantifier, operand-walks, operands-next}
+use Rattle.normal_form.specs.Walk.{normal}
+use Rattle.normal_form.proofs.build.Walks.{slot-within, before-same, operand-before, state-after, own-after, place-small, ready-after, one-term, form-full, form-kept, operand-walks, operands-next}
+use Rattle.normal_form.proofs.negation_normal_form.Steps.{pairs, pair-right-full, pair-put, twos, two-right-full, two-put}
+use Rattle.normal_form.proofs.negation_normal_form.Laws.{maxOf, max-left, max-right, max-below, many-before, expands, expand-many, expand-quantifier}
 use Prim.Native.Nat.{ℕ, _<_, _+_, _*_, _-_}
 use borrow.Fn.Kinds.{In}
 use borrow.Fn.PlainCycle.{Measures, is, falls, and}
@@ -28,7 +30,7 @@ use Rattle.normal_form.proofs.negation_normal_form.put_many.Reads as pu
 use Rattle.normal_form.proofs.negation_normal_form.put_pair.Reads as put-pair-reads
 use Rattle.normal_form.proofs.negation_normal_form.put_quantifier.Reads as put-quantifier-reads
 use Rattle.normal_form.proofs.negation_normal_form.slot.Reads as slot-reads
-use Rattle.normal_form.proofs.view.view_of.Reads as view-of-reads
+use Rattle.formulas.proofs.view.view_of.Reads as view-of-reads
 use Rattle.cells.proofs.run.operands.Reads as operands-reads
 use Rattle.normal_form.proofs.negation_normal_form.+expand+negation_normal_form+operand_forms+pair_of+two_pairs.{
   statement,
@@ -188,7 +190,7 @@ expand-put-many-requires t c κs =
     let at-scratch2 = at-m .before .before .before in
     let at-operand-forms = at-scratch2 .before .before .before .before .before .before .before in
     let start = at-operand-forms .before .before .before .before .before .before .before .before .before .before .before .before .before .before .before in
-    (state-after _ _ _ _ _ _ _ _ _ (at-operand-forms .operand-forms .ensures .builds) _ _ (at-m .m .given .1), (omega (arith, at-scratch2 .scratch2 .given, start .pre .1 .1 .0), start .pre .1 .1 .1))
+    (state-after normal _ _ _ _ _ _ _ _ _ (at-operand-forms .operand-forms .ensures .builds) _ _ (at-m .m .given .1), (omega (arith, at-scratch2 .scratch2 .given, start .pre .1 .1 .0), start .pre .1 .1 .1))
 
 expand-enum-known-view-3 : (t : ℕ) → expand-lts.Need-enum-known-view-3 (expand-calls t) (expand-at t) expand.Post
 expand-enum-known-view-3 t c = search needs
@@ -261,7 +263,7 @@ expand-put-quantifier-requires t c κs =
     let at-scratch7 = at-p .before .before .before in
     let at-negation-normal-form2 = at-scratch7 .before .before .before .before .before .before .before in
     let start = at-negation-normal-form2 .before .before .before .before .before .before .before .before .before .before .before .before .before .before .before in
-    (state-after _ _ _ _ _ _ _ _ _ (at-negation-normal-form2 .negation-normal-form2 .ensures .formed) _ _ (at-p .p .given .1), (omega (arith, at-scratch7 .scratch7 .given, start .pre .1 .1 .0), start .pre .1 .1 .1))
+    (state-after normal _ _ _ _ _ _ _ _ _ (at-negation-normal-form2 .negation-normal-form2 .ensures .formed) _ _ (at-p .p .given .1), (omega (arith, at-scratch7 .scratch7 .given, start .pre .1 .1 .0), start .pre .1 .1 .1))
 
 expand-same-length-9 : (t : ℕ) → expand-lts.Need-same-length-9 (expand-calls t) (expand-at t) expand.Post
 expand-same-length-9 t c = search needs
@@ -382,20 +384,20 @@ negation-normal-form-slot-requires t c κs = search needs
 negation-normal-form-mul-known : (t : ℕ) → negation-normal-form-lts.Need-mul-known (negation-normal-form-calls t) (negation-normal-form-at t) negation-normal-form.Post
 negation-normal-form-mul-known t c =
     let start = c .before .before .before .before .before in
-    let h = slot-within _ _ _ _ _ (start .pre .1 .0) _ _ (start .pre .1 .1 .1) _ (c .slot .ensures) in
+    let h = slot-within normal _ _ _ _ _ (start .pre .1 .0) _ _ (start .pre .1 .1 .1) _ (c .slot .ensures) in
     search needs
 
 negation-normal-form-slice-read-known : (t : ℕ) → negation-normal-form-lts.Need-slice-read-known (negation-normal-form-calls t) (negation-normal-form-at t) negation-normal-form.Post
 negation-normal-form-slice-read-known t c =
     let start = c .before .before .before .before .before .before in
-    let h = slot-within _ _ _ _ _ (start .pre .1 .0) _ _ (start .pre .1 .1 .1) _ (c .before .slot .ensures) in
+    let h = slot-within normal _ _ _ _ _ (start .pre .1 .0) _ _ (start .pre .1 .1 .1) _ (c .before .slot .ensures) in
     search needs
 
 negation-normal-form-sub-t17 : (t : ℕ) → negation-normal-form-lts.Need-sub-t17 (negation-normal-form-calls t) (negation-normal-form-at t) negation-normal-form.Post
 negation-normal-form-sub-t17 t c = search needs
 
 negation-normal-form-returns : (t : ℕ) → negation-normal-form-lts.Need-returns (negation-normal-form-calls t) (negation-normal-form-at t) negation-normal-form.Post
-negation-normal-form-returns t c = search normals
+negation-normal-form-returns t c = search one-term
 
 negation-normal-form-expand-requires : (t : ℕ) → negation-normal-form-lts.Need-expand-requires (negation-normal-form-calls t) (negation-normal-form-at t) negation-normal-form.Post
 negation-normal-form-expand-requires t c κs = search needs
@@ -423,26 +425,26 @@ negation-normal-form-returns-2 t c =
     let at-expand = c .before .before .before .before .before .before .before .before .before .before in
     let at-slot = at-expand .before .before .before .before .before .before .before in
     let start = at-slot .before .before .before .before .before in
-    normal-full _ _ _ _ _ (start .pre .1 .0) _ _ _ (at-slot .slot .ensures) _ refl _ _ _ _ (at-expand .expand .ensures) (c .enum-told .given .1)
+    form-full normal _ _ _ _ _ (start .pre .1 .0) _ _ (start .pre .1 .1 .1) _ (at-slot .slot .ensures) _ refl _ _ _ _ (at-expand .expand .ensures) (c .enum-told .given .1)
 
 negation-normal-form-add-memo : (t : ℕ) → negation-normal-form-lts.Need-add-memo (negation-normal-form-calls t) (negation-normal-form-at t) negation-normal-form.Post
 negation-normal-form-add-memo t c =
     let at-expand = c .before .before .before .before .before .before .before .before .before .before .before in
-    let h = place-small _ _ _ _ _ _ _ _ _ (at-expand .expand .ensures) _ _ (c .before .p .given .1) in
+    let h = place-small normal _ _ _ _ _ _ _ _ _ (at-expand .expand .ensures) _ _ (c .before .p .given .1) in
     search needs
 
 negation-normal-form-mul-memo : (t : ℕ) → negation-normal-form-lts.Need-mul-memo (negation-normal-form-calls t) (negation-normal-form-at t) negation-normal-form.Post
 negation-normal-form-mul-memo t c =
     let at-slot = c .before .before .before .before .before .before .before .before .before .before .before .before .before .before .before .before .before .before in
     let start = at-slot .before .before .before .before .before in
-    let h = slot-within _ _ _ _ _ (start .pre .1 .0) _ _ (start .pre .1 .1 .1) _ (at-slot .slot .ensures) in
+    let h = slot-within normal _ _ _ _ _ (start .pre .1 .0) _ _ (start .pre .1 .1 .1) _ (at-slot .slot .ensures) in
     search needs
 
 negation-normal-form-slice-write-memo : (t : ℕ) → negation-normal-form-lts.Need-slice-write-memo (negation-normal-form-calls t) (negation-normal-form-at t) negation-normal-form.Post
 negation-normal-form-slice-write-memo t c =
     let at-slot = c .before .before .before .before .before .before .before .before .before .before .before .before .before .before .before .before .before .before in
     let start = at-slot .before .before .before .before .before in
-    let h = slot-within _ _ _ _ _ (start .pre .1 .0) _ _ (start .pre .1 .1 .1) _ (at-slot .slot .ensures) in
+    let h = slot-within normal _ _ _ _ _ (start .pre .1 .0) _ _ (start .pre .1 .1 .1) _ (at-slot .slot .ensures) in
     search needs
 
 negation-normal-form-same-length-5 : (t : ℕ) → negation-normal-form-lts.Need-same-length-5 (negation-normal-form-calls t) (negation-normal-form-at t) negation-normal-form.Post
@@ -463,7 +465,7 @@ negation-normal-form-returns-3 t c =
     let at-if1 = at-expand .before .before .before .before .before in
     let at-slot = at-if1 .before .before in
     let start = at-slot .before .before .before .before .before in
-    normal-kept _ _ _ _ _ (start .pre .1 .0) _ _ _ (at-slot .slot .ensures) _ refl _ _ _ _ (at-expand .expand .ensures) (at-if1 .if1 .left) _ _ (c .before .p .given .1) (omega (arith, slot-within _ _ _ _ _ (start .pre .1 .0) _ _ (start .pre .1 .1 .1) _ (at-slot .slot .ensures)))
+    form-kept normal _ _ _ _ _ (start .pre .1 .0) _ _ (start .pre .1 .1 .1) _ (at-slot .slot .ensures) _ refl _ _ _ _ (at-expand .expand .ensures) (at-if1 .if1 .left) _ _ (c .before .p .given .1) (omega (arith, slot-within normal _ _ _ _ _ (start .pre .1 .0) _ _ (start .pre .1 .1 .1) _ (at-slot .slot .ensures)))
 
 operand-forms-slice-reshare-prefix-operands :
     (t : ℕ) → operand-forms-lts.Need-slice-reshare-prefix-operands (operand-forms-calls t) (operand-forms-at t) operand-forms.Post
@@ -541,7 +543,7 @@ operand-forms-operand-forms-requires t c κs =
     let at-operands = at-if1 .before in
     let start = at-operands .before .before .before .before .before .before .before in
     let j = at-negation-normal-form .negation-normal-form .ensures in
-    (omega (arith, run-short _ _ _ _ (start .pre .1 .0 .state) _ (start .pre .1 .1 .1 .0) _ (at-operands .operands .ensures), at-if1 .if1 .left, start .pre .0), (ready-after _ _ _ _ _ _ _ _ _ (j .formed) _ _ (at-m .m .given .1) (omega (arith, at-memo .memo .given, start .pre .1 .0 .room)), (omega (arith, at-scratch .scratch .given, start .pre .1 .1 .0), (start .pre .1 .1 .1 .0, before-same _ _ _ _ _ (j .formed .puts .left) _ (start .pre .1 .1 .1 .1)))))
+    (omega (arith, run-short _ _ _ _ (start .pre .1 .0 .state) _ (start .pre .1 .1 .1 .0) _ (at-operands .operands .ensures), at-if1 .if1 .left, start .pre .0), (ready-after normal _ _ _ _ _ _ _ _ _ (j .formed) _ _ (at-m .m .given .1) (omega (arith, at-memo .memo .given, start .pre .1 .0 .room)), (omega (arith, at-scratch .scratch .given, start .pre .1 .1 .0), (start .pre .1 .1 .1 .0, before-same _ _ _ _ _ (j .formed .puts .left) _ (start .pre .1 .1 .1 .1)))))
 
 operand-forms-same-length-7 : (t : ℕ) → operand-forms-lts.Need-same-length-7 (operand-forms-calls t) (operand-forms-at t) operand-forms.Post
 operand-forms-same-length-7 t c = search needs
@@ -562,7 +564,7 @@ operand-forms-returns-3 t c =
     let at-negation-normal-form = at-m .before .before .before .before .before .before .before .before .before .before in
     let at-if1 = at-negation-normal-form .before .before .before .before .before .before in
     let at-operands = at-if1 .before in
-    operands-next _ _ _ _ _ _ _ _ _ (at-operands .operands .ensures) (at-if1 .if1 .left) _ refl _ _ _ _ (at-negation-normal-form .negation-normal-form .ensures) _ _ (at-m .m .given .1) _ _ _ _ (at-operand-forms .operand-forms .ensures)
+    operands-next normal _ _ _ _ _ _ _ _ _ (at-operands .operands .ensures) (at-if1 .if1 .left) _ refl _ _ _ _ (at-negation-normal-form .negation-normal-form .ensures) _ _ (at-m .m .given .1) _ _ _ _ (at-operand-forms .operand-forms .ensures)
 
 pair-of-negation-normal-form-requires : (t : ℕ) → pair-of-lts.Need-negation-normal-form-requires (pair-of-calls t) (pair-of-at t) pair-of.Post
 pair-of-negation-normal-form-requires t c κs =
@@ -599,7 +601,7 @@ pair-of-negation-normal-form-requires-2 t c κs =
     let at-negation-normal-form = at-memo .before .before .before .before .before in
     let start = at-negation-normal-form .before .before .before .before .before .before .before .before .before in
     let j = at-negation-normal-form .negation-normal-form .ensures in
-    (omega (arith, max-right (start .args .a .0) (start .args .b), start .pre .0), (ready-after _ _ _ _ _ _ _ _ _ (j .formed) _ _ (at-p .p .given .1) (omega (arith, at-memo .memo .given, start .pre .1 .0 .room)), (omega (arith, at-scratch .scratch .given, start .pre .1 .1 .0), start .pre .1 .1 .1 .1)))
+    (omega (arith, max-right (start .args .a .0) (start .args .b), start .pre .0), (ready-after normal _ _ _ _ _ _ _ _ _ (j .formed) _ _ (at-p .p .given .1) (omega (arith, at-memo .memo .given, start .pre .1 .0 .room)), (omega (arith, at-scratch .scratch .given, start .pre .1 .1 .0), start .pre .1 .1 .1 .1)))
 
 pair-of-enum-known-q : (t : ℕ) → pair-of-lts.Need-enum-known-q (pair-of-calls t) (pair-of-at t) pair-of.Post
 pair-of-enum-known-q t c = search needs
@@ -630,7 +632,7 @@ pair-of-put-pair-requires : (t : ℕ) → pair-of-lts.Need-put-pair-requires (pa
 pair-of-put-pair-requires t c κs =
     let at-q = c .before .before .before in
     let at-negation-normal-form2 = at-q .before .before .before .before .before .before .before .before .before .before in
-    own-after _ _ _ _ _ _ _ _ _ (at-negation-normal-form2 .negation-normal-form2 .ensures .formed) _ _ (at-q .q .given .1)
+    own-after normal _ _ _ _ _ _ _ _ _ (at-negation-normal-form2 .negation-normal-form2 .ensures .formed) _ _ (at-q .q .given .1)
 
 pair-of-same-length-9 : (t : ℕ) → pair-of-lts.Need-same-length-9 (pair-of-calls t) (pair-of-at t) pair-of.Post
 pair-of-same-length-9 t c = search needs
@@ -687,7 +689,7 @@ two-pairs-pair-of-requires-2 t c κs =
     let at-pair-of = at-memo .before .before .before .before .before in
     let start = at-pair-of .before .before .before .before .before .before .before .before .before in
     let j = at-pair-of .pair-of .ensures in
-    (omega (arith, max-right (maxOf (start .args .a) (start .args .b)) (maxOf (start .args .c .0) (start .args .d)), start .pre .0), (ready-after _ _ _ _ _ _ _ _ _ j _ _ (at-p .p .given .1) (omega (arith, at-memo .memo .given, start .pre .1 .0 .room)), (omega (arith, at-scratch .scratch .given, start .pre .1 .1 .0), (start .pre .1 .1 .1 .third, start .pre .1 .1 .1 .fourth))))
+    (omega (arith, max-right (maxOf (start .args .a) (start .args .b)) (maxOf (start .args .c .0) (start .args .d)), start .pre .0), (ready-after normal _ _ _ _ _ _ _ _ _ j _ _ (at-p .p .given .1) (omega (arith, at-memo .memo .given, start .pre .1 .0 .room)), (omega (arith, at-scratch .scratch .given, start .pre .1 .1 .0), (start .pre .1 .1 .1 .third, start .pre .1 .1 .1 .fourth))))
 
 two-pairs-enum-known-q : (t : ℕ) → two-pairs-lts.Need-enum-known-q (two-pairs-calls t) (two-pairs-at t) two-pairs.Post
 two-pairs-enum-known-q t c = search needs
@@ -719,7 +721,7 @@ two-pairs-put-pair-requires : (t : ℕ) → two-pairs-lts.Need-put-pair-requires
 two-pairs-put-pair-requires t c κs =
     let at-q = c .before .before .before in
     let at-pair-of2 = at-q .before .before .before .before .before .before .before .before .before .before in
-    own-after _ _ _ _ _ _ _ _ _ (at-pair-of2 .pair-of2 .ensures) _ _ (at-q .q .given .1)
+    own-after normal _ _ _ _ _ _ _ _ _ (at-pair-of2 .pair-of2 .ensures) _ _ (at-q .q .given .1)
 
 two-pairs-same-length-9 : (t : ℕ) → two-pairs-lts.Need-same-length-9 (two-pairs-calls t) (two-pairs-at t) two-pairs.Post
 two-pairs-same-length-9 t c =

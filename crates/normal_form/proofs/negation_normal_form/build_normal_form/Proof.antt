@@ -1,5 +1,7 @@
 use native.Mathlib.Omega.{arith}
-use Rattle.normal_form.proofs.negation_normal_form.Whole.{ready-first, zeros-long, normal-built}
+use Rattle.normal_form.proofs.negation_normal_form.Whole.{normal-built}
+use Rattle.normal_form.specs.Walk.{normal}
+use Rattle.normal_form.proofs.build.Walks.{ready-first, zeros-long}
 use borrow.Author.Needs.{needs}
 use Rattle.normal_form.proofs.negation_normal_form.build_normal_form.Statement.{statement}
 use Rattle.normal_form.proofs.negation_normal_form.build_normal_form.Tie as tie
@@ -11,7 +13,7 @@ slice-aggregate-negation-normal-form-2 : tie.Need-slice-aggregate-negation-norma
 slice-aggregate-negation-normal-form-2 c = search needs
 
 negation-normal-form-requires : tie.Need-negation-normal-form-requires
-negation-normal-form-requires c κs = (ready-first _ _ _ (c .before .before .before .before .before .before .pre .0) 16384 (omega arith), (zeros-long 8192, c .before .before .before .before .before .before .pre .1))
+negation-normal-form-requires c κs = (ready-first _ _ _ (c .before .before .before .before .before .before .pre .0) normal 16384 (omega arith), (zeros-long 8192, c .before .before .before .before .before .before .pre .1))
 
 same-length : tie.Need-same-length
 same-length c = search needs

@@ -1,0 +1,61 @@
+use Rattle.clauses.proofs.clause_list.Laws.{counted-answers, fits-ask}
+use borrow.Author.Needs.{needs}
+use Rattle.clauses.proofs.clause_list.list_counted.Statement.{statement}
+use Rattle.clauses.proofs.clause_list.list_counted.Tie as tie
+
+list-totals-requires : tie.Need-list-totals-requires
+list-totals-requires c κs = search needs
+
+same-length : tie.Need-same-length
+same-length c = search needs
+
+same-length-2 : tie.Need-same-length-2
+same-length-2 c = search needs
+
+returns : tie.Need-returns
+returns c = search counted-answers
+
+same-length-3 : tie.Need-same-length-3
+same-length-3 c = search needs
+
+same-length-4 : tie.Need-same-length-4
+same-length-4 c = search needs
+
+returns-2 : tie.Need-returns-2
+returns-2 c = search counted-answers
+
+write-clauses-requires : tie.Need-write-clauses-requires
+write-clauses-requires c κs = search fits-ask
+
+same-length-5 : tie.Need-same-length-5
+same-length-5 c = search needs
+
+same-length-6 : tie.Need-same-length-6
+same-length-6 c = search needs
+
+same-length-7 : tie.Need-same-length-7
+same-length-7 c = search needs
+
+same-length-8 : tie.Need-same-length-8
+same-length-8 c = search needs
+
+returns-3 : tie.Need-returns-3
+returns-3 c = search counted-answers
+
+pub list-counted-spec : {M : Type 1} → statement M
+list-counted-spec =
+    tie.close
+    (tie.spec
+    list-totals-requires
+    same-length
+    same-length-2
+    returns
+    same-length-3
+    same-length-4
+    returns-2
+    write-clauses-requires
+    same-length-5
+    same-length-6
+    same-length-7
+    same-length-8
+    returns-3)

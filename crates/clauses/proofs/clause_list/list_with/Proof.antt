@@ -1,0 +1,53 @@
+use Rattle.clauses.proofs.clause_list.Laws.{list-answers, list-ready}
+use borrow.Author.Needs.{needs}
+use Rattle.clauses.proofs.clause_list.list_with.Statement.{statement}
+use Rattle.clauses.proofs.clause_list.list_with.Tie as tie
+
+cut-back-requires : tie.Need-cut-back-requires
+cut-back-requires c κs = search needs
+
+empty-or-requires : tie.Need-empty-or-requires
+empty-or-requires c κs = search needs
+
+same-length : tie.Need-same-length
+same-length c = search needs
+
+same-length-2 : tie.Need-same-length-2
+same-length-2 c = search needs
+
+returns : tie.Need-returns
+returns c = search list-answers
+
+list-counted-requires : tie.Need-list-counted-requires
+list-counted-requires c κs = search list-ready
+
+same-length-3 : tie.Need-same-length-3
+same-length-3 c = search needs
+
+same-length-4 : tie.Need-same-length-4
+same-length-4 c = search needs
+
+same-length-5 : tie.Need-same-length-5
+same-length-5 c = search needs
+
+same-length-6 : tie.Need-same-length-6
+same-length-6 c = search needs
+
+returns-2 : tie.Need-returns-2
+returns-2 c = search list-answers
+
+pub list-with-spec : {M : Type 1} → statement M
+list-with-spec =
+    tie.close
+    (tie.spec
+    cut-back-requires
+    empty-or-requires
+    same-length
+    same-length-2
+    returns
+    list-counted-requires
+    same-length-3
+    same-length-4
+    same-length-5
+    same-length-6
+    returns-2)

@@ -1,0 +1,329 @@
+-- Laws of the writing of a clause, one for each way out of the code.
+-- Assumes nothing.
+use Prim.Native.Nat.{ℕ, zero, suc, _+_, _-_, _*_, _/_, _%_, _^_, _≤_, _<_, min}
+use mathlib.Core.Path.{_≡_, refl, sym, ap, subst, _∙_}
+use mathlib.Core.Bool.{Bool, true, false, cond}
+use mathlib.Core.List.{List, [], _∷_, _++_}
+use lib.ListN.{length, getD, take, drop, set, length-append, length-drop, drop-of-length-le}
+use lib.Seq.{sets, length-sets, drop-cons, take-all}
+use lib.Dec.{ltb}
+use native.Mathlib.Nat.{le-mul-of-pos-right, mul-div-cancel-left, mul-comm, mod-lt, div-lt-iff-lt-mul, mul-zero, zero-mul, add-assoc}
+use native.Mathlib.Omega.{arith}
+use native.Mathlib.Numerals.{add-one}
+use borrow.Author.Tests.{lt-ltb, le-ltb, ltb-true, ltb-false}
+use Rattle.cells.specs.Cell.{operandsOf}
+use Rattle.cells.specs.ByPlace.{by-test}
+use Rattle.formulas.specs.declared.view.NormalView.{NormalView}
+use Rattle.formulas.specs.declared.view.NormalView.the-variants.{Literal, Connective, Forall}
+use Rattle.clauses.specs.declared.conjunctive_normal_form.Chosen.{Chosen}
+use Rattle.formulas.specs.Formula.{allBefore}
+use Rattle.formulas.specs.Normal.{Normal, Normals, lit, nmany, nall, nnil, ncons}
+use Rattle.formulas.specs.Clauses.{product, cnf, cnfAnd, cnfOr}
+use Rattle.formulas.specs.Built.{normalView, normalsOf}
+use Rattle.clauses.specs.Lists.{literalPlace, clausePlaces}
+use Rattle.clauses.specs.ClauseWalk.{formAt}
+use Rattle.clauses.specs.ClauseList.{runOf, choose, ClauseCounts, Ask, AskRun, Written}
+use Rattle.clauses.proofs.ClauseAt.{append-left, append-right, product-at, clauses-and, clauses-or}
+use Rattle.clauses.proofs.Reading.{before-head, before-tail, read-literal, read-forall, read-connective, run-before, connective-within}
+
+-- ---- the walk along the operands of an `and`: w is what it finds, from j on, for the number left
+module _ (w : Chosen) (counts run : List ℕ) (j left : ℕ) (inv : w ≡ choose counts (drop j run) left) where
+  pub choose-end : length run ≤ j → record { place = 0; index = 0 } ≡ w
+  unfolding choose
+  choose-end h = rw (inv, drop-of-length-le run h)
+
+  module _ (h : j < length run) (here : ℕ) (is : here ≡ getD counts (getD run j 0) 0) where
+    pub choose-here : left < here → record { place = getD run j 0; index = left } ≡ w
+    unfolding choose
+    choose-here l = rw (inv, drop-cons run j 0 h, ← is, lt-ltb _ _ l)
+
+    pub choose-next : here ≤ left → w ≡ choose counts (drop (j + 1) run) (left - here)
+    unfolding choose
+    choose-next l = rw (inv, drop-cons run j 0 h, ← is, le-ltb _ _ l, add-one j)
+
+pub ruleset chooses = (choose-end, choose-here, choose-next)
+
+-- a count below the limit is exact
+exact : (tags values counts : List ℕ) → ClauseCounts tags values counts → (u : ℕ) → u < length tags → length (cnf (formAt tags values u)) ≤ 2048
+    → getD counts u 0 ≡ length (cnf (formAt tags values u))
+exact tags values counts right u h l = right .at u h ∙ omega arith
+
+-- what the walk finds: an operand before x whose clause of that number is the clause of number i
+pub record Found (tags values : List ℕ) (x : ℕ) (cs : List (List (Normal (List ℕ) ℕ))) (i : ℕ) (c : Chosen) : Type 0 where
+  pub below : c .place < x
+  pub small : length (cnf (formAt tags values (c .place))) ≤ 2048
+  pub index : c .index < length (cnf (formAt tags values (c .place)))
+  pub same : getD (cnf (formAt tags values (c .place))) (c .index) [] ≡ getD cs i []
+
+module _ (tags values counts : List ℕ) (right : ClauseCounts tags values counts) (x : ℕ) (within : x < length tags) where
+  found : (run : List ℕ) → allBefore x run ≡ true → (i : ℕ) → length (cnfAnd (runOf tags values run)) ≤ 2048 → i < length (cnfAnd (runOf tags values run))
+      → Found tags values x (cnfAnd (runOf tags values run)) i (choose counts run i)
+  unfolding choose
+  found [] b i s h = absurd (omega arith)
+  found (u ∷ us) b i s h =
+      let total = clauses-and (formAt tags values u) (runOf tags values us) in
+      let less : u < x = before-head x u us b in
+      let here : getD counts u 0 ≡ length (cnf (formAt tags values u)) = exact tags values counts right u (omega arith) (omega (arith, total)) in
+      by-test (ltb i (getD counts u 0))
+      (λ q. let l : i < getD counts u 0 = ltb-true i (getD counts u 0) q in
+      rw q record {
+        below = less;
+        small = omega (arith, total);
+        index = omega (arith, here);
+        same = sym (append-left (cnf (formAt tags values u)) (cnfAnd (runOf tags values us)) [] i (omega (arith, here)));
+      })
+      (λ q. let l : getD counts u 0 ≤ i = ltb-false i (getD counts u 0) q in
+      let f = found us (before-tail x u us b) (i - getD counts u 0) (omega (arith, total)) (omega (arith, total, here)) in
+      rw q record {
+        below = f .below;
+        small = f .small;
+        index = f .index;
+        same = f .same ∙ (rw here (sym (append-right (cnf (formAt tags values u)) (cnfAnd (runOf tags values us)) [] i (omega (arith, here)))));
+      })
+
+-- ---- a list of one clause with one literal
+one-at : (l : Normal (List ℕ) ℕ) (i : ℕ) → i < 1 → getD ((l ∷ []) ∷ []) i [] ≡ l ∷ []
+one-at l zero h = refl
+one-at l (suc i) h = absurd (omega arith)
+
+module _ (tags values counts : List ℕ) (cs : List (List (Normal (List ℕ) ℕ))) (l : Normal (List ℕ) ℕ) (e : cs ≡ (l ∷ []) ∷ [])
+    (i : ℕ) (out : List ℕ) (at : ℕ) (ask : Ask tags values counts cs i out at) where
+  one-is : getD cs i [] ≡ l ∷ []
+  one-is = rw e (one-at l i (omega (arith, ask .index, ap length e)))
+
+  one-room : at < length out
+  one-room = omega (arith, ask .room, ap length one-is)
+
+  one-written : (after : List ℕ) (r : ℕ) → (r ≡ at + 1) × (after ≡ set out at (literalPlace l)) → Written (getD cs i []) out at after r
+  one-written after r p = rw one-is record { end = p .0; array = p .1 }
+
+-- ---- the term at x
+module _ (tags values counts : List ℕ) (x i : ℕ) (out : List ℕ) (at : ℕ) (ask : Ask tags values counts (cnf (formAt tags values x)) i out at)
+    (v : NormalView) (is : v ≡ normalView tags values x) where
+  module _ (e : v ≡ Literal) where
+    pub literal-room : at < length out
+    literal-room = one-room tags values counts _ _ (ap cnf (read-literal tags values x v is e)) i out at ask
+
+    pub literal-written : (after : List ℕ) (r : ℕ) → (r ≡ at + 1) × (after ≡ set out at x) → Written (getD (cnf (formAt tags values x)) i []) out at after r
+    literal-written = one-written tags values counts _ _ (ap cnf (read-literal tags values x v is e)) i out at ask
+
+  module _ (body : ℕ) (e : v ≡ Forall body) where
+    pub forall-room : at < length out
+    forall-room = one-room tags values counts _ _ (ap cnf (read-forall tags values x v is body e)) i out at ask
+
+    pub forall-written : (after : List ℕ) (r : ℕ) → (r ≡ at + 1) × (after ≡ set out at 0) → Written (getD (cnf (formAt tags values x)) i []) out at after r
+    forall-written = one-written tags values counts _ _ (ap cnf (read-forall tags values x v is body e)) i out at ask
+
+  module _ (b : Bool) (e : v ≡ Connective b) (run : List ℕ) (o : run ≡ operandsOf tags values x) where
+    run-here : allBefore x run ≡ true
+    run-here = rw o (run-before tags values x v is b e)
+
+    within : x < length tags
+    within = connective-within tags values x v is b e
+
+    module _ (t : b ≡ true) where
+      and-is : cnf (formAt tags values x) ≡ cnfAnd (runOf tags values run)
+      and-is = rw (read-connective tags values x v is b e, t, o)
+
+      module _ (c : Chosen) (k : c ≡ choose counts run i) where
+        chosen : Found tags values x (cnf (formAt tags values x)) i c
+        chosen =
+            rw (k, and-is)
+            (found tags values counts (ask .counted) x within run run-here i (omega (arith, ask .small, ap length and-is)) (omega (arith, ask .index, ap length and-is)))
+
+        -- the measure falls
+        pub and-falls : (m : ℕ) → x * 2 ^ 65 + 2 ^ 64 ≡ m → c .place * 2 ^ 65 + 2 ^ 64 < m
+        and-falls m q = omega (arith, chosen .below)
+
+        pub and-ask : Ask tags values counts (cnf (formAt tags values (c .place))) (c .index) out at
+        and-ask = record {
+          counted = ask .counted;
+          small = chosen .small;
+          index = chosen .index;
+          room = rw (chosen .same) (ask .room);
+        }
+
+        pub and-written : (after : List ℕ) (r : ℕ) → Written (getD (cnf (formAt tags values (c .place))) (c .index) []) out at after r
+            → Written (getD (cnf (formAt tags values x)) i []) out at after r
+        and-written after r w = rw (← chosen .same) w
+
+    module _ (f : b ≡ false) where
+      or-is : cnf (formAt tags values x) ≡ cnfOr (runOf tags values run)
+      or-is = rw (read-connective tags values x v is b e, f, o)
+
+      pub or-ask : (total : ℕ) → total ≡ getD counts x 0 → AskRun tags values counts x run total i out at
+      or-ask total q = record {
+        ask = rw or-is at ask;
+        before = run-here;
+        within = within;
+        count = q ∙ (exact tags values counts (ask .counted) x within (ask .small) ∙ ap length or-is);
+      }
+
+      pub or-written : (after : List ℕ) (r : ℕ) → Written (getD (cnfOr (runOf tags values run)) i []) out at after r
+          → Written (getD (cnf (formAt tags values x)) i []) out at after r
+      or-written after r w = rw or-is w
+
+pub ruleset rooms = (literal-room, forall-room)
+
+pub ruleset asks = (and-ask, or-ask)
+
+-- ---- one clause after another
+sets-append : (out : List ℕ) (at : ℕ) (vs ws : List ℕ) → sets out at (vs ++ ws) ≡ sets (sets out at vs) (at + length vs) ws
+sets-append out at [] ws = let z : at + 0 ≡ at = omega arith in sym (ap (λ (k : ℕ). sets out k ws) z)
+sets-append out at (a ∷ vs) ws =
+    let z : suc at + length vs ≡ at + suc (length vs) = omega arith in
+    sets-append (set out at a) (suc at) vs ws ∙ ap (λ (k : ℕ). sets (sets (set out at a) (suc at) vs) k ws) z
+
+pub places-length : (c : List (Normal (List ℕ) ℕ)) → length (clausePlaces c) ≡ length c
+places-length [] = refl
+places-length (l ∷ c) = ap suc (places-length c)
+
+places-append : (c d : List (Normal (List ℕ) ℕ)) → clausePlaces (c ++ d) ≡ clausePlaces c ++ clausePlaces d
+places-append [] d = refl
+places-append (l ∷ c) d = ap (λ (ps : List ℕ). literalPlace l ∷ ps) (places-append c d)
+
+written-both : (c d : List (Normal (List ℕ) ℕ)) (out : List ℕ) (at : ℕ) (mid : List ℕ) (next : ℕ) (after : List ℕ) (r : ℕ)
+    → Written c out at mid next → Written d mid next after r → Written (c ++ d) out at after r
+written-both c d out at mid next after r p q = record {
+  end = rw (length-append c d) (omega (arith, p .end, q .end));
+  array =
+      q .array
+      ∙ (rw (places-append c d, sets-append out at (clausePlaces c) (clausePlaces d), places-length c, ← p .array, ← p .end));
+}
+
+-- ---- an `or` of a run
+no-operand : (tags values run : List ℕ) (i : ℕ) → length run ≡ 0 → i < length (cnfOr (runOf tags values run)) → getD (cnfOr (runOf tags values run)) i [] ≡ []
+no-operand tags values [] zero e h = refl
+no-operand tags values [] (suc i) e h = absurd (omega arith)
+no-operand tags values (u ∷ run) i e h = absurd (omega arith)
+
+factor-left : (a b i : ℕ) → i < a * b → 0 < a
+factor-left zero b i h = absurd (omega (arith, zero-mul b))
+factor-left (suc a) b i h = omega arith
+
+factor-right : (a b i : ℕ) → i < a * b → 0 < b
+factor-right a zero i h = absurd (omega (arith, mul-zero a))
+factor-right a (suc b) i h = omega arith
+
+-- the first operand u, with the clauses here, and the rest us
+module _ (tags values counts : List ℕ) (x u : ℕ) (us : List ℕ) (total i : ℕ) (out : List ℕ) (at : ℕ)
+    (ask : AskRun tags values counts x (u ∷ us) total i out at) (here : ℕ) (is : here ≡ getD counts u 0) where
+  total-is : total ≡ length (cnf (formAt tags values u)) * length (cnfOr (runOf tags values us))
+  total-is = ask .count ∙ clauses-or (formAt tags values u) (runOf tags values us)
+
+  index-is : i < length (cnf (formAt tags values u)) * length (cnfOr (runOf tags values us))
+  index-is = omega (arith, total-is, ask .count, ask .ask .index)
+
+  some-here : 0 < length (cnf (formAt tags values u))
+  some-here = factor-left (length (cnf (formAt tags values u))) (length (cnfOr (runOf tags values us))) i index-is
+
+  some-rest : 0 < length (cnfOr (runOf tags values us))
+  some-rest = factor-right (length (cnf (formAt tags values u))) (length (cnfOr (runOf tags values us))) i index-is
+
+  small-here : length (cnf (formAt tags values u)) ≤ 2048
+  small-here = omega (arith, le-mul-of-pos-right (length (cnf (formAt tags values u))) some-rest, total-is, ask .count, ask .ask .small)
+
+  small-rest : length (cnfOr (runOf tags values us)) ≤ 2048
+  small-rest =
+      omega (
+        arith,
+        le-mul-of-pos-right (length (cnfOr (runOf tags values us))) some-here,
+        mul-comm (length (cnf (formAt tags values u))) (length (cnfOr (runOf tags values us))),
+        total-is,
+        ask .count,
+        ask .ask .small,
+      )
+
+  here-is : here ≡ length (cnf (formAt tags values u))
+  here-is =
+      let less : u < x = before-head x u us (ask .before) in
+      is ∙ exact tags values counts (ask .ask .counted) u (omega (arith, ask .within)) small-here
+
+  rest-is : total / here ≡ length (cnfOr (runOf tags values us))
+  rest-is = rw (total-is, here-is) (mul-div-cancel-left (length (cnfOr (runOf tags values us))) some-here)
+
+  clause-is : getD (cnfOr (runOf tags values (u ∷ us))) i []
+      ≡ getD (cnf (formAt tags values u)) (i / (total / here)) [] ++ getD (cnfOr (runOf tags values us)) (i % (total / here)) []
+  clause-is = rw rest-is (product-at (cnf (formAt tags values u)) (cnfOr (runOf tags values us)) (length (cnfOr (runOf tags values us))) i refl index-is)
+
+  room-is : at + (length (getD (cnf (formAt tags values u)) (i / (total / here)) []) + length (getD (cnfOr (runOf tags values us)) (i % (total / here)) []))
+      ≤ length out
+  room-is =
+      rw (← length-append (getD (cnf (formAt tags values u)) (i / (total / here)) []) (getD (cnfOr (runOf tags values us)) (i % (total / here)) []), ← clause-is)
+      (ask .ask .room)
+
+  first-ask : Ask tags values counts (cnf (formAt tags values u)) (i / (total / here)) out at
+  first-ask = record {
+    counted = ask .ask .counted;
+    small = small-here;
+    index = rw rest-is (div-lt-iff-lt-mul some-rest .1 index-is);
+    room = omega (arith, room-is);
+  }
+
+  module _ (mid : List ℕ) (next : ℕ) (w : Written (getD (cnf (formAt tags values u)) (i / (total / here)) []) out at mid next) where
+    rest-ask : AskRun tags values counts x us (total / here) (i % (total / here)) mid next
+    rest-ask = record {
+      ask = record {
+        counted = ask .ask .counted;
+        small = small-rest;
+        index = rw rest-is (mod-lt i some-rest);
+        room = omega (
+          arith,
+          room-is,
+          w .end,
+          ap length (w .array),
+          length-sets out at (clausePlaces (getD (cnf (formAt tags values u)) (i / (total / here)) [])),
+        );
+      };
+      before = before-tail x u us (ask .before);
+      within = ask .within;
+      count = rest-is;
+    }
+
+    both-written : (after : List ℕ) (r : ℕ) → Written (getD (cnfOr (runOf tags values us)) (i % (total / here)) []) mid next after r
+        → Written (getD (cnfOr (runOf tags values (u ∷ us))) i []) out at after r
+    both-written after r q = rw clause-is (written-both _ _ out at mid next after r w q)
+
+-- the same of a run, whose rest is `&run[1..]`
+run-split : (run : List ℕ) → (length run ≡ 0 → ⊥) → run ≡ getD run 0 0 ∷ take (length run - 1) (drop 1 run)
+run-split run some = drop-cons run 0 0 (omega arith) ∙ ap (λ (l : List ℕ). getD run 0 0 ∷ l) (sym (take-all (length run - 1) (drop 1 run) (rw (length-drop 1 run) (omega arith))))
+
+module _ (tags values counts : List ℕ) (x : ℕ) (run : List ℕ) (total i : ℕ) (out : List ℕ) (at : ℕ)
+    (ask : AskRun tags values counts x run total i out at) where
+  pub run-none : length run ≡ 0 → Written (getD (cnfOr (runOf tags values run)) i []) out at out at
+  run-none e = rw (no-operand tags values run i e (ask .ask .index)) record { end = omega arith; array = refl }
+
+  module _ (some : length run ≡ 0 → ⊥) (here : ℕ) (is : here ≡ getD counts (getD run 0 0) 0) where
+    split-ask : AskRun tags values counts x (getD run 0 0 ∷ take (length run - 1) (drop 1 run)) total i out at
+    split-ask = subst (λ (l : List ℕ). AskRun tags values counts x l total i out at) (run-split run some) ask
+
+    pub run-here-some : 0 < here
+    run-here-some = omega (arith, some-here tags values counts x _ _ total i out at split-ask here is, here-is tags values counts x _ _ total i out at split-ask here is)
+
+    pub run-rest-some : 0 < total / here
+    run-rest-some = rw (rest-is tags values counts x _ _ total i out at split-ask here is) (some-rest tags values counts x _ _ total i out at split-ask here is)
+
+    pub run-falls : (m : ℕ) → x * 2 ^ 65 + length run ≡ m → getD run 0 0 * 2 ^ 65 + 2 ^ 64 < m
+    run-falls m q = let less : getD run 0 0 < x = before-head x _ _ (split-ask .before) in omega arith
+
+    -- a, d: the clause's number in the first list, and in the rest
+    module _ (a : ℕ) (is-a : a ≡ i / (total / here)) where
+      pub run-first : Ask tags values counts (cnf (formAt tags values (getD run 0 0))) a out at
+      run-first = rw is-a (first-ask tags values counts x _ _ total i out at split-ask here is)
+
+      module _ (mid : List ℕ) (next : ℕ) (w : Written (getD (cnf (formAt tags values (getD run 0 0))) a []) out at mid next)
+          (d : ℕ) (is-d : d ≡ i % (total / here)) where
+        first-written : Written (getD (cnf (formAt tags values (getD run 0 0))) (i / (total / here)) []) out at mid next
+        first-written = rw is-a at w
+
+        pub run-rest : (rest : ℕ) → rest ≡ total / here → AskRun tags values counts x (take (length run - 1) (drop 1 run)) rest d mid next
+        run-rest rest e = rw (e, is-d) (rest-ask tags values counts x _ _ total i out at split-ask here is mid next first-written)
+
+        pub run-written : (after : List ℕ) (r : ℕ)
+            → Written (getD (cnfOr (runOf tags values (take (length run - 1) (drop 1 run)))) d []) mid next after r
+            → Written (getD (cnfOr (runOf tags values run)) i []) out at after r
+        run-written after r q =
+            subst (λ (l : List ℕ). Written (getD (cnfOr (runOf tags values l)) i []) out at after r) (sym (run-split run some))
+            (both-written tags values counts x _ _ total i out at split-ask here is mid next first-written after r (rw is-d at q))
+
+pub ruleset writes = (literal-written, forall-written, and-written, or-written, run-none, run-written)

@@ -1,0 +1,107 @@
+-- What the functions that write the clause list promise each other.
+-- 01, "Normal form and clauses": "an `and` joins lists, an `or` takes products, the first operand slowest."
+-- Rests on Built, Clauses, Calls and ClauseWalk, and on the structs `Chosen` and `Digits` of the code.
+use Prim.Native.Nat.{ℕ, _+_, _-_, _/_, _%_, _≤_, _<_, min}
+use mathlib.Core.Path.{_≡_}
+use mathlib.Core.Bool.{true, cond, _&&_}
+use mathlib.Core.List.{List, [], _∷_}
+use lib.ListN.{length, getD, replicate}
+use lib.Seq.{sets}
+use lib.Dec.{ltb, leb, eqb}
+use Rattle.pool.specs.Answer.{accepted}
+use Rattle.pool.specs.declared.Answer.{Answer}
+use Rattle.formulas.specs.Formula.{allBefore}
+use Rattle.formulas.specs.Normal.{Normal, Normals}
+use Rattle.formulas.specs.Clauses.{cnf, cnfOr, literalTotal, emptyOr}
+use Rattle.formulas.specs.Built.{normalsOf}
+use Rattle.clauses.specs.Lists.{emptyOrReached, tooManyClauses, padded, clausePlaces, literalPlaces, clauseEnds}
+use Rattle.clauses.specs.ClauseWalk.{formAt, Room}
+use Rattle.clauses.specs.declared.conjunctive_normal_form.Chosen.{Chosen}
+use Rattle.clauses.specs.declared.conjunctive_normal_form.Digits.{Digits}
+
+-- the forms of a run of places
+abbrev pub runOf : List ℕ → List ℕ → List ℕ → Normals (List ℕ) ℕ
+runOf tags values run = normalsOf (formAt tags values) run
+
+-- the operand of an `and` that has its clause of number i, and that clause's number there, by the operands' counts
+unfoldable pub choose : List ℕ → List ℕ → ℕ → Chosen
+choose counts [] i = record { place = 0; index = 0 }
+choose counts (u ∷ us) i = cond (ltb i (getD counts u 0)) (record { place = u; index = i }) (choose counts us (i - getD counts u 0))
+
+-- each place's number of clauses, cut at 8,193
+pub record ClauseCounts (tags values counts : List ℕ) : Type 0 where
+  pub at : (u : ℕ) → u < length tags → getD counts u 0 ≡ min 8193 (length (cnf (formAt tags values u)))
+
+-- the number i of a clause of a product of total clauses, whose first list has here: the first list is slowest
+pub record Apart (total here i : ℕ) (d : Digits) : Type 0 where
+  pub rest : d .0 ≡ total / here
+  pub first : d .1 ≡ i / (total / here)
+  pub after : d .2 ≡ i % (total / here)
+
+-- the clause of number i of a short list is to be written to out, from at on
+pub record Ask (tags values counts : List ℕ) (cs : List (List (Normal (List ℕ) ℕ))) (i : ℕ) (out : List ℕ) (at : ℕ) : Type 0 where
+  pub counted : ClauseCounts tags values counts
+  pub small : length cs ≤ 2048
+  pub index : i < length cs
+  pub room : at + length (getD cs i []) ≤ length out
+
+-- the same of an `or` of the run's places, which stand before x; its list has as many clauses as total
+pub record AskRun (tags values counts : List ℕ) (x : ℕ) (run : List ℕ) (total i : ℕ) (out : List ℕ) (at : ℕ) : Type 0 where
+  pub ask : Ask tags values counts (cnfOr (runOf tags values run)) i out at
+  pub before : allBefore x run ≡ true
+  pub within : x < length tags
+  pub count : total ≡ length (cnfOr (runOf tags values run))
+
+-- the clause c is written, up to the end r
+pub record Written (c : List (Normal (List ℕ) ℕ)) (out : List ℕ) (at : ℕ) (after : List ℕ) (r : ℕ) : Type 0 where
+  pub end : r ≡ at + length c
+  pub array : after ≡ sets out at (clausePlaces c)
+
+-- ---- the whole list of the term at x, to arrays of zeroes
+pub record AskList (tags values counts : List ℕ) (x total : ℕ) (literals ends : List ℕ) : Type 0 where
+  pub counted : ClauseCounts tags values counts
+  pub total-is : total ≡ length (cnf (formAt tags values x))
+  pub clauses : length (cnf (formAt tags values x)) ≤ 2048
+  pub clauses-room : length (cnf (formAt tags values x)) ≤ length ends
+  pub literals-small : literalTotal (cnf (formAt tags values x)) ≤ 8192
+  pub literals-room : literalTotal (cnf (formAt tags values x)) ≤ length literals
+  pub literals-zero : literals ≡ replicate (length literals) 0
+  pub ends-zero : ends ≡ replicate (length ends) 0
+
+-- arrays of k and m cells that hold the list and zeroes
+pub record Listed (cs : List (List (Normal (List ℕ) ℕ))) (k m : ℕ) (literals ends : List ℕ) : Type 0 where
+  pub literals-are : literals ≡ padded (literalPlaces cs) k
+  pub ends-are : ends ≡ padded (clauseEnds 0 cs) m
+
+-- ---- 01's numbers: 13, then 32, or the two totals
+unfoldable pub countAnswer : List (List (Normal (List ℕ) ℕ)) → Answer
+countAnswer cs =
+    cond (leb (length cs) 2048 && leb (literalTotal cs) 8192)
+    (accepted (length cs) (literalTotal cs))
+    tooManyClauses
+
+unfoldable pub listAnswer : Normal (List ℕ) ℕ → Answer
+listAnswer form = cond (emptyOr form) emptyOrReached (countAnswer (cnf form))
+
+-- what an array of k cells holds: accepted, the list and zeroes; refused, all zeroes
+unfoldable pub held : Answer → List ℕ → ℕ → List ℕ
+held r list k = cond (eqb (r .code) 0) (padded list k) (replicate k 0)
+
+-- the answer r is the one defined, and arrays of k and m cells hold the list
+pub record Answered (defined : Answer) (cs : List (List (Normal (List ℕ) ℕ))) (k m : ℕ) (r : Answer) (literals ends : List ℕ) : Type 0 where
+  pub answer : r ≡ defined
+  pub literals-are : literals ≡ held r (literalPlaces cs) k
+  pub ends-are : ends ≡ held r (clauseEnds 0 cs) m
+
+-- a pool of n places, at most 8,192, and arrays of k and m cells, long enough for any list that is accepted
+pub record Lent (n k m : ℕ) : Type 0 where
+  pub small : n ≤ 8192
+  pub literals : 8192 ≤ k
+  pub ends : 2048 ≤ m
+
+-- the same with the memo's arrays, and zeroes in the others
+pub record Ready (n counts sizes : ℕ) (literals ends : List ℕ) : Type 0 where
+  pub room : Room n counts sizes
+  pub lent : Lent n (length literals) (length ends)
+  pub literals-zero : literals ≡ replicate (length literals) 0
+  pub ends-zero : ends ≡ replicate (length ends) 0

@@ -1,0 +1,40 @@
+-- A clause list as two arrays of numbers, and the refusals 13 and 32.
+-- 01, "What stops a step": "The clause list also writes literal places and clause ends (literals up to each clause's last) to two lent u32 arrays".
+-- Rests on pool's Answer and on Normal.
+use Prim.Native.Nat.{ℕ, _+_, _-_}
+use mathlib.Core.List.{List, [], _∷_, _++_}
+use lib.ListN.{length, replicate}
+use Rattle.pool.specs.declared.Answer.{Answer}
+use Rattle.formulas.specs.Normal.{Normal, lit, nmany, nall}
+
+-- 13: an empty `or` reached
+abbrev pub emptyOrReached : Answer
+emptyOrReached = record { code = 13; first = 0; second = 0 }
+
+-- 32: over 2,048 clauses or 8,192 literals
+abbrev pub tooManyClauses : Answer
+tooManyClauses = record { code = 32; first = 0; second = 0 }
+
+-- every literal of a form that is read back from a pool is a place
+abbrev pub literalPlace : Normal (List ℕ) ℕ → ℕ
+literalPlace (lit b x) = x
+literalPlace (nmany b ns) = 0
+literalPlace (nall b vs m) = 0
+
+-- the literal places, clause after clause
+abbrev pub clausePlaces : List (Normal (List ℕ) ℕ) → List ℕ
+clausePlaces [] = []
+clausePlaces (l ∷ c) = literalPlace l ∷ clausePlaces c
+
+abbrev pub literalPlaces : List (List (Normal (List ℕ) ℕ)) → List ℕ
+literalPlaces [] = []
+literalPlaces (c ∷ cs) = clausePlaces c ++ literalPlaces cs
+
+-- "clause ends (literals up to each clause's last)", after m literals
+abbrev pub clauseEnds : ℕ → List (List (Normal (List ℕ) ℕ)) → List ℕ
+clauseEnds m [] = []
+clauseEnds m (c ∷ cs) = (m + length c) ∷ clauseEnds (m + length c) cs
+
+-- the used cells, and 0 in every cell past them
+unfoldable pub padded : List ℕ → ℕ → List ℕ
+padded used size = used ++ replicate (size - length used) 0

@@ -1,0 +1,125 @@
+// The clause list of a term in normal form whose foralls are taken out, after `conjunctive_normal_form`. The clauses are
+// written one after another, each found by its number, so that the time goes with the output and the depth.
+use formulas::view::NormalView;
+use formulas::view::normal_view;
+use pool::TermPlace;
+use pool::run::cell;
+use pool::run::operands;
+ghost use Prim.Native.Nat.{_+_, _/_, _<_};
+ghost use mathlib.Core.Path.{_≡_};
+ghost use mathlib.Core.List.{[]};
+ghost use lib.ListN.{length, getD, set};
+ghost use Rattle.formulas.specs.Clauses.{cnf, cnfOr};
+ghost use Rattle.clauses.specs.ClauseWalk.{formAt};
+ghost use Rattle.clauses.specs.ClauseList.{runOf, choose, Apart, Ask, AskRun, Written};
+
+// A clause of an `and`: the operand that has it, and its number there.
+pub struct Chosen {
+    pub place: u32,
+    pub index: u32,
+}
+
+// The number of clauses of the place u.
+fn count_at(counts: &[u32], u: u32) -> u32
+    ensures { λ r. ⌜ r ≡ getD (now (counts .entry)) u 0 ⌝ }
+{
+    let at = u as usize;
+    cell(counts, at)
+}
+
+// The operand of an `and` that has its clause of number i, and that clause's number there.
+fn choose(counts: &[u32], run: &[u32], i: u32) -> Chosen
+    ensures { λ r. ⌜ r ≡ choose (now (counts .entry)) (now (run .entry)) i ⌝ }
+{
+    let mut left = i;
+    let mut j: usize = 0;
+    while j < run.len() {
+        let u = run[j];
+        let here = count_at(counts, u);
+        if left < here {
+            return Chosen {
+                place: u,
+                index: left,
+            };
+        }
+        left -= here;
+        j += 1;
+    }
+    Chosen { place: 0, index: 0 }
+}
+
+// The number of a clause in a product, taken apart: how many clauses the rest has, the number in the first list, and the
+// number in the rest.
+pub struct Digits(pub u32, pub u32, pub u32);
+
+// Takes apart the number i of a clause of a product of total clauses, whose first list has `here`. The first is slowest.
+fn take_apart(total: u32, here: u32, i: u32) -> Digits
+    requires { ⌜ (0 < here) × (0 < total / here) ⌝ }
+    ensures { λ r. ⌜ Apart total here i r ⌝ }
+{
+    let rest = total / here;
+    Digits(rest, i / rest, i % rest)
+}
+
+// Writes a literal's place, and gives the place after it.
+fn put(out: &mut [u32], at: usize, place: u32) -> usize
+    requires { ⌜ at < length (now out) ⌝ }
+    ensures { λ r. ⌜ (r ≡ at + 1) × (now (out .exit) ≡ set (now (out .entry)) at place) ⌝ }
+{
+    out[at] = place;
+    at + 1
+}
+
+// Writes the clause of number i of the term at x, from at on, and gives its end: the term walker.
+pub(crate) fn write_clause(
+    tags: &[u32],
+    values: &[u32],
+    counts: &[u32],
+    x: TermPlace,
+    i: u32,
+    out: &mut [u32],
+    at: usize,
+) -> usize
+    requires { ⌜ Ask (now tags) (now values) (now counts) (cnf (formAt (now tags) (now values) (x .0))) i (now out) at ⌝ }
+    ensures { λ r. ⌜ Written (getD (cnf (formAt (now (tags .entry)) (now (values .entry)) (x .0))) i []) (now (out .entry)) at (now (out .exit)) r ⌝ }
+{
+    let view = normal_view(tags, values, x);
+    match view {
+        NormalView::Literal => put(out, at, x.0),
+        NormalView::Forall(_) => put(out, at, 0),
+        NormalView::Connective(all) => {
+            let run = operands(tags, values, x);
+            if all {
+                let c = choose(counts, run, i);
+                return write_clause(tags, values, counts, TermPlace(c.place), c.index, out, at);
+            }
+            let total = count_at(counts, x.0);
+            write_run(tags, values, counts, x, run, total, i, out, at)
+        }
+    }
+}
+
+// Writes the clause of number i of an `or` of the run's places: the run walker.
+fn write_run(
+    tags: &[u32],
+    values: &[u32],
+    counts: &[u32],
+    x: TermPlace,
+    run: &[u32],
+    total: u32,
+    i: u32,
+    out: &mut [u32],
+    at: usize,
+) -> usize
+    requires { ⌜ AskRun (now tags) (now values) (now counts) (x .0) (now run) total i (now out) at ⌝ }
+    ensures { λ r. ⌜ Written (getD (cnfOr (runOf (now (tags .entry)) (now (values .entry)) (now (run .entry)))) i []) (now (out .entry)) at (now (out .exit)) r ⌝ }
+{
+    if run.len() == 0 {
+        return at;
+    }
+    let u = run[0];
+    let here = count_at(counts, u);
+    let d = take_apart(total, here, i);
+    let next = write_clause(tags, values, counts, TermPlace(u), d.1, out, at);
+    write_run(tags, values, counts, x, &run[1..], d.0, d.2, out, next)
+}

@@ -1,0 +1,104 @@
+use Rattle.normal_form.proofs.call.Laws.{normals, checked-ready, count-fits}
+use borrow.Author.Needs.{needs}
+use Rattle.normal_form.proofs.call.normal_form.Statement.{statement}
+use Rattle.normal_form.proofs.call.normal_form.Tie as tie
+use Rattle.normal_form.proofs.call.normal_form.Reads as reads
+use Rattle.normal_form.proofs.call.normal_form.Lts as lts
+use Rattle.headers.proofs.description.cut_back.Reads as cut-back-reads
+use Rattle.normal_form.proofs.negation_normal_form.build_normal_form.Reads as build-normal-form-reads
+use Rattle.pool.proofs.Answer.accepted.Reads as accepted-reads
+use Rattle.pool.proofs.Answer.refused.Reads as refused-reads
+use Rattle.pool.proofs.call.check_term.Reads as check-term-reads
+
+check-term-requires : tie.Need-check-term-requires
+check-term-requires c κs = search needs
+
+same-length : tie.Need-same-length
+same-length c = search needs
+
+same-length-2 : tie.Need-same-length-2
+same-length-2 c = search needs
+
+returns : tie.Need-returns
+returns c = search normals
+
+cut-back-requires : tie.Need-cut-back-requires
+cut-back-requires c κs = search needs
+
+same-length-3 : tie.Need-same-length-3
+same-length-3 c = search needs
+
+same-length-4 : tie.Need-same-length-4
+same-length-4 c = search needs
+
+returns-2 : tie.Need-returns-2
+returns-2 c = search normals
+
+build-normal-form-requires : tie.Need-build-normal-form-requires
+build-normal-form-requires c κs = checked-ready _ _ _ _ _ _ (c .before .before .before .before .before .before .check-term .ensures) (c .before .before .if2 .left)
+
+enum-known-p : tie.Need-enum-known-p
+enum-known-p c = search needs
+
+enum-told : tie.Need-enum-told
+enum-told c = search needs
+
+cut-back-requires-2 : tie.Need-cut-back-requires-2
+cut-back-requires-2 c κs = search needs
+
+refused-requires : tie.Need-refused-requires
+refused-requires c κs = search needs
+
+same-length-5 : tie.Need-same-length-5
+same-length-5 c = search needs
+
+same-length-6 : tie.Need-same-length-6
+same-length-6 c = search needs
+
+returns-3 : tie.Need-returns-3
+returns-3 c = search normals
+
+cut-back-requires-3 : tie.Need-cut-back-requires-3
+cut-back-requires-3 c κs = search needs
+
+cast-accepted : tie.Need-cast-accepted
+cast-accepted c = search count-fits
+
+accepted-requires : tie.Need-accepted-requires
+accepted-requires c κs = search needs
+
+same-length-7 : tie.Need-same-length-7
+same-length-7 c = search needs
+
+same-length-8 : tie.Need-same-length-8
+same-length-8 c = search needs
+
+returns-4 : tie.Need-returns-4
+returns-4 c = search normals
+
+pub normal-form-spec : {M : Type 1} → statement M
+normal-form-spec =
+    tie.close
+    (tie.spec
+    check-term-requires
+    same-length
+    same-length-2
+    returns
+    cut-back-requires
+    same-length-3
+    same-length-4
+    returns-2
+    build-normal-form-requires
+    enum-known-p
+    enum-told
+    cut-back-requires-2
+    refused-requires
+    same-length-5
+    same-length-6
+    returns-3
+    cut-back-requires-3
+    cast-accepted
+    accepted-requires
+    same-length-7
+    same-length-8
+    returns-4)

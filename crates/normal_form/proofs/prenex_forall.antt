@@ -1,0 +1,2 @@
+-- Laws of the taken-out form.
+pub mod Laws
