@@ -5,3 +5,4 @@ pub mod Totals
 pub mod Coincide
 pub mod ClauseTruth
 pub mod Mapped
+pub mod FormTree

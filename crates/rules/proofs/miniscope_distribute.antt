@@ -1,0 +1,2 @@
+-- The laws of `miniscope_distribute`.
+pub mod Laws

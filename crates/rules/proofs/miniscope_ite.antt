@@ -1,0 +1,2 @@
+-- The laws of `miniscope_ite`.
+pub mod Laws

@@ -1,0 +1,2 @@
+-- The laws of `miniscope_split`.
+pub mod Laws

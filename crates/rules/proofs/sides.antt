@@ -1,0 +1,2 @@
+-- The laws of `sides`.
+pub mod Laws

@@ -1,0 +1,2 @@
+-- The laws of `used`.
+pub mod Laws

@@ -1,0 +1,16 @@
+pub mod Outcome
+pub mod Binding
+pub mod BindingAnswer
+pub mod Form
+pub mod FormAnswer
+pub mod QntJoin
+pub mod JoinAlong
+pub mod QntRmUnused
+pub mod MiniscopeDistribute
+pub mod MiniscopeSplit
+pub mod MiniscopeIte
+pub mod Checked
+pub mod Used
+pub mod SidesAnswer
+pub mod IteAnswer
+pub mod Cases
