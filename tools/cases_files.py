@@ -21,7 +21,7 @@ def cases():
     yield 'file-word-short', None, GOOD[:-4]
     yield 'file-word-long', None, GOOD + bytes(4)
     yield 'file-larger-than-any', None, call_file(1, [0] * 9000, [0] * 9000) + bytes(40000)
-    for call in (0, 3, 4, 5, 256, BIG):
+    for call in (0, 5, 256, BIG):
         yield 'file-call-%d' % call, None, call_file(call, *POOL, place=1)
     yield 'file-9001-tags', None, call_file(1, [1] + [0] * 9000, [], n=1)
     yield 'file-9001-values', None, call_file(1, [], [0] * 9001)

@@ -7,8 +7,8 @@ ORACLE is a program that reads a step file and, called with `dump`, prints for e
 `sort P S` and `free P V ..`, or else `pool-bad P`, `sort-bad P`: the Rust behind a loader of packed pools, which
 stops at the first header with any trouble. CALLS is the program `calls`. For each pool every term's sort and
 free variables are asked of both; a damaged copy is asked whether, and where, it is refused, and the reference
-(reference.py), which tells 14, 15 and 16 apart, must say the same as `calls`. The test files of crates/calls are
-held against the Rust too, and one of them is given to `calls` on standard input.
+(reference.py), which tells 14, 15 and 16 apart, must say the same as `calls`. The test files of these calls are held
+against the Rust too, and one of them is given to `calls` on standard input.
 """
 import argparse
 import collections
@@ -20,6 +20,7 @@ import subprocess
 import tempfile
 
 import reference
+import reference_program
 from packed_pool import call_file, step_file
 from random_pools import RandomPool, damaged
 
@@ -29,7 +30,7 @@ BATCH = 20  # pools to a run of `calls`
 
 class Compared:
     def __init__(self, oracle, calls):
-        self.oracle, self.calls = os.path.abspath(oracle), os.path.abspath(calls)
+        self.oracle, self.calls = os.path.abspath(oracle), calls and os.path.abspath(calls)
         self.count = collections.Counter()
         self.tags = set()
 
@@ -79,10 +80,10 @@ class Compared:
                 sorts, free = self.dump(pool.tags, pool.values)
                 assert set(sorts) == set(pool.terms), 'the Rust refuses a pool of the generator'
                 self.readings(pool, free)
-            cells = [reference.line('tags', pool.tags), reference.line('values', pool.values)]
+            cells = [reference_program.line('tags', pool.tags), reference_program.line('values', pool.values)]
             marks = [1 if v in free[t] else 0 for v in range(len(pool.tags))]
             self.same('sorts', texts[2 * i], ['0 %d 0 0' % sorts[t], *cells], pool, t)
-            self.same('free variables', texts[2 * i + 1], ['0 0 0 0', *cells, reference.line('marks', marks)], pool, t)
+            self.same('free variables', texts[2 * i + 1], ['0 0 0 0', *cells, reference_program.line('marks', marks)], pool, t)
 
     def readings(self, pool, free):
         """How many of the sets would be others in SMT-LIB's readings: enough that the comparison sees them."""
@@ -108,7 +109,9 @@ class Compared:
         """The reference's answers on the test files, from which the expected output was made, against the Rust."""
         for path in sorted(DATA.glob('*.call')):
             file = path.read_bytes()
-            text = reference.run(file).splitlines()
+            if reference_program.call_of(file) in (3, 4):
+                continue
+            text = reference_program.run(file).splitlines()
             if text[0] == 'bad file' or text[0].startswith(('17', '30')):
                 continue
             _, t, _, n, place = struct.unpack('<5I', file[:20])
@@ -126,7 +129,7 @@ class Compared:
     def standard_input(self):
         file = (DATA / 'free-forall.call').read_bytes()
         printed = subprocess.run([self.calls], input=file, capture_output=True, check=True).stdout.decode()
-        assert printed == reference.run(file), 'standard input'
+        assert printed == reference_program.run(file), 'standard input'
 
 
 def main():

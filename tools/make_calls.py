@@ -1,27 +1,32 @@
 #!/usr/bin/env python3
 """Writes the test files of the program `calls`: crates/calls/data/*.call, args, and stdout, what it must print.
 
-What is expected comes from reference.py, held against the answers that the cases state by hand.
+What is expected comes from the reference, held against the answers that the cases state by hand. Files of calls that
+are not BUILT (reference_program.py) are written, but neither named in args nor in stdout.
 """
 import pathlib
 
 import cases_checks
+import cases_clauses
 import cases_files
 import cases_free
+import cases_normal
 import cases_sorts
-import reference
+from reference_program import BUILT, call_of, run
 
 CRATE = pathlib.Path(__file__).resolve().parent.parent / 'crates' / 'calls'
 MISSING = 'no-such-file.call'
 
 
-def held(name, text, answer, marked=None):
-    """The text, if it begins with the answer and has these marks."""
-    first = 'bad file' if answer is None else '%d %d %d 0' % answer
+def held(name, text, answer, more=None):
+    """The text, if it begins with the answer and has these marks, or is the one written down."""
+    first = 'bad file' if answer is None else ' '.join(map(str, (*answer, 0)[:4]))
     assert text.splitlines()[0] == first, (name, first, text[:80])
-    if marked is not None and text.splitlines()[-1].startswith('marks'):
+    if isinstance(more, str):
+        assert text == more, (name, more, text)
+    elif more is not None and text.splitlines()[-1].startswith('marks'):
         marks = text.splitlines()[-1].split()[1:]
-        assert {i for i, mark in enumerate(marks) if mark == '1'} == marked, (name, marked)
+        assert {i for i, mark in enumerate(marks) if mark == '1'} == more, (name, more)
     return text
 
 
@@ -30,18 +35,21 @@ def main():
     data.mkdir(parents=True, exist_ok=True)
     for old in data.glob('*.call'):
         old.unlink()
-    names, printed = [], []
-    for cases in (cases_files, cases_checks, cases_sorts, cases_free):
-        for name, answer, file, *marked in cases.cases():
-            names.append(name + '.call')
-            (data / names[-1]).write_bytes(file)
-            printed.append(names[-1] + ':\n' + held(name, reference.run(file), answer, *marked))
+    written, names, printed = set(), [], []
+    for cases in (cases_files, cases_checks, cases_sorts, cases_free, cases_normal, cases_clauses):
+        for name, answer, file, *more in cases.cases():
+            assert name not in written, name
+            written.add(name)
+            (data / (name + '.call')).write_bytes(file)
+            text = held(name, run(file), answer, *more)
+            if call_of(file) not in (3, 4) or call_of(file) in BUILT:
+                names.append(name + '.call')
+                printed.append(names[-1] + ':\n' + text)
     names.append(MISSING)
     printed.append(MISSING + ':\nbad file\n')
-    assert len(set(names)) == len(names)
     (CRATE / 'args').write_text('\n'.join(names) + '\n')
     (CRATE / 'stdout').write_text(''.join(printed))
-    print(len(names), 'files')
+    print('%d files, %d of them tried' % (len(written), len(names) - 1))
 
 
 if __name__ == '__main__':

@@ -1,5 +1,6 @@
 """Random pools: every kind of sort and term, odd counts of operands, shared terms, binders with repeats, one
-name under several sorts, lets. And damaged copies of them."""
+name under several sorts, lets. Pools that are mostly of connectives and quantifiers, and such whose clause list is about
+as long as it may be. And damaged copies of them."""
 from packed_pool import BINDER_TAG, CONSTANT_TAG, NoAnswer, OPERATOR_TAG, Pool, SORT_TAG
 from reference import BIT_VECTORS, OPERATORS
 
@@ -95,6 +96,51 @@ class RandomPool(Pool):
                 return self.op(name, *chosen)
             except NoAnswer:
                 pass
+
+
+class RandomFormulas(RandomPool):
+    """Three terms of four are connectives or quantifiers, mostly with the count of operands that takes them apart."""
+    COUNTS = {'Not': (1,), 'Implies': (2,), 'Equals': (2,), 'Ite': (3,), 'And': (0, 1, 2, 2, 2, 3, 4), 'Or': (0, 1, 2, 2, 2, 3, 4)}
+
+    def formula(self):
+        """Mostly of sort Bool, and often one of the last."""
+        bools = [t for t in self.terms if self.sort_of(t) == 0]
+        places = bools if bools and self.rng.random() < 0.9 else self.terms
+        return self.rng.choice(places[-5:] if self.rng.random() < 0.5 else places)
+
+    def random_term(self):
+        if self.rng.random() < 0.25:
+            return super().random_term()
+        name = self.rng.choice(list(self.COUNTS) + ['forall', 'exists'])
+        if name in BINDER_TAG:
+            return self.binder(name, self.formula(), self.pairs(self.pair, 0))
+        count = self.rng.choice(self.COUNTS[name]) if self.rng.random() < 0.9 else self.rng.randint(0, 4)
+        return self.op(name, *(self.formula() for _ in range(count)))
+
+
+def near_limits(rng):
+    """A pool whose last term has about 2,048 clauses, or about 8,192 literals: a product and what is missing."""
+    pool = Pool()
+    p, q, r = (pool.var(name) for name in (1, 2, 3))
+    literals = [p, q, r, pool.op('Not', p), pool.op('Xor', p, q)]
+    more = rng.randint(0, 3)  # literals of every clause of the product beside two
+    clauses = rng.random() < 0.5
+    wanted = (2048 if clauses else 8192) + rng.randint(-3, 3)
+    first = rng.randint(2, 60)
+    second = rng.randint(1, wanted // (1 if clauses else 2 + more) // first)
+    parts = [pool.op('And', *rng.choices(literals, k=first)), pool.op('And', *rng.choices(literals, k=second)),
+             *rng.choices(literals, k=more)]
+    rng.shuffle(parts)
+    product = pool.op('Or', *parts)
+    missing = wanted - first * second * (1 if clauses else 2 + more)
+    if clauses:
+        rest = rng.choices(literals, k=missing)
+    else:
+        clause = pool.op('Or', *rng.choices(literals, k=50))
+        rest = [clause] * (missing // 50) + rng.choices(literals, k=missing % 50)
+    at = rng.randint(0, len(rest))
+    pool.terms = [pool.op('And', *rest[:at], product, *rest[at:])]
+    return pool
 
 
 def damaged(rng, pool):

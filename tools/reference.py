@@ -5,16 +5,12 @@ An independent reading, for the expected outputs: nothing here is taken from the
     check(tags, values, n)                    (code, first, second): checks 30, 14, 15, 16
     sort_call(tags, values, n, t)             the same for call 1, then 17 and the sort's place
     free_call(tags, values, n, t, marks)      the same for call 2; `marks`, a list, is changed
-    run(file)                                 what the program `calls` prints on a call file
     first_trouble(tags, values, n)            14, 15 and 16 in one pass, as the Rust loader meets them
 
 A computed sort is the place of a header (int), or a description (tag, cell, ..) in which a cell may
 be a description in turn.
 """
-import struct
-
 LIMIT = 8192
-MOST = 9000  # of each array of a call file
 
 OPERATORS = """True False Not Implies And Or Xor Equals Distinct Ite Add Sub Mult IntDiv RealDiv Mod
 Abs LessThan GreaterThan LessEq GreaterEq ToReal ToInt IsInt Pow2 IsPow2 Log2 RealPi Sqrt Exp Sin Cos
@@ -332,28 +328,7 @@ def free_call(tags, values, n, t, marks):
     return answer
 
 
-# ---- the program
-def run(file):
-    """What `calls` prints: calls 1 and 2; any other is not built."""
-    if len(file) < 32:
-        return 'bad file\n'
-    call, t, v, n, place, _, x, _ = struct.unpack('<8I', file[:32])
-    if call not in (1, 2) or t > MOST or v > MOST or (call == 2 and x > MOST) or len(file) != 4 * (8 + t + v):
-        return 'bad file\n'
-    tags = list(struct.unpack('<%dI' % t, file[32:32 + 4 * t]))
-    values = list(struct.unpack('<%dI' % v, file[32 + 4 * t:]))
-    marks = [7] * x if call == 2 else []
-    answer = sort_call(tags, values, n, place) if call == 1 else free_call(tags, values, n, place, marks)
-    lines = ['%d %d %d 0' % answer, line('tags', tags), line('values', values)]
-    if call == 2:
-        lines.append(line('marks', marks))
-    return '\n'.join(lines) + '\n'
-
-
-def line(name, numbers):
-    return ' '.join([name] + [str(k) for k in numbers])
-
-
+# ---- the Rust loader
 def first_trouble(tags, values, n):
     """The first header with which anything is wrong: the place at which the Rust loader stops."""
     seen, index, p = {}, {}, 0
