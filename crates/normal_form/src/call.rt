@@ -1,12 +1,19 @@
 // The public calls: the normal form of a term, and the clause list of a term.
 use crate::build::Built;
 use crate::negation_normal_form::build_normal_form;
+use crate::prenex_forall::build_taken_out;
+use clauses::clause_list::list_clauses;
 use pool::Answer;
 use pool::TermPlace;
 use pool::call::check_term;
 use pool::description::cut_back;
+ghost use Prim.Native.Nat.{_<_};
+ghost use mathlib.Core.Path.{_≡_};
+ghost use lib.ListN.{length};
 ghost use Rattle.sorts.specs.Table.{builtIn};
-ghost use Rattle.normal_form.specs.Calls.{NormalForm};
+ghost use Rattle.normal_form.specs.Calls.{NormalForm, ClauseList, clausal};
+ghost use Rattle.normal_form.specs.Walk.{State, NormalBuilt};
+ghost use Rattle.normal_form.specs.ClauseCall.{Checked, unlisted};
 
 // The normal form of the term at t at a polarity: accepted, its place and the new count.
 pub fn normal_form(
@@ -32,4 +39,89 @@ pub fn normal_form(
     };
     cut_back(tags, values, m);
     Answer::accepted(p, m as u32)
+}
+
+// What the clause list's call gives: the answer, with the two totals if accepted, and the new count.
+pub struct Listed {
+    pub answer: Answer,
+    pub count: u32,
+}
+
+// The taken-out normal form of the term at t at true polarity.
+fn build_clausal(tags: &mut [u32], values: &mut [u32], n: usize, t: TermPlace) -> Built
+    requires { ⌜ State n n (now tags) (now values) ⌝ }
+    requires { ⌜ t .0 < n ⌝ }
+    ensures { λ r. ⌜ NormalBuilt n (now (tags .entry)) (now (values .entry)) (clausal (now (tags .entry)) (now (values .entry)) builtIn n (t .0)) r (now (tags .exit)) (now (values .exit)) ⌝ }
+{
+    let Built::At(x, m) = build_normal_form(tags, values, n, t, true) else {
+        return Built::Full;
+    };
+    build_taken_out(tags, values, m, x)
+}
+
+fn refused(answer: Answer) -> Listed
+    ensures { λ r. ⌜ r ≡ unlisted answer ⌝ }
+{
+    Listed {
+        answer: answer,
+        count: 0,
+    }
+}
+
+// The clause list of a term that has passed its checks: 31, 13, 32, or the list.
+fn list_checked(
+    tags: &mut [u32],
+    values: &mut [u32],
+    n: usize,
+    t: TermPlace,
+    literals: &mut [u32],
+    ends: &mut [u32],
+) -> Listed
+    requires { ⌜ Checked (now tags) (now values) builtIn n (t .0) (length (now literals)) (length (now ends)) ⌝ }
+    ensures { λ r. ⌜ ClauseList (now (tags .entry)) (now (values .entry)) builtIn n (t .0) (now (literals .entry)) (now (ends .entry)) (r .answer) (r .count) (now (tags .exit)) (now (values .exit)) (now (literals .exit)) (now (ends .exit)) ⌝ }
+{
+    let Built::At(x, m) = build_clausal(tags, values, n, t) else {
+        cut_back(tags, values, n);
+        cut_back(literals, ends, 0);
+        return refused(Answer::refused(31, 0, 0));
+    };
+    let answer = list_clauses(&tags[..m], &values[..m], TermPlace(x), literals, ends);
+    if answer.code != 0 {
+        cut_back(tags, values, n);
+        return refused(answer);
+    }
+    cut_back(tags, values, m);
+    Listed {
+        answer: answer,
+        count: m as u32,
+    }
+}
+
+// The clause list of the term at t: accepted, its two totals and the new count, with the list in the lent arrays.
+pub fn clause_list(
+    tags: &mut [u32],
+    values: &mut [u32],
+    n: usize,
+    t: TermPlace,
+    literals: &mut [u32],
+    ends: &mut [u32],
+) -> Listed
+    ensures { λ r. ⌜ ClauseList (now (tags .entry)) (now (values .entry)) builtIn n (t .0) (now (literals .entry)) (now (ends .entry)) (r .answer) (r .count) (now (tags .exit)) (now (values .exit)) (now (literals .exit)) (now (ends .exit)) ⌝ }
+{
+    if literals.len() < 8192 {
+        return refused(Answer::refused(30, 0, 0));
+    }
+    if ends.len() < 2048 {
+        return refused(Answer::refused(30, 0, 0));
+    }
+    let checked = check_term(tags, values, n, t);
+    if checked.code == 30 {
+        return refused(checked);
+    }
+    if checked.code != 0 {
+        cut_back(tags, values, n);
+        cut_back(literals, ends, 0);
+        return refused(checked);
+    }
+    list_checked(tags, values, n, t, literals, ends)
 }

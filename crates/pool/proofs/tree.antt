@@ -14,4 +14,5 @@ pub mod Specials
 pub mod SortRules
 pub mod WrongSort
 pub mod Free
+pub mod Occurs
 pub mod Passed

@@ -159,7 +159,7 @@ module _ (tags values counts : List ℕ) (x total : ℕ) (literals₀ ends₀ : 
 pub ruleset wrotes = (wrote-start, wrote-end, wrote-next)
 
 -- ---- the answers
-zero-all : (l : List ℕ) → zeroFrom 0 l ≡ replicate (length l) 0
+pub zero-all : (l : List ℕ) → zeroFrom 0 l ≡ replicate (length l) 0
 unfolding zeroFrom
 zero-all l = let z : length l - 0 ≡ length l = omega arith in ap (λ (n : ℕ). replicate {A = ℕ} n 0) z
 

@@ -1,28 +1,28 @@
 -- Laws of the public calls: what a term that passes its checks gives the walkers, and what is left in the arrays at each answer.
 -- Assumes nothing.
-use Prim.Native.Nat.{ℕ, suc, _+_, _-_, _^_, _≤_, _<_}
-use mathlib.Core.Path.{_≡_, refl, sym, ap, ap₂, _∙_}
-use mathlib.Core.Bool.{Bool, true, false, _&&_, cond}
-use mathlib.Core.List.{List, _++_}
-use lib.ListN.{length, take, replicate}
+use Prim.Native.Nat.{ℕ, _-_, _^_, _<_}
+use mathlib.Core.Path.{_≡_, refl, sym, ap, _∙_}
+use mathlib.Core.Bool.{Bool, true, false, _&&_}
+use mathlib.Core.List.{List}
+use lib.ListN.{length, take}
 use lib.Seq.{length-take-le}
 use lib.Dec.{eqb, ltb}
 use native.Mathlib.Omega.{arith}
-use borrow.Author.Tests.{eq-eqb, ne-eqb, eqb-true, eqb-false, ltb-true}
+use borrow.Author.Tests.{eq-eqb, ne-eqb, eqb-false, ltb-true}
 use Rattle.cells.specs.ByPlace.{by-test}
-use Rattle.headers.specs.WellFormed.{isTermTag, isTerm}
+use Rattle.headers.specs.WellFormed.{isTerm}
 use Rattle.headers.specs.Description.{zeroFrom, Cut}
 use Rattle.headers.proofs.description.Fills.{well-formed-fills}
-use Rattle.pool.specs.Answer.{accepted, notATerm}
+use Rattle.pool.specs.Answer.{accepted}
 use Rattle.pool.specs.Check.{checkPool, andThen, checkTerm}
 use Rattle.pool.specs.declared.Answer.{Answer}
-use Rattle.pool.proofs.tree.Passed.{Passed, pool-accepts, term-passes}
+use Rattle.pool.proofs.tree.Passed.{Passed, term-passes}
 use Rattle.normal_form.specs.declared.build.Built.{Built}
 use Rattle.normal_form.specs.declared.build.Built.the-variants.{At, Full}
 use Rattle.formulas.specs.Built.{Pool, Placed, count}
 use Rattle.clauses.specs.Lists.{padded}
-use Rattle.normal_form.specs.Calls.{noRoom, poolOf, fits, arrayLeft, normalAnswer, normalPlace, NormalForm}
-use Rattle.normal_form.specs.Walk.{State, Left, Holds, NormalBuilt}
+use Rattle.normal_form.specs.Calls.{noRoom, arrayLeft, normalAnswer, normalPlace, NormalForm}
+use Rattle.normal_form.specs.Walk.{State, Holds, NormalBuilt}
 use Rattle.normal_form.proofs.build.Laws.{pool-count}
 
 -- ---- a term that passes its checks
@@ -87,21 +87,21 @@ pub count-fits : (n : ℕ) (tags values : List ℕ) (o : Placed) (b : Built) (ta
 count-fits n tags values o b tags′ values′ built p m e = let (h, room) = rw e at built in omega (arith, h .state .small)
 
 -- arrays that have kept their first n cells, cut back to these
-zero-kept : (n : ℕ) (l l′ : List ℕ) → length l′ ≡ length l → take n l′ ≡ take n l → zeroFrom n l′ ≡ zeroFrom n l
+pub zero-kept : (n : ℕ) (l l′ : List ℕ) → length l′ ≡ length l → take n l′ ≡ take n l → zeroFrom n l′ ≡ zeroFrom n l
 unfolding zeroFrom
 zero-kept n l l′ e k = rw (e, k)
 
 -- what each code leaves
 module _ (r : Answer) (cells : List ℕ) (n : ℕ) (used : List ℕ) where
-  left-30 : r .code ≡ 30 → cells ≡ arrayLeft r cells n used
+  pub left-30 : r .code ≡ 30 → cells ≡ arrayLeft r cells n used
   unfolding arrayLeft
   left-30 e = rw (eq-eqb _ _ e)
 
-  left-refused : (r .code ≡ 30 → ⊥) → (r .code ≡ 0 → ⊥) → zeroFrom n cells ≡ arrayLeft r cells n used
+  pub left-refused : (r .code ≡ 30 → ⊥) → (r .code ≡ 0 → ⊥) → zeroFrom n cells ≡ arrayLeft r cells n used
   unfolding arrayLeft
   left-refused a b = rw (ne-eqb _ _ a, ne-eqb _ _ b)
 
-  left-accepted : r .code ≡ 0 → padded used (length cells) ≡ arrayLeft r cells n used
+  pub left-accepted : r .code ≡ 0 → padded used (length cells) ≡ arrayLeft r cells n used
   unfolding arrayLeft
   left-accepted e = rw (ne-eqb (r .code) 30 (λ z. omega arith), eq-eqb _ _ e)
 

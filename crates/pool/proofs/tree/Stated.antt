@@ -1,9 +1,9 @@
 -- The sort that a term states, and the variable at a place, in a pool that passes check 14.
 -- Assumes nothing.
 use Prim.Native.Nat.{ℕ, _+_, _≤_, _<_}
-use mathlib.Core.Path.{_≡_, refl, ap, _∙_}
+use mathlib.Core.Path.{_≡_, refl, ap, ap₂, _∙_}
 use mathlib.Core.Bool.{true}
-use mathlib.Core.List.{List}
+use mathlib.Core.List.{List, [], _∷_}
 use lib.ListN.{length, getD}
 use lib.Seq.{getD-take, getD-drop}
 use native.Mathlib.Omega.{arith}
@@ -16,9 +16,10 @@ use Rattle.pool.specs.Tree.{sortTree, termFrom, tree}
 use Rattle.pool.specs.FreeTree.{varAt}
 use Rattle.cells.specs.declared.Found.the-variants.{Nothing}
 use Rattle.headers.specs.declared.well_formed.CellKind.the-variants.{OfSort}
-use Rattle.pool.proofs.tree.Header.{Header, header, sort-cell, term-tagged}
+use Rattle.pool.proofs.tree.Header.{Header, header, cells-length, sort-cell, term-tagged}
 use Rattle.pool.proofs.tree.Walk.{place-fits}
 use Rattle.pool.proofs.tree.Tags.{shape-op, by-term-tag}
+use Rattle.pool.proofs.tree.Parts.{two-cells}
 use Rattle.pool.proofs.tree.Terms.{term-is, term-op, even-rest}
 
 -- the sort of a term is that of its first cell
@@ -90,14 +91,18 @@ module _ (tags values : List ℕ) (n : ℕ) (whole : n ≤ length values) (forme
         (stated-first (sortTree tags values) (tree tags values) (cellsOf values t) (getD tags t 0) (getD values t 0) k (fits .count)
         ∙ ap (sortTree tags values) (rw (cell-is 0 (omega arith), z)))
 
-  -- a variable's name is its second cell
-  pub var-is : (t : ℕ) → t < n → getD tags t 0 ≡ 21 → tree tags values t ≡ var (varAt tags values t)
-  unfolding varAt sortOf termFrom shapeOf countFits
-  var-is t h e =
+  -- a variable's cells: its sort and its name
+  pub var-cells : (t : ℕ) → t < n → getD tags t 0 ≡ 21 → cellsOf values t ≡ sortOf values t ∷ getD values (t + 2) 0 ∷ []
+  unfolding sortOf shapeOf countFits
+  var-cells t h e =
       let k : isTermTag (getD tags t 0) ≡ true = var-tag _ e in
       let two : getD values t 0 ≡ 2 = eqb-true _ 2 (rw e at (fits t h k .count)) in
       let first : t + 1 + 0 ≡ t + 1 = omega arith in
       let second : t + 1 + 1 ≡ t + 2 = omega arith in
-      let sort-at : getD (cellsOf values t) 0 0 ≡ getD values (t + 1) 0 = rw (cell-is t h k 0 (omega arith), first) in
-      let name-at : getD (cellsOf values t) 1 0 ≡ getD values (t + 2) 0 = rw (cell-is t h k 1 (omega arith), second) in
-      rw (term-is tags values n whole formed t h k, e, sort-at, name-at)
+      two-cells (λ cs. getD cs 0 0 ≡ getD values (t + 1) 0 → getD cs 1 0 ≡ getD values (t + 2) 0 → cs ≡ getD values (t + 1) 0 ∷ getD values (t + 2) 0 ∷ [])
+      (λ a b p q. ap₂ (λ (a b : ℕ). a ∷ b ∷ []) p q) (cellsOf values t) (cells-length tags values t n whole (fits t h k) ∙ two)
+      (rw (cell-is t h k 0 (omega arith), first)) (rw (cell-is t h k 1 (omega arith), second))
+
+  pub var-is : (t : ℕ) → t < n → getD tags t 0 ≡ 21 → tree tags values t ≡ var (varAt tags values t)
+  unfolding varAt termFrom
+  var-is t h e = rw (term-is tags values n whole formed t h (var-tag _ e), e, var-cells t h e)

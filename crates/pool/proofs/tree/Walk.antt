@@ -2,6 +2,7 @@
 --     place-fits     a place with a tag is a header, and passes check 14
 --     place-described     so the list of its cells is as long as its tag demands, and each holds what it must
 --     one-place      two places with one description are one place
+--     found-holds    a test holds at the place that a walk finds
 -- A cell between headers has tag 0, so a place whose tag is not 0 is a header of the walk.
 -- Assumes nothing.
 use Prim.Native.Nat.{ℕ, zero, suc, _+_, _-_, _≤_, _<_}
@@ -13,7 +14,7 @@ use lib.Dec.{leb, eqb, ltb}
 use native.Mathlib.Omega.{arith}
 use borrow.Author.Tests.{leb-true, leb-false, eqb-true, eqb-false, ltb-true, ltb-false, eq-eqb, not-false}
 use Rattle.cells.specs.ByPlace.{by-test}
-use Rattle.cells.specs.Headers.{firstFrom, firstHeader}
+use Rattle.cells.specs.Headers.{firstIn, firstFrom, firstHeader}
 use Rattle.cells.specs.Cell.{cellsOf, isAt}
 use Rattle.headers.specs.WellFormed.{headerFits, firstBad}
 use Rattle.headers.specs.Description.{find, isFound, repeats, firstRepeat}
@@ -33,6 +34,21 @@ module _ (values : List ℕ) (n : ℕ) (test : ℕ → Bool) (p : ℕ) (h : p < 
 
   pub goes-on : firstFrom values n test (p + (1 + getD values p 0)) ≡ Nothing
   goes-on = sym (first-next values n test Nothing p (sym none) h false (sym passes) refl (getD values p 0) refl)
+
+module _ (values : List ℕ) (n : ℕ) (test : ℕ → Bool) where
+  holds-in : (f p q : ℕ) → firstIn values n test f p ≡ At q → test q ≡ true
+  unfolding firstIn
+  holds-in zero p q e = let z : _≡_ {A = ℕ} 0 1 = cc in absurd (omega arith)
+  holds-in (suc f) p q e =
+      by-test (leb n p)
+      (λ o. let d : Nothing ≡ At q = rw o at e in let z : _≡_ {A = ℕ} 0 1 = cc in absurd (omega arith))
+      (λ o. by-test (test p)
+      (λ y. let d : At p ≡ At q = rw (o, y) at e in let z : p ≡ q = cc in rw z at y)
+      (λ y. holds-in f (p + (1 + getD values p 0)) q (rw (o, y) at e)))
+
+  pub found-holds : (q : ℕ) → firstHeader values n test ≡ At q → test q ≡ true
+  unfolding firstHeader firstFrom
+  found-holds q = holds-in (n - 0) 0 q
 
 module _ (tags values : List ℕ) (n : ℕ) where
   isBad : ℕ → Bool

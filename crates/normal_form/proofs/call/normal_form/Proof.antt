@@ -2,13 +2,6 @@ use Rattle.normal_form.proofs.call.Laws.{normals, checked-ready, count-
 use borrow.Author.Needs.{needs}
 use Rattle.normal_form.proofs.call.normal_form.Statement.{statement}
 use Rattle.normal_form.proofs.call.normal_form.Tie as tie
-use Rattle.normal_form.proofs.call.normal_form.Reads as reads
-use Rattle.normal_form.proofs.call.normal_form.Lts as lts
-use Rattle.headers.proofs.description.cut_back.Reads as cut-back-reads
-use Rattle.normal_form.proofs.negation_normal_form.build_normal_form.Reads as build-normal-form-reads
-use Rattle.pool.proofs.Answer.accepted.Reads as accepted-reads
-use Rattle.pool.proofs.Answer.refused.Reads as refused-reads
-use Rattle.pool.proofs.call.check_term.Reads as check-term-reads
 
 check-term-requires : tie.Need-check-term-requires
 check-term-requires c κs = search needs

@@ -1,0 +1,320 @@
+-- Laws of the clause list's call: the taken-out normal form is built, and what is left at each answer.
+-- Assumes nothing.
+use Prim.Native.Nat.{ℕ, zero, suc, _≤_, _<_}
+use mathlib.Core.Path.{_≡_, refl, sym, ap, ap₂, _∙_}
+use mathlib.Core.Bool.{true, _&&_, cond}
+use mathlib.Core.List.{List, [], _∷_}
+use lib.ListN.{length, getD, take}
+use lib.Seq.{length-take-le, getD-take, take-take}
+use lib.Dec.{leb}
+use native.Mathlib.Omega.{arith}
+use borrow.Author.Tests.{le-leb, lt-leb, eq-eqb, ne-eqb}
+use Rattle.cells.specs.ByPlace.{by-test}
+use Rattle.headers.specs.Description.{zeroFrom, Cut}
+use Rattle.pool.specs.Answer.{badArrays}
+use Rattle.pool.specs.Check.{andThen, checkTerm}
+use Rattle.pool.specs.declared.Answer.{Answer}
+use Rattle.normal_form.specs.declared.build.Built.{Built}
+use Rattle.normal_form.specs.declared.build.Built.the-variants.{At, Full}
+use Rattle.normal_form.specs.declared.call.Listed.{Listed}
+use Rattle.formulas.specs.Normal.{Normal, prenex}
+use Rattle.formulas.specs.Clauses.{cnf, emptyOr, literalTotal}
+use Rattle.formulas.specs.Built.{Pool, Placed, count, normalForm, normalAt, takenOut}
+use Rattle.clauses.specs.Lists.{literalPlaces, clauseEnds}
+use Rattle.normal_form.specs.Calls.{noRoom, poolOf, fits, normalPlace, clausal, clausalForm, clauseAnswer, listLeft, countLeft, ClauseList}
+use Rattle.normal_form.specs.Walk.{State, Holds, NormalBuilt}
+use Rattle.clauses.specs.ClauseWalk.{formAt}
+use Rattle.clauses.specs.ClauseList.{Lent, Answered, countAnswer, listAnswer, held}
+use Rattle.normal_form.specs.ClauseCall.{Checked, unlisted}
+use Rattle.normal_form.proofs.Interning.{GoesOn, grows-trans, becomes-longer, intern-becomes, intern-goes-on}
+use Rattle.normal_form.proofs.build.Laws.{fits-not, pool-count, pool-good}
+use Rattle.clauses.proofs.clause_list.Laws.{zero-all}
+use Rattle.normal_form.proofs.call.Laws.{checked-ready, holds-count, holds-tags, holds-values, zero-kept, left-30, left-refused, left-accepted}
+
+-- ---- the cells of a pool that has grown
+take-same : (n : ℕ) (l l′ : List ℕ) → n ≤ length l → n ≤ length l′ → ((i : ℕ) → i < n → getD l′ i 0 ≡ getD l i 0) → take n l′ ≡ take n l
+take-same zero l l′ h h′ e = refl
+take-same (suc n) [] l′ h h′ e = absurd (omega arith)
+take-same (suc n) (x ∷ l) [] h h′ e = absurd (omega arith)
+take-same (suc n) (x ∷ l) (y ∷ l′) h h′ e =
+    ap₂ (λ (a : ℕ) (b : List ℕ). a ∷ b) (e 0 (omega arith)) (take-same n l l′ (omega arith) (omega arith) (λ i k. e (suc i) (omega arith)))
+
+-- arrays that hold a pool that goes on from the first n cells have kept these
+module _ (n : ℕ) (tags values : List ℕ) (s : State n n tags values) (o : Placed) (on : GoesOn (poolOf tags values n) (o .pool))
+    (p m : ℕ) (tags₁ values₁ : List ℕ) (h : Holds n o p m tags₁ values₁) where
+  cell-kept : (l l₁ used : List ℕ) → take m l₁ ≡ used → ((i : ℕ) → i < count (poolOf tags values n) → getD used i 0 ≡ getD (take n l) i 0)
+      → (i : ℕ) → i < n → getD l₁ i 0 ≡ getD l i 0
+  cell-kept l l₁ used e same i k =
+      sym (getD-take m l₁ i 0 (omega (arith, h .state .source)))
+      ∙ (ap (λ (x : List ℕ). getD x i 0) e
+      ∙ (same i (omega (arith, pool-count tags values n (s .within))) ∙ getD-take n l i 0 k))
+
+  pub tags-kept : take n tags₁ ≡ take n tags
+  tags-kept =
+      take-same n tags tags₁ (s .within) (omega (arith, h .state .within, h .state .source))
+      (cell-kept tags tags₁ (o .pool .tags) (ap (λ (q : Pool). q .tags) (h .pool-is)) (on .grows .tags-same))
+
+  pub values-kept : take n values₁ ≡ take n values
+  values-kept =
+      take-same n values values₁ (omega (arith, s .within, s .size)) (omega (arith, h .state .within, h .state .size, h .state .source))
+      (cell-kept values values₁ (o .pool .values) (ap (λ (q : Pool). q .values) (h .pool-is)) (on .grows .values-same))
+
+-- ---- the taken-out normal form
+module _ (tags values rules : List ℕ) (n t : ℕ) where
+  normal-on : State n n tags values → GoesOn (poolOf tags values n) (normalPlace tags values rules n t true .pool)
+  unfolding normalForm
+  normal-on s = intern-goes-on _ (poolOf tags values n) (pool-good n n tags values s)
+
+  clausal-on : State n n tags values → GoesOn (poolOf tags values n) (clausal tags values rules n t .pool)
+  unfolding takenOut
+  clausal-on s =
+      let g = normal-on s in
+      let h = intern-goes-on (prenex (normalAt (normalPlace tags values rules n t true .pool) (normalPlace tags values rules n t true .place)))
+      (normalPlace tags values rules n t true .pool) (g .good) in
+      record { good = h .good; grows = grows-trans _ _ _ (g .grows) (h .grows) }
+
+  clausal-longer : count (normalPlace tags values rules n t true .pool) ≤ count (clausal tags values rules n t .pool)
+  unfolding takenOut
+  clausal-longer = becomes-longer _ _ (intern-becomes _ (normalPlace tags values rules n t true .pool))
+
+  module _ (b : Built) (tags₁ values₁ : List ℕ) (built : NormalBuilt n tags values (normalPlace tags values rules n t true) b tags₁ values₁) where
+    pub clausal-full : b ≡ Full → NormalBuilt n tags values (clausal tags values rules n t) Full tags₁ values₁
+    clausal-full e = let (left, full) = rw e at built in (left, fits-not _ _ (length tags) clausal-longer full)
+
+    module _ (x m : ℕ) (e : b ≡ At x m) where
+      normal-holds : Holds n (normalPlace tags values rules n t true) x m tags₁ values₁
+      normal-holds = let (h, room) = rw e at built in h
+
+      -- what taking the foralls out starts from
+      pub normal-state : State m m tags₁ values₁
+      normal-state =
+          let s = normal-holds .state in
+          record { size = s .size; within = s .within; small = s .small; fills = s .fills; source = omega arith }
+
+      pub normal-below : x < m
+      normal-below = normal-holds .below
+
+      clausal-is : takenOut (poolOf tags₁ values₁ m) x ≡ clausal tags values rules n t
+      clausal-is = ap₂ takenOut (normal-holds .pool-is) (normal-holds .place-is)
+
+      pub clausal-then : State n n tags values → length tags₁ ≡ length tags → length values₁ ≡ length values → (r : Built) (tags₂ values₂ : List ℕ)
+          → NormalBuilt m tags₁ values₁ (takenOut (poolOf tags₁ values₁ m) x) r tags₂ values₂
+          → NormalBuilt n tags values (clausal tags values rules n t) r tags₂ values₂
+      clausal-then s size size₂ (At p l) tags₂ values₂ y =
+          let (h, room) = rw clausal-is at y in (
+            record {
+              pool-is = h .pool-is;
+              place-is = h .place-is;
+              below = h .below;
+              state = record {
+                size = h .state .size;
+                within = h .state .within;
+                small = h .state .small;
+                fills = h .state .fills;
+                source = omega (arith, h .state .source, normal-holds .state .source);
+              };
+            },
+            rw size at room,
+          )
+      clausal-then s size size₂ Full tags₂ values₂ y =
+          let (left, full) = rw clausal-is at y in
+          let less : n ≤ m = normal-holds .state .source in (
+            record {
+              tags-size = left .tags-size ∙ size;
+              values-size = left .values-size ∙ size₂;
+              tags-kept = sym (take-take n m tags₂ less) ∙ (ap (take n) (left .tags-kept) ∙ (take-take n m tags₁ less
+                  ∙ tags-kept n tags values s (normalPlace tags values rules n t true) (normal-on s) x m tags₁ values₁ normal-holds));
+              values-kept = sym (take-take n m values₂ less) ∙ (ap (take n) (left .values-kept) ∙ (take-take n m values₁ less
+                  ∙ values-kept n tags values s (normalPlace tags values rules n t true) (normal-on s) x m tags₁ values₁ normal-holds));
+            },
+            rw size at full,
+          )
+
+pub ruleset clausals = (clausal-full, clausal-then)
+
+-- ---- what is left in the lent arrays
+module _ (tags values rules : List ℕ) (n t : ℕ) (r : Answer) (lent list : List ℕ) where
+  list-30 : r .code ≡ 30 → lent ≡ listLeft tags values rules n t r lent list
+  unfolding listLeft
+  list-30 e = rw (eq-eqb _ _ e)
+
+  list-refused : (r .code ≡ 30 → ⊥) → (r .code ≡ 0 → ⊥) → zeroFrom 0 lent ≡ listLeft tags values rules n t r lent list
+  unfolding listLeft
+  list-refused a b = rw (ne-eqb _ _ a, ne-eqb _ _ b) (zero-all lent)
+
+  list-held : (r .code ≡ 30 → ⊥) → held r list (length lent) ≡ listLeft tags values rules n t r lent list
+  unfolding listLeft held
+  list-held a = rw (ne-eqb _ _ a)
+
+-- the list's answer is never 30
+list-code : (f : Normal (List ℕ) ℕ) → listAnswer f .code ≡ 30 → ⊥
+unfolding listAnswer countAnswer
+list-code f =
+    by-test (emptyOr f) (λ a. rw a (λ z. omega arith))
+    (λ a. by-test (leb (length (cnf f)) 2048 && leb (literalTotal (cnf f)) 8192) (λ b. rw (a, b) (λ z. omega arith)) (λ b. rw (a, b) (λ z. omega arith)))
+
+pub list-checks : (tags values rules : List ℕ) (n t l e : ℕ) → 8192 ≤ l → 2048 ≤ e → (a : Answer) → a ≡ checkTerm tags values rules n t → a .code ≡ 0
+    → Checked tags values rules n t l e
+list-checks tags values rules n t l e h k a is ok = record { passed = rw is at ok; literals = h; ends = k }
+
+module _ (tags values rules : List ℕ) (n t : ℕ) (literals ends : List ℕ) where
+  -- ---- 30 for the lent arrays
+  pub short-literals : length literals < 8192 → (made : Answer) → made ≡ badArrays → (r : Listed) → r ≡ unlisted made
+      → ClauseList tags values rules n t literals ends (r .answer) (r .count) tags values literals ends
+  unfolding clauseAnswer countLeft
+  short-literals h made q r e = rw (e, q) (record {
+    answer = rw (lt-leb _ _ h);
+    new-count = refl;
+    tags-are = left-30 badArrays tags n _ refl;
+    values-are = left-30 badArrays values n _ refl;
+    literals-are = list-30 tags values rules n t badArrays literals _ refl;
+    ends-are = list-30 tags values rules n t badArrays ends _ refl;
+  })
+
+  pub short-ends : 8192 ≤ length literals → length ends < 2048 → (made : Answer) → made ≡ badArrays → (r : Listed) → r ≡ unlisted made
+      → ClauseList tags values rules n t literals ends (r .answer) (r .count) tags values literals ends
+  unfolding clauseAnswer countLeft
+  short-ends l h made q r e = rw (e, q) (record {
+    answer = rw (le-leb _ _ l, lt-leb _ _ h);
+    new-count = refl;
+    tags-are = left-30 badArrays tags n _ refl;
+    values-are = left-30 badArrays values n _ refl;
+    literals-are = list-30 tags values rules n t badArrays literals _ refl;
+    ends-are = list-30 tags values rules n t badArrays ends _ refl;
+  })
+
+  -- ---- the checks of the term
+  module _ (l : 8192 ≤ length literals) (k : 2048 ≤ length ends) (a : Answer) (is : a ≡ checkTerm tags values rules n t) where
+    stopped : (a .code ≡ 0 → ⊥) → a ≡ clauseAnswer tags values rules n t (length literals) (length ends)
+    unfolding clauseAnswer andThen
+    stopped h = rw (le-leb _ _ l, le-leb _ _ k, ← is, ne-eqb _ _ h)
+
+    no-count : (a .code ≡ 0 → ⊥) → 0 ≡ countLeft tags values rules n t a
+    unfolding countLeft
+    no-count h = rw (ne-eqb _ _ h)
+
+    pub list-arrays : a .code ≡ 30 → (r : Listed) → r ≡ unlisted a
+        → ClauseList tags values rules n t literals ends (r .answer) (r .count) tags values literals ends
+    list-arrays h r e =
+        let h₀ : a .code ≡ 0 → ⊥ = λ z. omega arith in
+        rw e (record {
+          answer = stopped h₀;
+          new-count = no-count h₀;
+          tags-are = left-30 a tags n _ h;
+          values-are = left-30 a values n _ h;
+          literals-are = list-30 tags values rules n t a literals _ h;
+          ends-are = list-30 tags values rules n t a ends _ h;
+        })
+
+    pub list-stopped : (a .code ≡ 30 → ⊥) → (a .code ≡ 0 → ⊥) → (tags′ values′ literals′ ends′ : List ℕ)
+        → Cut n tags values tags′ values′ → Cut 0 literals ends literals′ ends′ → (r : Listed) → r ≡ unlisted a
+        → ClauseList tags values rules n t literals ends (r .answer) (r .count) tags′ values′ literals′ ends′
+    list-stopped h₃₀ h tags′ values′ literals′ ends′ cut lists r e = rw e (record {
+      answer = stopped h;
+      new-count = no-count h;
+      tags-are = cut .tags-are ∙ left-refused a tags n _ h₃₀ h;
+      values-are = cut .values-are ∙ left-refused a values n _ h₃₀ h;
+      literals-are = lists .tags-are ∙ list-refused tags values rules n t a literals _ h₃₀ h;
+      ends-are = lists .values-are ∙ list-refused tags values rules n t a ends _ h₃₀ h;
+    })
+
+  -- ---- a term that has passed
+  module _ (ask : Checked tags values rules n t (length literals) (length ends)) where
+    pub list-state : State n n tags values
+    list-state = checked-ready tags values rules n t (checkTerm tags values rules n t) refl (ask .passed) .0
+
+    pub list-below : t < n
+    list-below = checked-ready tags values rules n t (checkTerm tags values rules n t) refl (ask .passed) .1
+
+    answer-then : clauseAnswer tags values rules n t (length literals) (length ends)
+        ≡ cond (fits (clausal tags values rules n t .pool) (length tags)) (listAnswer (clausalForm tags values rules n t)) noRoom
+    unfolding clauseAnswer andThen listAnswer countAnswer
+    answer-then = rw (le-leb _ _ (ask .literals), le-leb _ _ (ask .ends), eq-eqb _ _ (ask .passed))
+
+    module _ (b : Built) (tags₁ values₁ : List ℕ) (built : NormalBuilt n tags values (clausal tags values rules n t) b tags₁ values₁) where
+      pub list-full : b ≡ Full → (tags′ values′ literals′ ends′ : List ℕ) → Cut n tags₁ values₁ tags′ values′ → Cut 0 literals ends literals′ ends′
+          → (made : Answer) → made ≡ noRoom → (r : Listed) → r ≡ unlisted made
+          → ClauseList tags values rules n t literals ends (r .answer) (r .count) tags′ values′ literals′ ends′
+      unfolding countLeft
+      list-full e tags′ values′ literals′ ends′ cut lists made q r i =
+          let (kept, full) = rw e at built in
+          rw (i, q) (record {
+            answer = rw (answer-then, full);
+            new-count = refl;
+            tags-are = cut .tags-are ∙ (zero-kept n tags tags₁ (kept .tags-size) (kept .tags-kept) ∙ left-refused noRoom tags n _ (λ z. omega arith) (λ z. omega arith));
+            values-are = cut .values-are ∙ (zero-kept n values values₁ (kept .values-size) (kept .values-kept) ∙ left-refused noRoom values n _ (λ z. omega arith) (λ z. omega arith));
+            literals-are = lists .tags-are ∙ list-refused tags values rules n t noRoom literals _ (λ z. omega arith) (λ z. omega arith);
+            ends-are = lists .values-are ∙ list-refused tags values rules n t noRoom ends _ (λ z. omega arith) (λ z. omega arith);
+          })
+
+      module _ (x m : ℕ) (e : b ≡ At x m) where
+        clausal-holds : Holds n (clausal tags values rules n t) x m tags₁ values₁
+        clausal-holds = let (h, room) = rw e at built in h
+
+        form-is : formAt (take m tags₁) (take m values₁) x ≡ clausalForm tags values rules n t
+        form-is = ap₂ normalAt (clausal-holds .pool-is) (clausal-holds .place-is)
+
+        pub list-within : m ≤ length tags₁
+        list-within = clausal-holds .state .within
+
+        pub list-within-values : m ≤ length values₁
+        list-within-values = omega (arith, clausal-holds .state .within, clausal-holds .state .size)
+
+        pub list-part : m ≡ length (take m tags₁)
+        list-part = sym (length-take-le m tags₁ list-within)
+
+        pub list-part-values : m ≡ length (take m values₁)
+        list-part-values = sym (length-take-le m values₁ list-within-values)
+
+        pub list-lent : Lent (length (take m tags₁)) (length literals) (length ends)
+        list-lent = record { small = omega (arith, list-part, clausal-holds .state .small); literals = ask .literals; ends = ask .ends }
+
+        module _ (a : Answer) (literals′ ends′ : List ℕ)
+            (listed : Answered (listAnswer (formAt (take m tags₁) (take m values₁) x)) (cnf (formAt (take m tags₁) (take m values₁) x))
+            (length literals) (length ends) a literals′ ends′) where
+          lists : Answered (listAnswer (clausalForm tags values rules n t)) (cnf (clausalForm tags values rules n t)) (length literals) (length ends) a literals′ ends′
+          lists = rw form-is at listed
+
+          not-30 : a .code ≡ 30 → ⊥
+          not-30 z = list-code (clausalForm tags values rules n t) (sym (ap (λ (y : Answer). y .code) (lists .answer)) ∙ z)
+
+          answered : a ≡ clauseAnswer tags values rules n t (length literals) (length ends)
+          answered = let (h, room) = rw e at built in lists .answer ∙ sym (answer-then ∙ (rw room))
+
+          literals-left : literals′ ≡ listLeft tags values rules n t a literals (literalPlaces (cnf (clausalForm tags values rules n t)))
+          literals-left = lists .literals-are ∙ list-held tags values rules n t a literals _ not-30
+
+          ends-left : ends′ ≡ listLeft tags values rules n t a ends (clauseEnds 0 (cnf (clausalForm tags values rules n t)))
+          ends-left = lists .ends-are ∙ list-held tags values rules n t a ends _ not-30
+
+          module _ (size : length tags₁ ≡ length tags) (size₂ : length values₁ ≡ length values) (tags′ values′ : List ℕ) where
+            pub list-none : (a .code ≡ 0 → ⊥) → Cut n tags₁ values₁ tags′ values′ → (r : Listed) → r ≡ unlisted a
+                → ClauseList tags values rules n t literals ends (r .answer) (r .count) tags′ values′ literals′ ends′
+            unfolding countLeft
+            list-none h cut r i =
+                let s = list-state in
+                let on = clausal-on tags values rules n t s in
+                rw i (record {
+                  answer = answered;
+                  new-count = rw (ne-eqb _ _ h);
+                  tags-are = cut .tags-are ∙ (zero-kept n tags tags₁ size (tags-kept n tags values s _ on x m tags₁ values₁ clausal-holds) ∙ left-refused a tags n _ not-30 h);
+                  values-are = cut .values-are ∙ (zero-kept n values values₁ size₂ (values-kept n tags values s _ on x m tags₁ values₁ clausal-holds) ∙ left-refused a values n _ not-30 h);
+                  literals-are = literals-left;
+                  ends-are = ends-left;
+                })
+
+            pub list-made : a .code ≡ 0 → Cut m tags₁ values₁ tags′ values′
+                → ClauseList tags values rules n t literals ends a m tags′ values′ literals′ ends′
+            unfolding countLeft
+            list-made h cut = record {
+              answer = answered;
+              new-count = rw (eq-eqb _ _ h) (holds-count n m x _ tags₁ values₁ clausal-holds);
+              tags-are = cut .tags-are ∙ (holds-tags n m x _ tags₁ values₁ clausal-holds (length tags) size ∙ left-accepted a tags n _ h);
+              values-are = cut .values-are ∙ (holds-values n m x _ tags₁ values₁ clausal-holds (length values) size₂ ∙ left-accepted a values n _ h);
+              literals-are = literals-left;
+              ends-are = ends-left;
+            }
+
+pub ruleset checks = (short-literals, short-ends, list-arrays, list-stopped)
+
+pub ruleset list-parts = (list-within, list-within-values, list-part, list-part-values)

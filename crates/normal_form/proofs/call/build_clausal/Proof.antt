@@ -1,0 +1,49 @@
+use Rattle.normal_form.proofs.call.Clauses.{clausals, normal-state, normal-below}
+use borrow.Author.Needs.{needs}
+use Rattle.normal_form.proofs.call.build_clausal.Statement.{statement}
+use Rattle.normal_form.proofs.call.build_clausal.Tie as tie
+
+build-normal-form-requires : tie.Need-build-normal-form-requires
+build-normal-form-requires c κs = search needs
+
+enum-known-x : tie.Need-enum-known-x
+enum-known-x c = search needs
+
+enum-told : tie.Need-enum-told
+enum-told c = search needs
+
+same-length : tie.Need-same-length
+same-length c = search needs
+
+same-length-2 : tie.Need-same-length-2
+same-length-2 c = search needs
+
+returns : tie.Need-returns
+returns c = search clausals
+
+build-taken-out-requires : tie.Need-build-taken-out-requires
+build-taken-out-requires c κs = (search normal-state, search normal-below)
+
+same-length-3 : tie.Need-same-length-3
+same-length-3 c = search needs
+
+same-length-4 : tie.Need-same-length-4
+same-length-4 c = search needs
+
+returns-2 : tie.Need-returns-2
+returns-2 c = search clausals
+
+pub build-clausal-spec : {M : Type 1} → statement M
+build-clausal-spec =
+    tie.close
+    (tie.spec
+    build-normal-form-requires
+    enum-known-x
+    enum-told
+    same-length
+    same-length-2
+    returns
+    build-taken-out-requires
+    same-length-3
+    same-length-4
+    returns-2)

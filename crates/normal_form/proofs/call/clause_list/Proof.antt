@@ -1,0 +1,111 @@
+use Rattle.normal_form.proofs.call.Clauses.{checks, list-checks}
+use borrow.Author.Needs.{needs}
+use Rattle.normal_form.proofs.call.clause_list.Statement.{statement}
+use Rattle.normal_form.proofs.call.clause_list.Tie as tie
+
+refused-requires : tie.Need-refused-requires
+refused-requires c κs = search needs
+
+refused-requires-2 : tie.Need-refused-requires-2
+refused-requires-2 c κs = search needs
+
+returns : tie.Need-returns
+returns c = search checks
+
+refused-requires-3 : tie.Need-refused-requires-3
+refused-requires-3 c κs = search needs
+
+refused-requires-4 : tie.Need-refused-requires-4
+refused-requires-4 c κs = search needs
+
+returns-2 : tie.Need-returns-2
+returns-2 c = search checks
+
+check-term-requires : tie.Need-check-term-requires
+check-term-requires c κs = search needs
+
+refused-requires-5 : tie.Need-refused-requires-5
+refused-requires-5 c κs = search needs
+
+same-length : tie.Need-same-length
+same-length c = search needs
+
+same-length-2 : tie.Need-same-length-2
+same-length-2 c = search needs
+
+returns-3 : tie.Need-returns-3
+returns-3 c = search checks
+
+cut-back-requires : tie.Need-cut-back-requires
+cut-back-requires c κs = search needs
+
+cut-back-requires-2 : tie.Need-cut-back-requires-2
+cut-back-requires-2 c κs = search needs
+
+refused-requires-6 : tie.Need-refused-requires-6
+refused-requires-6 c κs = search needs
+
+same-length-3 : tie.Need-same-length-3
+same-length-3 c = search needs
+
+same-length-4 : tie.Need-same-length-4
+same-length-4 c = search needs
+
+same-length-5 : tie.Need-same-length-5
+same-length-5 c = search needs
+
+same-length-6 : tie.Need-same-length-6
+same-length-6 c = search needs
+
+returns-4 : tie.Need-returns-4
+returns-4 c = search checks
+
+list-checked-requires : tie.Need-list-checked-requires
+list-checked-requires c κs =
+    list-checks _ _ _ _ _ _ _ (c .before .before .before .before .before .before .before .before .before .before .before .before .if1 .left) (c .before .before .before .before .before .before .before .before .before .before .before .if2 .left)
+    _ (c .before .before .before .before .before .before .before .before .check-term .ensures) (c .before .before .before .before .if4 .left)
+
+same-length-7 : tie.Need-same-length-7
+same-length-7 c = search needs
+
+same-length-8 : tie.Need-same-length-8
+same-length-8 c = search needs
+
+same-length-9 : tie.Need-same-length-9
+same-length-9 c = search needs
+
+same-length-10 : tie.Need-same-length-10
+same-length-10 c = search needs
+
+returns-5 : tie.Need-returns-5
+returns-5 c = search needs
+
+pub clause-list-spec : {M : Type 1} → statement M
+clause-list-spec =
+    tie.close
+    (tie.spec
+    refused-requires
+    refused-requires-2
+    returns
+    refused-requires-3
+    refused-requires-4
+    returns-2
+    check-term-requires
+    refused-requires-5
+    same-length
+    same-length-2
+    returns-3
+    cut-back-requires
+    cut-back-requires-2
+    refused-requires-6
+    same-length-3
+    same-length-4
+    same-length-5
+    same-length-6
+    returns-4
+    list-checked-requires
+    same-length-7
+    same-length-8
+    same-length-9
+    same-length-10
+    returns-5)
