@@ -1,4 +1,4 @@
-// The six quantifier rules, over a pool that has passed its checks.
+// The quantifier rules, over a pool that has passed its checks.
 pub mod binding;
 pub mod checked;
 pub mod form;
