@@ -8,7 +8,7 @@ import struct
 from reference import free_call, sort_call
 from reference_clauses import clause_call, normal_call
 
-BUILT = (1, 2)
+BUILT = (1, 2, 3, 4)
 MOST = 9000  # of each array of a call file
 
 

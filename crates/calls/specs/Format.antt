@@ -28,7 +28,9 @@ headOf bytes =
       values = wordAt bytes 2;
       n = wordAt bytes 3;
       place = wordAt bytes 4;
+      polarity = wordAt bytes 5;
       lent = wordAt bytes 6;
+      ends = wordAt bytes 7;
     }
 
 -- T and V are at most 9,000, and the file ends with the values

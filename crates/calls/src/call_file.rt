@@ -5,14 +5,16 @@ ghost use mathlib.Core.Path.{_≡_};
 ghost use lib.ListN.{length, getD};
 ghost use Rattle.calls.specs.Format.{wordAt, Words, headOf, isWhole};
 
-// The words that calls 1 and 2 use.
+// The words that the calls use: X is `lent`, the length of the marks or of the literals, and Y is `ends`, that of the clause ends.
 pub struct Head {
     pub call: u32,
     pub tags: usize,
     pub values: usize,
     pub n: usize,
     pub place: u32,
+    pub polarity: u32,
     pub lent: usize,
+    pub ends: usize,
 }
 
 fn byte(bytes: &[u8], i: usize) -> u32
@@ -48,14 +50,18 @@ pub fn read_head(bytes: &[u8]) -> Head
     let values = wide(word(bytes, 2));
     let n = wide(word(bytes, 3));
     let place = word(bytes, 4);
+    let polarity = word(bytes, 5);
     let lent = wide(word(bytes, 6));
+    let ends = wide(word(bytes, 7));
     Head {
         call: call,
         tags: tags,
         values: values,
         n: n,
         place: place,
+        polarity: polarity,
         lent: lent,
+        ends: ends,
     }
 }
 

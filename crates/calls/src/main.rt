@@ -1,4 +1,4 @@
-// The public calls of the pool from a shell: a call file on standard input, or the call files that the
+// The public calls of the pool and of normal forms from a shell: a call file on standard input, or the call files that the
 // arguments name, each after a line with its name.
 mod call_file;
 mod report;
@@ -10,6 +10,9 @@ ghost use Rattle.calls.specs.Format.{Whole};
 use call_file::Head;
 use libc::STDIN_FILENO;
 use libc::STDOUT_FILENO;
+use normal_form::call::Listed;
+use normal_form::call::clause_list;
+use normal_form::call::normal_form;
 use pool::TermPlace;
 
 fn bad_file() {
@@ -21,6 +24,13 @@ fn cells() -> [u32; 9000]
     ensures { λ r. ⌜ 9000 ≡ length r ⌝ }
 {
     [0; 9000]
+}
+
+// Lent arrays begin with 7 in every element.
+fn seven_cells() -> [u32; 9000]
+    ensures { λ r. ⌜ 9000 ≡ length r ⌝ }
+{
+    [7; 9000]
 }
 
 fn sevens() -> [u8; 9000]
@@ -44,7 +54,7 @@ fn sort_in(bytes: &[u8], head: Head, tags: &mut [u32], values: &mut [u32])
     call_file::read_words(bytes, 8, tags);
     call_file::read_words(bytes, 8 + t, values);
     let answer = pool::call::sort_of_term(tags, values, head.n, TermPlace(head.place));
-    report::answer(answer);
+    report::answer(answer, 0);
     report::line(b"tags", tags);
     report::line(b"values", values);
 }
@@ -67,7 +77,7 @@ fn free_vars_in(bytes: &[u8], head: Head, tags: &mut [u32], values: &mut [u32], 
     call_file::read_words(bytes, 8, tags);
     call_file::read_words(bytes, 8 + t, values);
     let answer = pool::call::free_vars(tags, values, head.n, TermPlace(head.place), marks);
-    report::answer(answer);
+    report::answer(answer, 0);
     report::line(b"tags", tags);
     report::line(b"values", values);
     report::byte_line(b"marks", marks);
@@ -95,6 +105,85 @@ fn free_vars(bytes: &[u8], head: Head)
     );
 }
 
+// Call 3 on arrays of the file's lengths.
+fn normal_in(bytes: &[u8], head: Head, tags: &mut [u32], values: &mut [u32])
+    requires { ⌜ 4 * (8 + length (now tags) + length (now values)) ≤ length (now bytes) ⌝ }
+{
+    let t = tags.len();
+    call_file::read_words(bytes, 8, tags);
+    call_file::read_words(bytes, 8 + t, values);
+    let polarity = head.polarity != 0;
+    let answer = normal_form(tags, values, head.n, TermPlace(head.place), polarity);
+    report::answer(answer, 0);
+    report::line(b"tags", tags);
+    report::line(b"values", values);
+}
+
+fn normal(bytes: &[u8], head: Head)
+    requires { ⌜ Whole (now bytes) head ⌝ }
+{
+    let t = head.tags;
+    let v = head.values;
+    let mut tags = cells();
+    let mut values = cells();
+    normal_in(bytes, head, &mut tags[..t], &mut values[..v]);
+}
+
+fn report_list(listed: Listed, tags: &[u32], values: &[u32], literals: &[u32], ends: &[u32]) {
+    report::answer(listed.answer, listed.count);
+    report::line(b"tags", tags);
+    report::line(b"values", values);
+    report::line(b"literals", literals);
+    report::line(b"ends", ends);
+}
+
+// Call 4 on arrays of the file's lengths.
+fn clauses_in(
+    bytes: &[u8],
+    head: Head,
+    tags: &mut [u32],
+    values: &mut [u32],
+    literals: &mut [u32],
+    ends: &mut [u32],
+)
+    requires { ⌜ 4 * (8 + length (now tags) + length (now values)) ≤ length (now bytes) ⌝ }
+{
+    let t = tags.len();
+    call_file::read_words(bytes, 8, tags);
+    call_file::read_words(bytes, 8 + t, values);
+    let listed = clause_list(tags, values, head.n, TermPlace(head.place), literals, ends);
+    report_list(listed, tags, values, literals, ends);
+}
+
+fn clauses(bytes: &[u8], head: Head)
+    requires { ⌜ Whole (now bytes) head ⌝ }
+{
+    let t = head.tags;
+    let v = head.values;
+    let x = head.lent;
+    let y = head.ends;
+    if 9000 < x {
+        bad_file();
+        return;
+    }
+    if 9000 < y {
+        bad_file();
+        return;
+    }
+    let mut tags = cells();
+    let mut values = cells();
+    let mut literals = seven_cells();
+    let mut ends = seven_cells();
+    clauses_in(
+        bytes,
+        head,
+        &mut tags[..t],
+        &mut values[..v],
+        &mut literals[..x],
+        &mut ends[..y],
+    );
+}
+
 // The calls that are built.
 fn run(bytes: &[u8]) {
     if bytes.len() < 32 {
@@ -110,6 +199,8 @@ fn run(bytes: &[u8]) {
     match call {
         1 => sort(bytes, head),
         2 => free_vars(bytes, head),
+        3 => normal(bytes, head),
+        4 => clauses(bytes, head),
         _ => bad_file(),
     }
 }

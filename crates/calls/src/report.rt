@@ -101,8 +101,8 @@ pub fn byte_line(name: &[u8], bytes: &[u8]) {
 }
 
 // The answer, and the clause list's new count, which is 0 with every other call.
-pub fn answer(a: Answer) {
-    let numbers = [a.first, a.second, 0];
+pub fn answer(a: Answer, count: u32) {
+    let numbers = [a.first, a.second, count];
     io::print_decimal(STDOUT_FILENO, long(a.code));
     line(b"", &numbers);
 }

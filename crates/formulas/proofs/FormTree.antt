@@ -25,7 +25,7 @@ use Rattle.pool.specs.SortTree.{formOf as formOfSort}
 use Rattle.pool.proofs.tree.Header.{both, Each, Described, term-cell, term-tagged}
 use Rattle.pool.proofs.tree.Walk.{passes, place-described}
 use Rattle.pool.proofs.tree.Tags.{shape-op, by-term-tag}
-use Rattle.pool.proofs.tree.Parts.{not-first, from-one, from-two}
+use Rattle.pool.proofs.tree.Parts.{from-one, from-two}
 use Rattle.pool.proofs.tree.Sorts.{sort-is}
 use Rattle.pool.proofs.tree.Terms.{term-is, term-op, even-rest}
 use Rattle.pool.proofs.tree.Stated.{sort-place, stated-is}
@@ -36,6 +36,7 @@ use Rattle.formulas.specs.declared.view.View.the-variants.{Opaque, Not, 
 use Rattle.formulas.specs.Formula.{Form, opaque, neg, many, imp, ite, iff, all, fcons, allBefore, equality, connective, quantifier, viewOf, formsOf, formBy, form}
 use Rattle.formulas.specs.Mapped.{mapF, mapFs}
 use Rattle.formulas.specs.Skeleton.{notOf, impliesOf, iteOf, iffOf, formOf, leftBool, skeleton, skeletons}
+use Rattle.formulas.proofs.Operands.{IsTerm, AllTerms, all-terms, all-before}
 
 -- the variables of a quantifier's pairs of name and sort, and a formula over places as one over trees
 abbrev pub varsAt : List ℕ → List ℕ → List ℕ → Vars
@@ -52,12 +53,12 @@ decides true (no n) f g = absurd (n (f refl))
 decides false (no n) f g = refl
 
 -- "Cell 0 is the sort Bool."
-first-bool : (tags values : List ℕ) (n : ℕ) → firstBad tags values n ≡ Nothing → 0 < n → getD tags 0 0 ≡ 1
+pub first-bool : (tags values : List ℕ) (n : ℕ) → firstBad tags values n ≡ Nothing → 0 < n → getD tags 0 0 ≡ 1
 unfolding firstBad firstHeader headerFits boolFirst
 first-bool tags values n formed h = eqb-true _ 1 (both (eqb (getD tags 0 0) 1) _ (not-false _ (passes values n (λ p. not (headerFits tags values n p)) 0 h formed)) .0)
 
 module _ (tags values : List ℕ) (n : ℕ) (whole : n ≤ length values) (formed : firstBad tags values n ≡ Nothing) where
-  bool-tree : (s : ℕ) → s < n → getD tags s 0 ≡ 1 → sortTree tags values s ≡ bool
+  pub bool-tree : (s : ℕ) → s < n → getD tags s 0 ≡ 1 → sortTree tags values s ≡ bool
   unfolding sortFrom isSortTag
   bool-tree s h e = rw (sort-is tags values n whole formed s h (rw e), e)
 
@@ -76,27 +77,10 @@ module _ (tags values : List ℕ) (n : ℕ) (whole : n ≤ length values) (forme
   -- ---- the term at t, where rec is right before t
   module _ (t : ℕ) (h : t < n) (rec : ℕ → Form (List ℕ) ℕ)
       (right : (u : ℕ) → u < t → isTermTag (getD tags u 0) ≡ true → onTrees tags values (rec u) ≡ skeleton (tree tags values u)) where
-    abbrev IsTerm : ℕ → Type 0
-    IsTerm u = (u < t) × (isTermTag (getD tags u 0) ≡ true)
-
-    abbrev AllTerms : List ℕ → Type 0
-    AllTerms [] = Unit {0}
-    AllTerms (u ∷ us) = IsTerm u × AllTerms us
-
-    right-at : (u : ℕ) → IsTerm u → onTrees tags values (rec u) ≡ skeleton (tree tags values u)
+    right-at : (u : ℕ) → IsTerm tags t u → onTrees tags values (rec u) ≡ skeleton (tree tags values u)
     right-at u (l, k) = right u l k
 
-    all-terms : (j : ℕ) (os : List ℕ) → 1 ≤ j → Each tags t Operator j os → AllTerms os
-    unfolding kindAt
-    all-terms j [] l f = tt
-    all-terms j (u ∷ os) l f = (term-cell tags t u (rw (not-first _ _ j l) at (f .0)), all-terms (suc j) os (omega arith) (f .1))
-
-    all-before : (os : List ℕ) → AllTerms os → allBefore t os ≡ true
-    unfolding allBefore
-    all-before [] a = refl
-    all-before (u ∷ os) a = rw (lt-ltb u t (a .0 .0)) (all-before os (a .1))
-
-    forms-are : (os : List ℕ) → AllTerms os → mapFs (varsAt tags values) (tree tags values) (formsOf rec os) ≡ skeletons (termsOf (tree tags values) os)
+    forms-are : (os : List ℕ) → AllTerms tags t os → mapFs (varsAt tags values) (tree tags values) (formsOf rec os) ≡ skeletons (termsOf (tree tags values) os)
     unfolding skeleton termsOf
     forms-are [] a = refl
     forms-are (u ∷ os) a = ap₂ fcons (right-at u (a .0)) (forms-are os (a .1))
@@ -115,14 +99,14 @@ module _ (tags values : List ℕ) (n : ℕ) (whole : n ≤ length values) (forme
       unfolding formBy
       itself os = ap opaque is
 
-      not-reads : (os : List ℕ) → AllTerms os
+      not-reads : (os : List ℕ) → AllTerms tags t os
           → Reads os (cond (eqb (length os) 1) (Not (getD os 0 0)) Opaque) (notOf x (skeletons (termsOf (tree tags values) os)))
       unfolding formBy notOf skeleton termsOf
       not-reads [] a = ap opaque is
       not-reads (u ∷ []) a = ap neg (right-at u (a .0))
       not-reads (u ∷ (v ∷ os)) a = rw (ne-eqb (length (u ∷ (v ∷ os))) 1 (λ z. omega arith)) (ap opaque is)
 
-      implies-reads : (os : List ℕ) → AllTerms os
+      implies-reads : (os : List ℕ) → AllTerms tags t os
           → Reads os (cond (eqb (length os) 2) (Implies (getD os 0 0) (getD os 1 0)) Opaque) (impliesOf x (skeletons (termsOf (tree tags values) os)))
       unfolding formBy impliesOf skeleton termsOf
       implies-reads [] a = ap opaque is
@@ -130,7 +114,7 @@ module _ (tags values : List ℕ) (n : ℕ) (whole : n ≤ length values) (forme
       implies-reads (u ∷ (v ∷ [])) a = ap₂ imp (right-at u (a .0)) (right-at v (a .1 .0))
       implies-reads (u ∷ (v ∷ (w ∷ os))) a = rw (ne-eqb (length (u ∷ (v ∷ (w ∷ os)))) 2 (λ z. omega arith)) (ap opaque is)
 
-      ite-reads : (os : List ℕ) → AllTerms os
+      ite-reads : (os : List ℕ) → AllTerms tags t os
           → Reads os (cond (eqb (length os) 3) (Ite (getD os 0 0) (getD os 1 0) (getD os 2 0)) Opaque) (iteOf x (skeletons (termsOf (tree tags values) os)))
       unfolding formBy iteOf skeleton termsOf
       ite-reads [] a = ap opaque is
@@ -143,7 +127,7 @@ module _ (tags values : List ℕ) (n : ℕ) (whole : n ≤ length values) (forme
       opaque-both true = refl
       opaque-both false = refl
 
-      equality-reads : (os : List ℕ) → AllTerms os
+      equality-reads : (os : List ℕ) → AllTerms tags t os
           → Reads os (equality values os) (cond (leftBool (termsOf (tree tags values) os)) (iffOf x (skeletons (termsOf (tree tags values) os))) (opaque x))
       unfolding formBy equality iffOf skeleton termsOf leftBool
       equality-reads [] a = ap opaque is
@@ -154,7 +138,7 @@ module _ (tags values : List ℕ) (n : ℕ) (whole : n ≤ length values) (forme
       equality-reads (u ∷ (v ∷ (w ∷ os))) a =
           rw (ne-eqb (length (u ∷ (v ∷ (w ∷ os)))) 2 (λ z. omega arith)) (ap opaque is ∙ opaque-both (leftBool (termsOf (tree tags values) (u ∷ (v ∷ (w ∷ os))))))
 
-      connective-reads : (k : ℕ) (os : List ℕ) → AllTerms os
+      connective-reads : (k : ℕ) (os : List ℕ) → AllTerms tags t os
           → Reads os (connective values k os) (formOf x k (leftBool (termsOf (tree tags values) os)) (skeletons (termsOf (tree tags values) os)))
       unfolding connective formOf formBy
       connective-reads k os a =
@@ -191,12 +175,12 @@ module _ (tags values : List ℕ) (n : ℕ) (whole : n ≤ length values) (forme
     op-reads cells k l m c is f =
         from-one (λ cs. tree tags values t ≡ made k cs → Each tags t Operator 0 cs → Reads (run k cs) (view k cs) (skeleton (made k cs)))
         (λ s os is f.
-        let a : AllTerms os = all-terms 1 os (omega arith) (f .1) in
+        let a : AllTerms tags t os = all-terms tags t 1 os (omega arith) (f .1) in
         let made-is = term-op (sortTree tags values) (tree tags values) k (s ∷ os) l m in
-        rw (le-ltb k 22 (omega arith), le-ltb k 32 l, all-before os a, made-is) (connective-reads _ (is ∙ made-is) k os a))
+        rw (le-ltb k 22 (omega arith), le-ltb k 32 l, all-before tags t os a, made-is) (connective-reads _ (is ∙ made-is) k os a))
         cells (leb-true 1 (length cells) (rw (shape-op k l m) at c)) is (rw (shape-op k l m) at f)
 
-    quantifier-reads : (b : Bool) (k s body : ℕ) (cs : List ℕ) → IsTerm body → (ltb k 22 ≡ false) → (ltb k 32 ≡ true) → quantifier k body ≡ Quantifier b body
+    quantifier-reads : (b : Bool) (k s body : ℕ) (cs : List ℕ) → IsTerm tags t body → (ltb k 22 ≡ false) → (ltb k 32 ≡ true) → quantifier k body ≡ Quantifier b body
         → Reads (body ∷ cs) (view k (s ∷ (body ∷ cs))) (all b (varsAt tags values cs) (skeleton (tree tags values body)))
     unfolding formBy
     quantifier-reads b k s body cs a e₁ e₂ e₃ = rw (e₁, e₂, lt-ltb body t (a .0), e₃) (ap (all b (varsAt tags values cs)) (right-at body a))

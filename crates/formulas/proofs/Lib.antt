@@ -6,3 +6,6 @@ pub mod Coincide
 pub mod ClauseTruth
 pub mod Mapped
 pub mod FormTree
+pub mod Operands
+pub mod FormFits
+pub mod SameTree

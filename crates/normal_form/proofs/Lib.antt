@@ -1,1 +1,4 @@
 pub mod Interning
+pub mod TreeGrows
+pub mod InternTree
+pub mod NormalFormTruth

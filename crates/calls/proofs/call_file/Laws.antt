@@ -54,10 +54,11 @@ words-next bytes start i out w e h before j less =
     (eq-or-lt-of-le (omega arith))
 
 -- ---- the first words
-pub head-read : (bytes : List ℕ) (k t v n p x t' v' n' x' : ℕ) → k ≡ wordAt bytes 0 → t' ≡ wordAt bytes 1 → v' ≡ wordAt bytes 2
-    → n' ≡ wordAt bytes 3 → p ≡ wordAt bytes 4 → x' ≡ wordAt bytes 6 → t ≡ t' → v ≡ v' → n ≡ n' → x ≡ x'
-    → _≡_ {A = Head} (record { call = k; tags = t; values = v; n = n; place = p; lent = x }) (headOf bytes)
+pub head-read : (bytes : List ℕ) (k t v n p q x y t' v' n' x' y' : ℕ) → k ≡ wordAt bytes 0 → t' ≡ wordAt bytes 1 → v' ≡ wordAt bytes 2
+    → n' ≡ wordAt bytes 3 → p ≡ wordAt bytes 4 → q ≡ wordAt bytes 5 → x' ≡ wordAt bytes 6 → y' ≡ wordAt bytes 7
+    → t ≡ t' → v ≡ v' → n ≡ n' → x ≡ x' → y ≡ y'
+    → _≡_ {A = Head} (record { call = k; tags = t; values = v; n = n; place = p; polarity = q; lent = x; ends = y }) (headOf bytes)
 unfolding headOf
-head-read bytes k t v n p x t' v' n' x' z a b c d e f g h i = rw (f, g, h, i, z, a, b, c, d, e)
+head-read bytes k t v n p q x y t' v' n' x' y' z a b c d e f g h i j l m = rw (h, i, j, l, m, z, a, b, c, d, e, f, g)
 
 pub ruleset head = head-read

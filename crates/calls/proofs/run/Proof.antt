@@ -27,6 +27,12 @@ sort-requires c κs = search whole-is
 free-vars-requires : tie.Need-free-vars-requires
 free-vars-requires c κs = search whole-is
 
+normal-requires : tie.Need-normal-requires
+normal-requires c κs = search whole-is
+
+clauses-requires : tie.Need-clauses-requires
+clauses-requires c κs = search whole-is
+
 bad-file-requires-3 : tie.Need-bad-file-requires-3
 bad-file-requires-3 c κs = search needs
 
@@ -38,6 +44,12 @@ returns-4 c = search needs
 
 returns-5 : tie.Need-returns-5
 returns-5 c = search needs
+
+returns-6 : tie.Need-returns-6
+returns-6 c = search needs
+
+returns-7 : tie.Need-returns-7
+returns-7 c = search needs
 
 pub run-spec : {M : Type 1} → statement M
 run-spec =
@@ -51,7 +63,11 @@ run-spec =
     returns-2
     sort-requires
     free-vars-requires
+    normal-requires
+    clauses-requires
     bad-file-requires-3
     returns-3
     returns-4
-    returns-5)
+    returns-5
+    returns-6
+    returns-7)

@@ -30,8 +30,17 @@ word-requires-5 c κs = search needs
 word-requires-6 : tie.Need-word-requires-6
 word-requires-6 c κs = search needs
 
+word-requires-7 : tie.Need-word-requires-7
+word-requires-7 c κs = search needs
+
 wide-requires-4 : tie.Need-wide-requires-4
 wide-requires-4 c κs = search needs
+
+word-requires-8 : tie.Need-word-requires-8
+word-requires-8 c κs = search needs
+
+wide-requires-5 : tie.Need-wide-requires-5
+wide-requires-5 c κs = search needs
 
 returns : tie.Need-returns
 returns c = search head
@@ -49,5 +58,8 @@ read-head-spec =
     wide-requires-3
     word-requires-5
     word-requires-6
+    word-requires-7
     wide-requires-4
+    word-requires-8
+    wide-requires-5
     returns)
