@@ -1,0 +1,2 @@
+pub mod QntJoin
+pub mod sound

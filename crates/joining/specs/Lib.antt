@@ -1,0 +1,4 @@
+pub mod QntJoin
+pub mod JoinAlong
+pub mod QntRmUnused
+pub mod Cases

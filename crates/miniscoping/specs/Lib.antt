@@ -1,0 +1,6 @@
+pub mod MiniscopeDistribute
+pub mod MiniscopeSplit
+pub mod MiniscopeIte
+pub mod SidesAnswer
+pub mod IteAnswer
+pub mod Used

@@ -1,0 +1,4 @@
+pub mod Passes
+pub mod Bindings
+pub mod Sound
+pub mod Trees

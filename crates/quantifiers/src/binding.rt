@@ -1,0 +1,151 @@
+// Binding lists of quantifiers, as runs of cells: pairs of name and sort. A last cell without its partner is no pair.
+use pool::Found;
+use pool::TermPlace;
+use pool::description::find;
+use pool::is_free;
+ghost use mathlib.Core.Path.{_≡_};
+ghost use mathlib.Core.Bool.{not, _&&_};
+ghost use Rattle.quantifiers.specs.Binding.{bindingsOf, same, has, sameAll, firstOf, bindingFree};
+ghost use Rattle.quantifiers.specs.BindingAnswer.{pair, nameOf};
+
+// The name of the first pair that passes a test.
+pub enum FirstName {
+    Name(u32),
+    Nothing,
+}
+
+// Whether two pairs are equal.
+pub fn same_pair(a: u32, a_sort: u32, b: u32, b_sort: u32) -> bool
+    ensures { λ r. ⌜ r ≡ same (pair a «a_sort») (pair b «b_sort») ⌝ }
+{
+    if a != b {
+        return false;
+    }
+    a_sort == b_sort
+}
+
+// Whether two lists are equal, pair by pair in order.
+pub fn same_lists(a: &[u32], b: &[u32]) -> bool
+    ensures { λ r. ⌜ r ≡ sameAll (bindingsOf (now (a .entry))) (bindingsOf (now (b .entry))) ⌝ }
+{
+    let mut i: usize = 0;
+    while 2 <= a.len() - i {
+        if b.len() - i < 2 {
+            return false;
+        }
+        if !same_pair(a[i], a[i + 1], b[i], b[i + 1]) {
+            return false;
+        }
+        i += 2;
+    }
+    b.len() - i < 2
+}
+
+// Whether a list has this pair.
+pub fn has(list: &[u32], name: u32, sort: u32) -> bool
+    ensures { λ r. ⌜ r ≡ has (bindingsOf (now (list .entry))) (pair name sort) ⌝ }
+{
+    let mut i: usize = 0;
+    while 2 <= list.len() - i {
+        if same_pair(list[i], list[i + 1], name, sort) {
+            return true;
+        }
+        i += 2;
+    }
+    false
+}
+
+// Whether a list lacks this pair.
+fn lacks(list: &[u32], name: u32, sort: u32) -> bool
+    ensures { λ r. ⌜ r ≡ not (has (bindingsOf (now (list .entry))) (pair name sort)) ⌝ }
+{
+    !has(list, name, sort)
+}
+
+// Whether the variable of a pair is free in the term at t. A variable after t is not: up to t, its place fits u32.
+pub fn is_free_in(
+    tags: &[u32],
+    values: &[u32],
+    n: usize,
+    name: u32,
+    sort: u32,
+    t: u32,
+) -> bool
+    ensures { λ r. ⌜ r ≡ bindingFree (now (tags .entry)) (now (values .entry)) n t (pair name sort) ⌝ }
+{
+    let cells = [sort, name];
+    let Found::At(v) = find(tags, values, n, 21, &cells) else {
+        return false;
+    };
+    if (t as usize) < v {
+        return false;
+    }
+    is_free(tags, values, TermPlace(v as u32), TermPlace(t))
+}
+
+// Whether a list lacks this pair and its variable is free in the term at t.
+fn is_missing(
+    tags: &[u32],
+    values: &[u32],
+    n: usize,
+    t: u32,
+    list: &[u32],
+    name: u32,
+    sort: u32,
+) -> bool
+    ensures { λ r. ⌜ r ≡ (not (has (bindingsOf (now (list .entry))) (pair name sort)) && bindingFree (now (tags .entry)) (now (values .entry)) n t (pair name sort)) ⌝ }
+{
+    if lacks(list, name, sort) {
+        return is_free_in(tags, values, n, name, sort, t);
+    }
+    false
+}
+
+// The first pair of a list whose variable is free in the term at t.
+pub fn first_free(tags: &[u32], values: &[u32], n: usize, t: u32, list: &[u32]) -> FirstName
+    ensures { λ r. ⌜ r ≡ nameOf (firstOf (bindingFree (now (tags .entry)) (now (values .entry)) n t) (bindingsOf (now (list .entry)))) ⌝ }
+{
+    let mut i: usize = 0;
+    while 2 <= list.len() - i {
+        if is_free_in(tags, values, n, list[i], list[i + 1], t) {
+            return FirstName::Name(list[i]);
+        }
+        i += 2;
+    }
+    FirstName::Nothing
+}
+
+// The first pair of a list that another lacks.
+pub fn first_new(list: &[u32], other: &[u32]) -> FirstName
+    ensures { λ r. ⌜ r ≡ nameOf (firstOf (λ a. not (has (bindingsOf (now (other .entry))) a)) (bindingsOf (now (list .entry)))) ⌝ }
+{
+    let mut i: usize = 0;
+    while 2 <= list.len() - i {
+        if lacks(other, list[i], list[i + 1]) {
+            return FirstName::Name(list[i]);
+        }
+        i += 2;
+    }
+    FirstName::Nothing
+}
+
+// The first pair of a list that another lacks and whose variable is free in the term at t.
+pub fn first_missing(
+    tags: &[u32],
+    values: &[u32],
+    n: usize,
+    t: u32,
+    list: &[u32],
+    other: &[u32],
+) -> FirstName
+    ensures { λ r. ⌜ r ≡ nameOf (firstOf (λ a. not (has (bindingsOf (now (other .entry))) a) && bindingFree (now (tags .entry)) (now (values .entry)) n t a) (bindingsOf (now (list .entry)))) ⌝ }
+{
+    let mut i: usize = 0;
+    while 2 <= list.len() - i {
+        if is_missing(tags, values, n, t, other, list[i], list[i + 1]) {
+            return FirstName::Name(list[i]);
+        }
+        i += 2;
+    }
+    FirstName::Nothing
+}

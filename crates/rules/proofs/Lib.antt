@@ -1,5 +1,0 @@
-pub mod QntJoin
-pub mod Passes
-pub mod Bindings
-pub mod Trees
-pub mod sound

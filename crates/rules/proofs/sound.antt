@@ -1,8 +1,0 @@
--- Rules 1, 2, 4, 5 and 6 are sound: a step that passes is true in every reading.
-pub mod Laws
-pub mod QntJoin
-pub mod QntRmUnused
-pub mod Sides
-pub mod MiniscopeDistribute
-pub mod MiniscopeSplit
-pub mod MiniscopeIte
