@@ -31,7 +31,7 @@ use Rattle.formulas.proofs.Operands.{IsTerm, AllTerms}
 use Rattle.formulas.proofs.FormTree.{varsAt, onTrees, first-bool, bool-tree, form-tree}
 use Rattle.formulas.proofs.FormFits.{Pairs, FitsN, FitsNs, each-more, nnf-fits, form-fits}
 use Rattle.formulas.proofs.SameTree.{vars-same, value-kept}
-use Rattle.normal_form.proofs.Interning.{Good, Grows, grows-refl, grows-trans}
+use Rattle.building.proofs.Interning.{Good, Grows, grows-refl, grows-trans}
 use Rattle.normal_form.proofs.TreeGrows.{Sound, Fit, PutTerm, cells-same, sort-grows, tree-grows, put-term}
 
 -- the term at a place, and a form over places as one over trees

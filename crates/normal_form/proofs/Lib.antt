@@ -1,4 +1,3 @@
-pub mod Interning
 pub mod TreeGrows
 pub mod InternTree
 pub mod NormalFormTruth

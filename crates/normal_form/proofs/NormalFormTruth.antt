@@ -24,8 +24,9 @@ use Rattle.formulas.specs.Truth.{Assignment, Reading, True}
 use Rattle.formulas.proofs.FormTree.{one-bool}
 use Rattle.formulas.proofs.NormalTruth.{normal-truth}
 use Rattle.formulas.proofs.SameTree.{formed-kept, tree-kept}
-use Rattle.normal_form.specs.Calls.{poolOf, normalPlace}
-use Rattle.normal_form.proofs.build.Laws.{pool-good}
+use Rattle.building.specs.Arrays.{poolOf}
+use Rattle.normal_form.specs.Calls.{normalPlace}
+use Rattle.building.proofs.build.Laws.{pool-good}
 use Rattle.normal_form.proofs.TreeGrows.{Sound}
 use Rattle.normal_form.proofs.InternTree.{termIn, Interned, normal-form-tree}
 

@@ -28,7 +28,7 @@ use Rattle.pool.proofs.tree.Terms.{term-is}
 use Rattle.formulas.specs.Built.{Pool, Placed, count, extend, placeAt, put}
 use Rattle.formulas.proofs.Operands.{IsTerm}
 use Rattle.formulas.proofs.SameTree.{at-true, made-same, value-kept, formed-kept, sort-kept, tree-kept}
-use Rattle.normal_form.proofs.Interning.{Good, Grows, PutOn, extend-count, put-on}
+use Rattle.building.proofs.Interning.{Good, Grows, PutOn, extend-count, put-on}
 
 -- a pool that passes check 14, filled by its headers
 pub record Sound (q : Pool) : Type 0 where

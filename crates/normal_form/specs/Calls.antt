@@ -1,11 +1,11 @@
 -- The public calls of this crate: which refusal comes first, what is accepted, and what the lent arrays hold at the end.
 -- 01, "What stops a step": "Other public calls on a term run 30, 14, 15, 16, 17, then 31, 13, 32 where they apply."
--- Rests on pool's Check, and on Built and Clauses.
-use Prim.Native.Nat.{ℕ, _+_, _-_}
+-- Rests on pool's Check, on building's Arrays, and on Built and Clauses.
+use Prim.Native.Nat.{ℕ}
 use mathlib.Core.Path.{_≡_}
-use mathlib.Core.Bool.{Bool, true, false, not, _&&_, cond}
-use mathlib.Core.List.{List, [], _∷_, _++_}
-use lib.ListN.{length, take, replicate}
+use mathlib.Core.Bool.{Bool, _&&_, cond}
+use mathlib.Core.List.{List}
+use lib.ListN.{length, replicate}
 use lib.Dec.{leb, eqb}
 use Rattle.pool.specs.Answer.{accepted, badArrays}
 use Rattle.pool.specs.Check.{andThen, checkTerm}
@@ -14,18 +14,12 @@ use Rattle.pool.specs.declared.Answer.{Answer}
 use Rattle.formulas.specs.Normal.{Normal}
 use Rattle.clauses.specs.Lists.{emptyOrReached, tooManyClauses, padded, literalPlaces, clauseEnds}
 use Rattle.formulas.specs.Clauses.{cnf, emptyOr, literalTotal}
-use Rattle.formulas.specs.Built.{Pool, Placed, count, normalForm, takenOut, normalAt}
+use Rattle.formulas.specs.Built.{Placed, count}
+use Rattle.building.specs.Arrays.{fits, normalIn, clausalIn, clausalFormIn}
 
 -- 31: the new terms take the count past the arrays or 8,192
 abbrev pub noRoom : Answer
 noRoom = record { code = 31; first = 0; second = 0 }
-
--- the used cells
-abbrev pub poolOf : List ℕ → List ℕ → ℕ → Pool
-poolOf tags values n = record { tags = take n tags; values = take n values }
-
-unfoldable pub fits : Pool → ℕ → Bool
-fits q size = leb (count q) size && leb (count q) 8192
 
 -- what a call that builds leaves in an array: "30 changes nothing"; accepted, the new terms are kept; refused, zeroes past N
 unfoldable pub arrayLeft : Answer → List ℕ → ℕ → List ℕ → List ℕ
@@ -34,7 +28,7 @@ arrayLeft a cells n used = cond (eqb (a .code) 30) cells (cond (eqb (a .code) 0)
 -- ---- the normal form
 module _ (tags values rules : List ℕ) (n t : ℕ) where
   abbrev pub normalPlace : Bool → Placed
-  normalPlace polarity = normalForm (poolOf tags values n) t polarity
+  normalPlace polarity = normalIn tags values n t polarity
 
   -- "the first gives its place and the new count"
   unfoldable pub normalAnswer : Bool → Answer
@@ -51,10 +45,10 @@ module _ (tags values rules : List ℕ) (n t : ℕ) where
 
   -- ---- the clause list: that of the normal form at true polarity with foralls taken out
   abbrev pub clausal : Placed
-  clausal = takenOut (normalPlace true .pool) (normalPlace true .place)
+  clausal = clausalIn tags values n t
 
   abbrev pub clausalForm : Normal (List ℕ) ℕ
-  clausalForm = normalAt (clausal .pool) (clausal .place)
+  clausalForm = clausalFormIn tags values n t
 
   -- l and e are the lengths of the two lent arrays; "its two totals": clauses, then literals
   unfoldable pub clauseAnswer : ℕ → ℕ → Answer

@@ -1,7 +1,7 @@
 // The public calls: the normal form of a term, and the clause list of a term.
-use crate::build::Built;
-use crate::negation_normal_form::build_normal_form;
-use crate::prenex_forall::build_taken_out;
+use building::build::Built;
+use building::negation_normal_form::build_normal_form;
+use building::prenex_forall::build_taken_out;
 use clauses::clause_list::list_clauses;
 use pool::Answer;
 use pool::TermPlace;
@@ -12,7 +12,7 @@ ghost use mathlib.Core.Path.{_≡_};
 ghost use lib.ListN.{length};
 ghost use Rattle.sorts.specs.Table.{builtIn};
 ghost use Rattle.normal_form.specs.Calls.{NormalForm, ClauseList, clausal};
-ghost use Rattle.normal_form.specs.Walk.{State, NormalBuilt};
+ghost use Rattle.building.specs.Walk.{State, NormalBuilt};
 ghost use Rattle.normal_form.specs.ClauseCall.{Checked, unlisted};
 
 // The normal form of the term at t at a polarity: accepted, its place and the new count.

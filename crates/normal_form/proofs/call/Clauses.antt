@@ -14,20 +14,21 @@ use Rattle.headers.specs.Description.{zeroFrom, Cut}
 use Rattle.pool.specs.Answer.{badArrays}
 use Rattle.pool.specs.Check.{andThen, checkTerm}
 use Rattle.pool.specs.declared.Answer.{Answer}
-use Rattle.normal_form.specs.declared.build.Built.{Built}
-use Rattle.normal_form.specs.declared.build.Built.the-variants.{At, Full}
+use Rattle.building.specs.declared.build.Built.{Built}
+use Rattle.building.specs.declared.build.Built.the-variants.{At, Full}
 use Rattle.normal_form.specs.declared.call.Listed.{Listed}
 use Rattle.formulas.specs.Normal.{Normal, prenex}
 use Rattle.formulas.specs.Clauses.{cnf, emptyOr, literalTotal}
 use Rattle.formulas.specs.Built.{Pool, Placed, count, normalForm, normalAt, takenOut}
 use Rattle.clauses.specs.Lists.{literalPlaces, clauseEnds}
-use Rattle.normal_form.specs.Calls.{noRoom, poolOf, fits, normalPlace, clausal, clausalForm, clauseAnswer, listLeft, countLeft, ClauseList}
-use Rattle.normal_form.specs.Walk.{State, Holds, NormalBuilt}
+use Rattle.building.specs.Arrays.{poolOf, fits}
+use Rattle.normal_form.specs.Calls.{noRoom, normalPlace, clausal, clausalForm, clauseAnswer, listLeft, countLeft, ClauseList}
+use Rattle.building.specs.Walk.{State, Holds, NormalBuilt}
 use Rattle.clauses.specs.ClauseWalk.{formAt}
 use Rattle.clauses.specs.ClauseList.{Lent, Answered, countAnswer, listAnswer, held}
 use Rattle.normal_form.specs.ClauseCall.{Checked, unlisted}
-use Rattle.normal_form.proofs.Interning.{GoesOn, grows-trans, becomes-longer, intern-becomes, intern-goes-on}
-use Rattle.normal_form.proofs.build.Laws.{fits-not, pool-count, pool-good}
+use Rattle.building.proofs.Interning.{GoesOn, grows-trans, becomes-longer, intern-becomes, intern-goes-on}
+use Rattle.building.proofs.build.Laws.{fits-not, pool-count, pool-good}
 use Rattle.clauses.proofs.clause_list.Laws.{zero-all}
 use Rattle.normal_form.proofs.call.Laws.{checked-ready, holds-count, holds-tags, holds-values, zero-kept, left-30, left-refused, left-accepted}
 

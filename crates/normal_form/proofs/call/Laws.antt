@@ -17,13 +17,13 @@ use Rattle.pool.specs.Answer.{accepted}
 use Rattle.pool.specs.Check.{checkPool, andThen, checkTerm}
 use Rattle.pool.specs.declared.Answer.{Answer}
 use Rattle.pool.proofs.tree.Passed.{Passed, term-passes}
-use Rattle.normal_form.specs.declared.build.Built.{Built}
-use Rattle.normal_form.specs.declared.build.Built.the-variants.{At, Full}
+use Rattle.building.specs.declared.build.Built.{Built}
+use Rattle.building.specs.declared.build.Built.the-variants.{At, Full}
 use Rattle.formulas.specs.Built.{Pool, Placed, count}
 use Rattle.clauses.specs.Lists.{padded}
 use Rattle.normal_form.specs.Calls.{noRoom, arrayLeft, normalAnswer, normalPlace, NormalForm}
-use Rattle.normal_form.specs.Walk.{State, Holds, NormalBuilt}
-use Rattle.normal_form.proofs.build.Laws.{pool-count}
+use Rattle.building.specs.Walk.{State, Holds, NormalBuilt}
+use Rattle.building.proofs.build.Laws.{pool-count}
 
 -- ---- a term that passes its checks
 and-left : (a b : Bool) → (a && b) ≡ true → a ≡ true

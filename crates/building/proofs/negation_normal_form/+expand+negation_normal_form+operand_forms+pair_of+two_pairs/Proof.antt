@@ -1,0 +1,933 @@
+use borrow.Author.Needs.{needs}
+use native.Mathlib.Omega.{arith}
+use mathlib.Core.Path.{refl}
+use Rattle.building.proofs.negation_normal_form.Cells.{parts, run-short}
+use Rattle.building.proofs.negation_normal_form.Forms.{not-below, implies-below, ite-below, iff-below, quantifier-body}
+use Rattle.building.specs.Walk.{normal}
+use Rattle.building.proofs.build.Walks.{slot-within, before-same, operand-before, state-after, own-after, place-small, ready-after, one-term, form-full, form-kept, operand-walks, operands-next}
+use Rattle.building.proofs.negation_normal_form.Steps.{pairs, pair-right-full, pair-put, twos, two-right-full, two-put}
+use Rattle.building.proofs.negation_normal_form.Laws.{maxOf, max-left, max-right, max-below, many-before, expands, expand-many, expand-quantifier}
+use Prim.Native.Nat.{ℕ, _<_, _+_, _*_, _-_}
+use borrow.Fn.Kinds.{In}
+use borrow.Fn.PlainCycle.{Measures, is, falls, and}
+use Rattle.building.proofs.negation_normal_form.expand.Reads as expand
+use Rattle.building.proofs.negation_normal_form.expand.Kinds as expand-kinds
+use Rattle.building.proofs.negation_normal_form.+expand+negation_normal_form+operand_forms+pair_of+two_pairs.Lts-expand as expand-lts
+use Rattle.building.proofs.negation_normal_form.negation_normal_form.Reads as negation-normal-form
+use Rattle.building.proofs.negation_normal_form.negation_normal_form.Kinds as negation-normal-form-kinds
+use Rattle.building.proofs.negation_normal_form.+expand+negation_normal_form+operand_forms+pair_of+two_pairs.Lts-negation_normal_form as negation-normal-form-lts
+use Rattle.building.proofs.negation_normal_form.operand_forms.Reads as operand-forms
+use Rattle.building.proofs.negation_normal_form.operand_forms.Kinds as operand-forms-kinds
+use Rattle.building.proofs.negation_normal_form.+expand+negation_normal_form+operand_forms+pair_of+two_pairs.Lts-operand_forms as operand-forms-lts
+use Rattle.building.proofs.negation_normal_form.pair_of.Reads as pair-of
+use Rattle.building.proofs.negation_normal_form.pair_of.Kinds as pair-of-kinds
+use Rattle.building.proofs.negation_normal_form.+expand+negation_normal_form+operand_forms+pair_of+two_pairs.Lts-pair_of as pair-of-lts
+use Rattle.building.proofs.negation_normal_form.two_pairs.Reads as two-pairs
+use Rattle.building.proofs.negation_normal_form.two_pairs.Kinds as two-pairs-kinds
+use Rattle.building.proofs.negation_normal_form.+expand+negation_normal_form+operand_forms+pair_of+two_pairs.Lts-two_pairs as two-pairs-lts
+use Rattle.building.proofs.negation_normal_form.literal.Reads as literal-reads
+use Rattle.building.proofs.negation_normal_form.put_many.Reads as put-many-reads
+use Rattle.building.proofs.negation_normal_form.put_pair.Reads as put-pair-reads
+use Rattle.building.proofs.negation_normal_form.put_quantifier.Reads as put-quantifier-reads
+use Rattle.building.proofs.negation_normal_form.slot.Reads as slot-reads
+use Rattle.formulas.proofs.view.view_of.Reads as view-of-reads
+use Rattle.cells.proofs.run.operands.Reads as operands-reads
+use Rattle.building.proofs.negation_normal_form.+expand+negation_normal_form+operand_forms+pair_of+two_pairs.{
+  statement,
+}
+use Rattle.building.proofs.negation_normal_form.+expand+negation_normal_form+operand_forms+pair_of+two_pairs.Tie.{
+  close,
+}
+
+abbrev μ-expand : Measures 4 expand-kinds.ps ℕ
+μ-expand κs a = a .1 .1 .1 .1 .1 .1 .0 * 32768 + 16384
+
+abbrev μ-negation-normal-form : Measures 4 negation-normal-form-kinds.ps ℕ
+μ-negation-normal-form κs a = a .1 .1 .1 .1 .1 .1 .0 * 32768 + 24576
+
+abbrev μ-operand-forms : Measures 4 operand-forms-kinds.ps ℕ
+μ-operand-forms κs a = a .1 .1 .1 .1 .1 .1 .0 * 32768 + (8192 - a .1 .1 .1 .1 .1 .1 .1 .0)
+
+abbrev μ-pair-of : Measures 4 pair-of-kinds.ps ℕ
+μ-pair-of κs a = maxOf (a .1 .1 .1 .1 .1 .1 .1 .0 .0) (a .1 .1 .1 .1 .1 .1 .1 .1 .0) * 32768 + 24577
+
+abbrev μ-two-pairs : Measures 4 two-pairs-kinds.ps ℕ
+μ-two-pairs κs a = maxOf (maxOf (a .1 .1 .1 .1 .1 .1 .1 .0) (a .1 .1 .1 .1 .1 .1 .1 .1 .0)) (maxOf (a .1 .1 .1 .1 .1 .1 .1 .1 .1 .0 .0) (a .1 .1 .1 .1 .1 .1 .1 .1 .1 .1 .0)) * 32768 + 24578
+
+abbrev expand-at : ℕ → In 4 expand-kinds.ps
+expand-at t = and 4 expand-kinds.ps (is 4 expand-kinds.ps μ-expand t) expand.Pre
+
+abbrev expand-below : ℕ → In 4 expand-kinds.ps
+expand-below t = and 4 expand-kinds.ps (falls 4 expand-kinds.ps _<_ μ-expand t) expand.Pre
+
+abbrev negation-normal-form-at : ℕ → In 4 negation-normal-form-kinds.ps
+negation-normal-form-at t =
+    and
+    4
+    negation-normal-form-kinds.ps
+    (is 4 negation-normal-form-kinds.ps μ-negation-normal-form t)
+    negation-normal-form.Pre
+
+abbrev negation-normal-form-below : ℕ → In 4 negation-normal-form-kinds.ps
+negation-normal-form-below t =
+    and
+    4
+    negation-normal-form-kinds.ps
+    (falls 4 negation-normal-form-kinds.ps _<_ μ-negation-normal-form t)
+    negation-normal-form.Pre
+
+abbrev operand-forms-at : ℕ → In 4 operand-forms-kinds.ps
+operand-forms-at t =
+    and 4 operand-forms-kinds.ps (is 4 operand-forms-kinds.ps μ-operand-forms t) operand-forms.Pre
+
+abbrev operand-forms-below : ℕ → In 4 operand-forms-kinds.ps
+operand-forms-below t =
+    and
+    4
+    operand-forms-kinds.ps
+    (falls 4 operand-forms-kinds.ps _<_ μ-operand-forms t)
+    operand-forms.Pre
+
+abbrev pair-of-at : ℕ → In 4 pair-of-kinds.ps
+pair-of-at t = and 4 pair-of-kinds.ps (is 4 pair-of-kinds.ps μ-pair-of t) pair-of.Pre
+
+abbrev pair-of-below : ℕ → In 4 pair-of-kinds.ps
+pair-of-below t = and 4 pair-of-kinds.ps (falls 4 pair-of-kinds.ps _<_ μ-pair-of t) pair-of.Pre
+
+abbrev two-pairs-at : ℕ → In 4 two-pairs-kinds.ps
+two-pairs-at t = and 4 two-pairs-kinds.ps (is 4 two-pairs-kinds.ps μ-two-pairs t) two-pairs.Pre
+
+abbrev two-pairs-below : ℕ → In 4 two-pairs-kinds.ps
+two-pairs-below t =
+    and 4 two-pairs-kinds.ps (falls 4 two-pairs-kinds.ps _<_ μ-two-pairs t) two-pairs.Pre
+
+-- what the calls in `two-pairs` ask and tell, below the measure t
+abbrev two-pairs-calls : ℕ → two-pairs-lts.Claims
+two-pairs-calls t = (pair-of-below t, pair-of.Post, put-pair-reads.Asked, put-pair-reads.Learnt)
+
+-- what the calls in `pair-of` ask and tell, below the measure t
+abbrev pair-of-calls : ℕ → pair-of-lts.Claims
+pair-of-calls t = (negation-normal-form-below t, negation-normal-form.Post, put-pair-reads.Asked, put-pair-reads.Learnt)
+
+-- what the calls in `operand-forms` ask and tell, below the measure t
+abbrev operand-forms-calls : ℕ → operand-forms-lts.Claims
+operand-forms-calls t = (operands-reads.Asked, operands-reads.Learnt, negation-normal-form-below t, negation-normal-form.Post, operand-forms-below t, operand-forms.Post)
+
+-- what the calls in `negation-normal-form` ask and tell, below the measure t
+abbrev negation-normal-form-calls : ℕ → negation-normal-form-lts.Claims
+negation-normal-form-calls t = (slot-reads.Asked, slot-reads.Learnt, expand-below t, expand.Post)
+
+-- what the calls in `expand` ask and tell, below the measure t
+abbrev expand-calls : ℕ → expand-lts.Claims
+expand-calls t = (view-of-reads.Asked, view-of-reads.Learnt, literal-reads.Asked, literal-reads.Learnt, negation-normal-form-below t, negation-normal-form.Post, operand-forms-below t, operand-forms.Post, put-many-reads.Asked, put-many-reads.Learnt, pair-of-below t, pair-of.Post, two-pairs-below t, two-pairs.Post, put-quantifier-reads.Asked, put-quantifier-reads.Learnt)
+
+expand-slice-reshare-prefix-view-of : (t : ℕ) → expand-lts.Need-slice-reshare-prefix-view-of (expand-calls t) (expand-at t) expand.Post
+expand-slice-reshare-prefix-view-of t c = search needs
+
+expand-slice-aggregate-view-of : (t : ℕ) → expand-lts.Need-slice-aggregate-view-of (expand-calls t) (expand-at t) expand.Post
+expand-slice-aggregate-view-of t c = search parts
+
+expand-slice-reshare-prefix-view-of-2 : (t : ℕ) → expand-lts.Need-slice-reshare-prefix-view-of-2 (expand-calls t) (expand-at t) expand.Post
+expand-slice-reshare-prefix-view-of-2 t c = search needs
+
+expand-slice-aggregate-view-of-2 : (t : ℕ) → expand-lts.Need-slice-aggregate-view-of-2 (expand-calls t) (expand-at t) expand.Post
+expand-slice-aggregate-view-of-2 t c = search parts
+
+expand-view-of-requires : (t : ℕ) → expand-lts.Need-view-of-requires (expand-calls t) (expand-at t) expand.Post
+expand-view-of-requires t c κs = search needs
+
+expand-enum-told : (t : ℕ) → expand-lts.Need-enum-told (expand-calls t) (expand-at t) expand.Post
+expand-enum-told t c = search needs
+
+expand-literal-requires : (t : ℕ) → expand-lts.Need-literal-requires (expand-calls t) (expand-at t) expand.Post
+expand-literal-requires t c κs = search needs
+
+expand-enum-known-view : (t : ℕ) → expand-lts.Need-enum-known-view (expand-calls t) (expand-at t) expand.Post
+expand-enum-known-view t c = search needs
+
+expand-negation-normal-form-requires : (t : ℕ) → expand-lts.Need-negation-normal-form-requires (expand-calls t) (expand-at t) expand.Post
+expand-negation-normal-form-requires t c κs =
+    let at-view = c .before .before .before .before .before in
+    let at-view-of = at-view .before .before in
+    let start = at-view-of .before .before .before .before .before .before .before in
+    let h = not-below _ _ _ _ (at-view-of .view-of .ensures) _ (at-view .view .given .1) in
+    (omega (arith, start .pre .0), (start .pre .1 .0, (start .pre .1 .1 .0, omega (arith, start .pre .1 .1 .1))))
+
+expand-enum-known-view-2 : (t : ℕ) → expand-lts.Need-enum-known-view-2 (expand-calls t) (expand-at t) expand.Post
+expand-enum-known-view-2 t c = search needs
+
+expand-operand-forms-requires : (t : ℕ) → expand-lts.Need-operand-forms-requires (expand-calls t) (expand-at t) expand.Post
+expand-operand-forms-requires t c κs =
+    let at-view2 = c .before .before .before .before .before in
+    let at-view-of = at-view2 .before .before in
+    let start = at-view-of .before .before .before .before .before .before .before in
+    (omega (arith, start .pre .0), (start .pre .1 .0, (start .pre .1 .1 .0, (start .pre .1 .1 .1, many-before _ _ _ _ _ (start .pre .1 .0) _ (start .args .polarity) _ (at-view-of .view-of .ensures) _ (at-view2 .view2 .given .1)))))
+
+expand-enum-known-m : (t : ℕ) → expand-lts.Need-enum-known-m (expand-calls t) (expand-at t) expand.Post
+expand-enum-known-m t c = search needs
+
+expand-enum-told-2 : (t : ℕ) → expand-lts.Need-enum-told-2 (expand-calls t) (expand-at t) expand.Post
+expand-enum-told-2 t c = search needs
+
+expand-same-length : (t : ℕ) → expand-lts.Need-same-length (expand-calls t) (expand-at t) expand.Post
+expand-same-length t c = search needs
+
+expand-same-length-2 : (t : ℕ) → expand-lts.Need-same-length-2 (expand-calls t) (expand-at t) expand.Post
+expand-same-length-2 t c = search needs
+
+expand-same-length-3 : (t : ℕ) → expand-lts.Need-same-length-3 (expand-calls t) (expand-at t) expand.Post
+expand-same-length-3 t c = search needs
+
+expand-same-length-4 : (t : ℕ) → expand-lts.Need-same-length-4 (expand-calls t) (expand-at t) expand.Post
+expand-same-length-4 t c = search needs
+
+expand-returns : (t : ℕ) → expand-lts.Need-returns (expand-calls t) (expand-at t) expand.Post
+expand-returns t c = search expands
+
+expand-put-many-requires : (t : ℕ) → expand-lts.Need-put-many-requires (expand-calls t) (expand-at t) expand.Post
+expand-put-many-requires t c κs =
+    let at-m = c .before .before .before .before .before in
+    let at-scratch2 = at-m .before .before .before in
+    let at-operand-forms = at-scratch2 .before .before .before .before .before .before .before in
+    let start = at-operand-forms .before .before .before .before .before .before .before .before .before .before .before .before .before .before .before in
+    (state-after normal _ _ _ _ _ _ _ _ _ (at-operand-forms .operand-forms .ensures .builds) _ _ (at-m .m .given .1), (omega (arith, at-scratch2 .scratch2 .given, start .pre .1 .1 .0), start .pre .1 .1 .1))
+
+expand-enum-known-view-3 : (t : ℕ) → expand-lts.Need-enum-known-view-3 (expand-calls t) (expand-at t) expand.Post
+expand-enum-known-view-3 t c = search needs
+
+expand-pair-of-requires : (t : ℕ) → expand-lts.Need-pair-of-requires (expand-calls t) (expand-at t) expand.Post
+expand-pair-of-requires t c κs =
+    let at-view3 = c .before .before .before .before .before in
+    let at-view-of = at-view3 .before .before in
+    let start = at-view-of .before .before .before .before .before .before .before in
+    let (h, l) = implies-below _ _ _ _ (at-view-of .view-of .ensures) _ _ (at-view3 .view3 .given .1) in
+    (omega (arith, max-below _ _ _ h l, start .pre .0), (start .pre .1 .0, (start .pre .1 .1 .0, (omega (arith, start .pre .1 .1 .1), omega (arith, start .pre .1 .1 .1)))))
+
+expand-enum-known-view-4 : (t : ℕ) → expand-lts.Need-enum-known-view-4 (expand-calls t) (expand-at t) expand.Post
+expand-enum-known-view-4 t c = search needs
+
+expand-two-pairs-requires : (t : ℕ) → expand-lts.Need-two-pairs-requires (expand-calls t) (expand-at t) expand.Post
+expand-two-pairs-requires t c κs =
+    let at-view4 = c .before .before .before .before .before in
+    let at-view-of = at-view4 .before .before in
+    let start = at-view-of .before .before .before .before .before .before .before in
+    let (h, l, k) = ite-below _ _ _ _ (at-view-of .view-of .ensures) _ _ _ (at-view4 .view4 .given .1) in
+    (omega (arith, max-below _ _ _ (max-below _ _ _ h l) (max-below _ _ _ h k), start .pre .0), (start .pre .1 .0, (start .pre .1 .1 .0, record { first = omega (arith, start .pre .1 .1 .1); second = omega (arith, start .pre .1 .1 .1); third = omega (arith, start .pre .1 .1 .1); fourth = omega (arith, start .pre .1 .1 .1) })))
+
+expand-enum-known-view-5 : (t : ℕ) → expand-lts.Need-enum-known-view-5 (expand-calls t) (expand-at t) expand.Post
+expand-enum-known-view-5 t c = search needs
+
+expand-two-pairs-requires-2 : (t : ℕ) → expand-lts.Need-two-pairs-requires-2 (expand-calls t) (expand-at t) expand.Post
+expand-two-pairs-requires-2 t c κs =
+    let at-view5 = c .before .before .before .before .before in
+    let at-view-of = at-view5 .before .before in
+    let start = at-view-of .before .before .before .before .before .before .before in
+    let (h, l) = iff-below _ _ _ _ (at-view-of .view-of .ensures) _ _ (at-view5 .view5 .given .1) in
+    (omega (arith, max-below _ _ _ (max-below _ _ _ h l) (max-below _ _ _ l h), start .pre .0), (start .pre .1 .0, (start .pre .1 .1 .0, record { first = omega (arith, start .pre .1 .1 .1); second = omega (arith, start .pre .1 .1 .1); third = omega (arith, start .pre .1 .1 .1); fourth = omega (arith, start .pre .1 .1 .1) })))
+
+expand-enum-known-view-6 : (t : ℕ) → expand-lts.Need-enum-known-view-6 (expand-calls t) (expand-at t) expand.Post
+expand-enum-known-view-6 t c = search needs
+
+expand-negation-normal-form-requires-2 : (t : ℕ) → expand-lts.Need-negation-normal-form-requires-2 (expand-calls t) (expand-at t) expand.Post
+expand-negation-normal-form-requires-2 t c κs =
+    let at-view6 = c .before .before .before .before .before in
+    let at-view-of = at-view6 .before .before in
+    let start = at-view-of .before .before .before .before .before .before .before in
+    let h = quantifier-body _ _ _ _ (at-view-of .view-of .ensures) _ _ (at-view6 .view6 .given .1) in
+    (omega (arith, start .pre .0), (start .pre .1 .0, (start .pre .1 .1 .0, omega (arith, start .pre .1 .1 .1))))
+
+expand-enum-known-p : (t : ℕ) → expand-lts.Need-enum-known-p (expand-calls t) (expand-at t) expand.Post
+expand-enum-known-p t c = search needs
+
+expand-enum-told-3 : (t : ℕ) → expand-lts.Need-enum-told-3 (expand-calls t) (expand-at t) expand.Post
+expand-enum-told-3 t c = search needs
+
+expand-same-length-5 : (t : ℕ) → expand-lts.Need-same-length-5 (expand-calls t) (expand-at t) expand.Post
+expand-same-length-5 t c = search needs
+
+expand-same-length-6 : (t : ℕ) → expand-lts.Need-same-length-6 (expand-calls t) (expand-at t) expand.Post
+expand-same-length-6 t c = search needs
+
+expand-same-length-7 : (t : ℕ) → expand-lts.Need-same-length-7 (expand-calls t) (expand-at t) expand.Post
+expand-same-length-7 t c = search needs
+
+expand-same-length-8 : (t : ℕ) → expand-lts.Need-same-length-8 (expand-calls t) (expand-at t) expand.Post
+expand-same-length-8 t c = search needs
+
+expand-returns-2 : (t : ℕ) → expand-lts.Need-returns-2 (expand-calls t) (expand-at t) expand.Post
+expand-returns-2 t c = search expands
+
+expand-put-quantifier-requires : (t : ℕ) → expand-lts.Need-put-quantifier-requires (expand-calls t) (expand-at t) expand.Post
+expand-put-quantifier-requires t c κs =
+    let at-p = c .before .before .before .before in
+    let at-scratch7 = at-p .before .before .before in
+    let at-negation-normal-form2 = at-scratch7 .before .before .before .before .before .before .before in
+    let start = at-negation-normal-form2 .before .before .before .before .before .before .before .before .before .before .before .before .before .before .before in
+    (state-after normal _ _ _ _ _ _ _ _ _ (at-negation-normal-form2 .negation-normal-form2 .ensures .formed) _ _ (at-p .p .given .1), (omega (arith, at-scratch7 .scratch7 .given, start .pre .1 .1 .0), start .pre .1 .1 .1))
+
+expand-same-length-9 : (t : ℕ) → expand-lts.Need-same-length-9 (expand-calls t) (expand-at t) expand.Post
+expand-same-length-9 t c = search needs
+
+expand-same-length-10 : (t : ℕ) → expand-lts.Need-same-length-10 (expand-calls t) (expand-at t) expand.Post
+expand-same-length-10 t c = search needs
+
+expand-returns-3 : (t : ℕ) → expand-lts.Need-returns-3 (expand-calls t) (expand-at t) expand.Post
+expand-returns-3 t c = search expands
+
+expand-same-length-11 : (t : ℕ) → expand-lts.Need-same-length-11 (expand-calls t) (expand-at t) expand.Post
+expand-same-length-11 t c = search needs
+
+expand-same-length-12 : (t : ℕ) → expand-lts.Need-same-length-12 (expand-calls t) (expand-at t) expand.Post
+expand-same-length-12 t c = search needs
+
+expand-same-length-13 : (t : ℕ) → expand-lts.Need-same-length-13 (expand-calls t) (expand-at t) expand.Post
+expand-same-length-13 t c = search needs
+
+expand-same-length-14 : (t : ℕ) → expand-lts.Need-same-length-14 (expand-calls t) (expand-at t) expand.Post
+expand-same-length-14 t c = search needs
+
+expand-returns-4 : (t : ℕ) → expand-lts.Need-returns-4 (expand-calls t) (expand-at t) expand.Post
+expand-returns-4 t c = search expands
+
+expand-same-length-15 : (t : ℕ) → expand-lts.Need-same-length-15 (expand-calls t) (expand-at t) expand.Post
+expand-same-length-15 t c = search needs
+
+expand-same-length-16 : (t : ℕ) → expand-lts.Need-same-length-16 (expand-calls t) (expand-at t) expand.Post
+expand-same-length-16 t c = search needs
+
+expand-same-length-17 : (t : ℕ) → expand-lts.Need-same-length-17 (expand-calls t) (expand-at t) expand.Post
+expand-same-length-17 t c = search needs
+
+expand-same-length-18 : (t : ℕ) → expand-lts.Need-same-length-18 (expand-calls t) (expand-at t) expand.Post
+expand-same-length-18 t c = search needs
+
+expand-returns-5 : (t : ℕ) → expand-lts.Need-returns-5 (expand-calls t) (expand-at t) expand.Post
+expand-returns-5 t c =
+    let at-put-many = c .before .before .before .before .before .before in
+    let at-m = at-put-many .before .before .before .before .before .before in
+    let at-operand-forms = at-m .before .before .before .before .before .before .before .before .before .before in
+    let at-view2 = at-operand-forms .before .before .before .before .before .before in
+    let at-view-of = at-view2 .before .before in
+    let start = at-view-of .before .before .before .before .before .before .before in
+    expand-many _ _ _ _ _ (start .pre .1 .0) _ _ _ (at-view-of .view-of .ensures) _ (at-view2 .view2 .given .1) _ _ _ _ (at-operand-forms .operand-forms .ensures) _ _ (at-m .m .given .1) _ _ _ (at-put-many .put-many .ensures)
+
+expand-same-length-19 : (t : ℕ) → expand-lts.Need-same-length-19 (expand-calls t) (expand-at t) expand.Post
+expand-same-length-19 t c = search needs
+
+expand-same-length-20 : (t : ℕ) → expand-lts.Need-same-length-20 (expand-calls t) (expand-at t) expand.Post
+expand-same-length-20 t c = search needs
+
+expand-same-length-21 : (t : ℕ) → expand-lts.Need-same-length-21 (expand-calls t) (expand-at t) expand.Post
+expand-same-length-21 t c = search needs
+
+expand-same-length-22 : (t : ℕ) → expand-lts.Need-same-length-22 (expand-calls t) (expand-at t) expand.Post
+expand-same-length-22 t c = search needs
+
+expand-returns-6 : (t : ℕ) → expand-lts.Need-returns-6 (expand-calls t) (expand-at t) expand.Post
+expand-returns-6 t c = search expands
+
+expand-same-length-23 : (t : ℕ) → expand-lts.Need-same-length-23 (expand-calls t) (expand-at t) expand.Post
+expand-same-length-23 t c = search needs
+
+expand-same-length-24 : (t : ℕ) → expand-lts.Need-same-length-24 (expand-calls t) (expand-at t) expand.Post
+expand-same-length-24 t c = search needs
+
+expand-same-length-25 : (t : ℕ) → expand-lts.Need-same-length-25 (expand-calls t) (expand-at t) expand.Post
+expand-same-length-25 t c = search needs
+
+expand-same-length-26 : (t : ℕ) → expand-lts.Need-same-length-26 (expand-calls t) (expand-at t) expand.Post
+expand-same-length-26 t c = search needs
+
+expand-returns-7 : (t : ℕ) → expand-lts.Need-returns-7 (expand-calls t) (expand-at t) expand.Post
+expand-returns-7 t c = search expands
+
+expand-same-length-27 : (t : ℕ) → expand-lts.Need-same-length-27 (expand-calls t) (expand-at t) expand.Post
+expand-same-length-27 t c = search needs
+
+expand-same-length-28 : (t : ℕ) → expand-lts.Need-same-length-28 (expand-calls t) (expand-at t) expand.Post
+expand-same-length-28 t c = search needs
+
+expand-same-length-29 : (t : ℕ) → expand-lts.Need-same-length-29 (expand-calls t) (expand-at t) expand.Post
+expand-same-length-29 t c = search needs
+
+expand-same-length-30 : (t : ℕ) → expand-lts.Need-same-length-30 (expand-calls t) (expand-at t) expand.Post
+expand-same-length-30 t c = search needs
+
+expand-returns-8 : (t : ℕ) → expand-lts.Need-returns-8 (expand-calls t) (expand-at t) expand.Post
+expand-returns-8 t c = search expands
+
+expand-same-length-31 : (t : ℕ) → expand-lts.Need-same-length-31 (expand-calls t) (expand-at t) expand.Post
+expand-same-length-31 t c = search needs
+
+expand-same-length-32 : (t : ℕ) → expand-lts.Need-same-length-32 (expand-calls t) (expand-at t) expand.Post
+expand-same-length-32 t c = search needs
+
+expand-same-length-33 : (t : ℕ) → expand-lts.Need-same-length-33 (expand-calls t) (expand-at t) expand.Post
+expand-same-length-33 t c = search needs
+
+expand-same-length-34 : (t : ℕ) → expand-lts.Need-same-length-34 (expand-calls t) (expand-at t) expand.Post
+expand-same-length-34 t c = search needs
+
+expand-returns-9 : (t : ℕ) → expand-lts.Need-returns-9 (expand-calls t) (expand-at t) expand.Post
+expand-returns-9 t c =
+    let at-put-quantifier = c .before .before .before .before .before .before in
+    let at-p = at-put-quantifier .before .before .before .before .before in
+    let at-negation-normal-form2 = at-p .before .before .before .before .before .before .before .before .before .before in
+    let at-view6 = at-negation-normal-form2 .before .before .before .before .before .before in
+    let at-view-of = at-view6 .before .before in
+    let start = at-view-of .before .before .before .before .before .before .before in
+    expand-quantifier _ _ _ _ _ (start .pre .1 .0) _ _ _ (at-view-of .view-of .ensures) _ _ (at-view6 .view6 .given .1) _ _ _ _ (at-negation-normal-form2 .negation-normal-form2 .ensures) _ _ (at-p .p .given .1) _ _ _ (at-put-quantifier .put-quantifier .ensures)
+
+negation-normal-form-slot-requires : (t : ℕ) → negation-normal-form-lts.Need-slot-requires (negation-normal-form-calls t) (negation-normal-form-at t) negation-normal-form.Post
+negation-normal-form-slot-requires t c κs = search needs
+
+negation-normal-form-mul-known : (t : ℕ) → negation-normal-form-lts.Need-mul-known (negation-normal-form-calls t) (negation-normal-form-at t) negation-normal-form.Post
+negation-normal-form-mul-known t c =
+    let start = c .before .before .before .before .before in
+    let h = slot-within normal _ _ _ _ _ (start .pre .1 .0) _ _ (start .pre .1 .1 .1) _ (c .slot .ensures) in
+    search needs
+
+negation-normal-form-slice-read-known : (t : ℕ) → negation-normal-form-lts.Need-slice-read-known (negation-normal-form-calls t) (negation-normal-form-at t) negation-normal-form.Post
+negation-normal-form-slice-read-known t c =
+    let start = c .before .before .before .before .before .before in
+    let h = slot-within normal _ _ _ _ _ (start .pre .1 .0) _ _ (start .pre .1 .1 .1) _ (c .before .slot .ensures) in
+    search needs
+
+negation-normal-form-sub-t17 : (t : ℕ) → negation-normal-form-lts.Need-sub-t17 (negation-normal-form-calls t) (negation-normal-form-at t) negation-normal-form.Post
+negation-normal-form-sub-t17 t c = search needs
+
+negation-normal-form-returns : (t : ℕ) → negation-normal-form-lts.Need-returns (negation-normal-form-calls t) (negation-normal-form-at t) negation-normal-form.Post
+negation-normal-form-returns t c = search one-term
+
+negation-normal-form-expand-requires : (t : ℕ) → negation-normal-form-lts.Need-expand-requires (negation-normal-form-calls t) (negation-normal-form-at t) negation-normal-form.Post
+negation-normal-form-expand-requires t c κs = search needs
+
+negation-normal-form-enum-known-p : (t : ℕ) → negation-normal-form-lts.Need-enum-known-p (negation-normal-form-calls t) (negation-normal-form-at t) negation-normal-form.Post
+negation-normal-form-enum-known-p t c = search needs
+
+negation-normal-form-enum-told : (t : ℕ) → negation-normal-form-lts.Need-enum-told (negation-normal-form-calls t) (negation-normal-form-at t) negation-normal-form.Post
+negation-normal-form-enum-told t c = search needs
+
+negation-normal-form-same-length : (t : ℕ) → negation-normal-form-lts.Need-same-length (negation-normal-form-calls t) (negation-normal-form-at t) negation-normal-form.Post
+negation-normal-form-same-length t c = search needs
+
+negation-normal-form-same-length-2 : (t : ℕ) → negation-normal-form-lts.Need-same-length-2 (negation-normal-form-calls t) (negation-normal-form-at t) negation-normal-form.Post
+negation-normal-form-same-length-2 t c = search needs
+
+negation-normal-form-same-length-3 : (t : ℕ) → negation-normal-form-lts.Need-same-length-3 (negation-normal-form-calls t) (negation-normal-form-at t) negation-normal-form.Post
+negation-normal-form-same-length-3 t c = search needs
+
+negation-normal-form-same-length-4 : (t : ℕ) → negation-normal-form-lts.Need-same-length-4 (negation-normal-form-calls t) (negation-normal-form-at t) negation-normal-form.Post
+negation-normal-form-same-length-4 t c = search needs
+
+negation-normal-form-returns-2 : (t : ℕ) → negation-normal-form-lts.Need-returns-2 (negation-normal-form-calls t) (negation-normal-form-at t) negation-normal-form.Post
+negation-normal-form-returns-2 t c =
+    let at-expand = c .before .before .before .before .before .before .before .before .before .before in
+    let at-slot = at-expand .before .before .before .before .before .before .before in
+    let start = at-slot .before .before .before .before .before in
+    form-full normal _ _ _ _ _ (start .pre .1 .0) _ _ (start .pre .1 .1 .1) _ (at-slot .slot .ensures) _ refl _ _ _ _ (at-expand .expand .ensures) (c .enum-told .given .1)
+
+negation-normal-form-add-memo : (t : ℕ) → negation-normal-form-lts.Need-add-memo (negation-normal-form-calls t) (negation-normal-form-at t) negation-normal-form.Post
+negation-normal-form-add-memo t c =
+    let at-expand = c .before .before .before .before .before .before .before .before .before .before .before in
+    let h = place-small normal _ _ _ _ _ _ _ _ _ (at-expand .expand .ensures) _ _ (c .before .p .given .1) in
+    search needs
+
+negation-normal-form-mul-memo : (t : ℕ) → negation-normal-form-lts.Need-mul-memo (negation-normal-form-calls t) (negation-normal-form-at t) negation-normal-form.Post
+negation-normal-form-mul-memo t c =
+    let at-slot = c .before .before .before .before .before .before .before .before .before .before .before .before .before .before .before .before .before .before in
+    let start = at-slot .before .before .before .before .before in
+    let h = slot-within normal _ _ _ _ _ (start .pre .1 .0) _ _ (start .pre .1 .1 .1) _ (at-slot .slot .ensures) in
+    search needs
+
+negation-normal-form-slice-write-memo : (t : ℕ) → negation-normal-form-lts.Need-slice-write-memo (negation-normal-form-calls t) (negation-normal-form-at t) negation-normal-form.Post
+negation-normal-form-slice-write-memo t c =
+    let at-slot = c .before .before .before .before .before .before .before .before .before .before .before .before .before .before .before .before .before .before in
+    let start = at-slot .before .before .before .before .before in
+    let h = slot-within normal _ _ _ _ _ (start .pre .1 .0) _ _ (start .pre .1 .1 .1) _ (at-slot .slot .ensures) in
+    search needs
+
+negation-normal-form-same-length-5 : (t : ℕ) → negation-normal-form-lts.Need-same-length-5 (negation-normal-form-calls t) (negation-normal-form-at t) negation-normal-form.Post
+negation-normal-form-same-length-5 t c = search needs
+
+negation-normal-form-same-length-6 : (t : ℕ) → negation-normal-form-lts.Need-same-length-6 (negation-normal-form-calls t) (negation-normal-form-at t) negation-normal-form.Post
+negation-normal-form-same-length-6 t c = search needs
+
+negation-normal-form-same-length-7 : (t : ℕ) → negation-normal-form-lts.Need-same-length-7 (negation-normal-form-calls t) (negation-normal-form-at t) negation-normal-form.Post
+negation-normal-form-same-length-7 t c = search needs
+
+negation-normal-form-same-length-8 : (t : ℕ) → negation-normal-form-lts.Need-same-length-8 (negation-normal-form-calls t) (negation-normal-form-at t) negation-normal-form.Post
+negation-normal-form-same-length-8 t c = search needs
+
+negation-normal-form-returns-3 : (t : ℕ) → negation-normal-form-lts.Need-returns-3 (negation-normal-form-calls t) (negation-normal-form-at t) negation-normal-form.Post
+negation-normal-form-returns-3 t c =
+    let at-expand = c .before .before .before .before .before .before .before .before .before .before .before in
+    let at-if1 = at-expand .before .before .before .before .before in
+    let at-slot = at-if1 .before .before in
+    let start = at-slot .before .before .before .before .before in
+    form-kept normal _ _ _ _ _ (start .pre .1 .0) _ _ (start .pre .1 .1 .1) _ (at-slot .slot .ensures) _ refl _ _ _ _ (at-expand .expand .ensures) (at-if1 .if1 .left) _ _ (c .before .p .given .1) (omega (arith, slot-within normal _ _ _ _ _ (start .pre .1 .0) _ _ (start .pre .1 .1 .1) _ (at-slot .slot .ensures)))
+
+operand-forms-slice-reshare-prefix-operands :
+    (t : ℕ) → operand-forms-lts.Need-slice-reshare-prefix-operands (operand-forms-calls t) (operand-forms-at t) operand-forms.Post
+operand-forms-slice-reshare-prefix-operands t c = search needs
+
+operand-forms-slice-aggregate-operands : (t : ℕ) → operand-forms-lts.Need-slice-aggregate-operands (operand-forms-calls t) (operand-forms-at t) operand-forms.Post
+operand-forms-slice-aggregate-operands t c = search parts
+
+operand-forms-slice-reshare-prefix-operands-2 :
+    (t : ℕ) → operand-forms-lts.Need-slice-reshare-prefix-operands-2 (operand-forms-calls t) (operand-forms-at t) operand-forms.Post
+operand-forms-slice-reshare-prefix-operands-2 t c = search needs
+
+operand-forms-slice-aggregate-operands-2 :
+    (t : ℕ) → operand-forms-lts.Need-slice-aggregate-operands-2 (operand-forms-calls t) (operand-forms-at t) operand-forms.Post
+operand-forms-slice-aggregate-operands-2 t c = search parts
+
+operand-forms-operands-requires : (t : ℕ) → operand-forms-lts.Need-operands-requires (operand-forms-calls t) (operand-forms-at t) operand-forms.Post
+operand-forms-operands-requires t c κs = search needs
+
+operand-forms-same-length : (t : ℕ) → operand-forms-lts.Need-same-length (operand-forms-calls t) (operand-forms-at t) operand-forms.Post
+operand-forms-same-length t c = search needs
+
+operand-forms-same-length-2 : (t : ℕ) → operand-forms-lts.Need-same-length-2 (operand-forms-calls t) (operand-forms-at t) operand-forms.Post
+operand-forms-same-length-2 t c = search needs
+
+operand-forms-returns : (t : ℕ) → operand-forms-lts.Need-returns (operand-forms-calls t) (operand-forms-at t) operand-forms.Post
+operand-forms-returns t c = search operand-walks
+
+operand-forms-mul-u : (t : ℕ) → operand-forms-lts.Need-mul-u (operand-forms-calls t) (operand-forms-at t) operand-forms.Post
+operand-forms-mul-u t c = search needs
+
+operand-forms-shared-slice-read-u : (t : ℕ) → operand-forms-lts.Need-shared-slice-read-u (operand-forms-calls t) (operand-forms-at t) operand-forms.Post
+operand-forms-shared-slice-read-u t c = search needs
+
+operand-forms-negation-normal-form-requires :
+    (t : ℕ) → operand-forms-lts.Need-negation-normal-form-requires (operand-forms-calls t) (operand-forms-at t) operand-forms.Post
+operand-forms-negation-normal-form-requires t c κs =
+    let at-if1 = c .before .before .before .before .before in
+    let at-operands = at-if1 .before in
+    let start = at-operands .before .before .before .before .before .before .before in
+    let h = operand-before _ _ _ _ (start .pre .1 .1 .1 .1) _ (at-operands .operands .ensures) _ (at-if1 .if1 .left) in
+    (omega (arith, start .pre .0), (start .pre .1 .0, (start .pre .1 .1 .0, omega arith)))
+
+operand-forms-enum-known-m : (t : ℕ) → operand-forms-lts.Need-enum-known-m (operand-forms-calls t) (operand-forms-at t) operand-forms.Post
+operand-forms-enum-known-m t c = search needs
+
+operand-forms-enum-told : (t : ℕ) → operand-forms-lts.Need-enum-told (operand-forms-calls t) (operand-forms-at t) operand-forms.Post
+operand-forms-enum-told t c = search needs
+
+operand-forms-same-length-3 : (t : ℕ) → operand-forms-lts.Need-same-length-3 (operand-forms-calls t) (operand-forms-at t) operand-forms.Post
+operand-forms-same-length-3 t c = search needs
+
+operand-forms-same-length-4 : (t : ℕ) → operand-forms-lts.Need-same-length-4 (operand-forms-calls t) (operand-forms-at t) operand-forms.Post
+operand-forms-same-length-4 t c = search needs
+
+operand-forms-same-length-5 : (t : ℕ) → operand-forms-lts.Need-same-length-5 (operand-forms-calls t) (operand-forms-at t) operand-forms.Post
+operand-forms-same-length-5 t c = search needs
+
+operand-forms-same-length-6 : (t : ℕ) → operand-forms-lts.Need-same-length-6 (operand-forms-calls t) (operand-forms-at t) operand-forms.Post
+operand-forms-same-length-6 t c = search needs
+
+operand-forms-returns-2 : (t : ℕ) → operand-forms-lts.Need-returns-2 (operand-forms-calls t) (operand-forms-at t) operand-forms.Post
+operand-forms-returns-2 t c = search operand-walks
+
+operand-forms-add-operand-forms : (t : ℕ) → operand-forms-lts.Need-add-operand-forms (operand-forms-calls t) (operand-forms-at t) operand-forms.Post
+operand-forms-add-operand-forms t c = search needs
+
+operand-forms-operand-forms-requires : (t : ℕ) → operand-forms-lts.Need-operand-forms-requires (operand-forms-calls t) (operand-forms-at t) operand-forms.Post
+operand-forms-operand-forms-requires t c κs =
+    let at-m = c .before .before .before .before .before in
+    let at-scratch = at-m .before .before .before in
+    let at-memo = at-scratch .before .before in
+    let at-negation-normal-form = at-memo .before .before .before .before .before in
+    let at-if1 = at-negation-normal-form .before .before .before .before .before .before in
+    let at-operands = at-if1 .before in
+    let start = at-operands .before .before .before .before .before .before .before in
+    let j = at-negation-normal-form .negation-normal-form .ensures in
+    (omega (arith, run-short _ _ _ _ (start .pre .1 .0 .state) _ (start .pre .1 .1 .1 .0) _ (at-operands .operands .ensures), at-if1 .if1 .left, start .pre .0), (ready-after normal _ _ _ _ _ _ _ _ _ (j .formed) _ _ (at-m .m .given .1) (omega (arith, at-memo .memo .given, start .pre .1 .0 .room)), (omega (arith, at-scratch .scratch .given, start .pre .1 .1 .0), (start .pre .1 .1 .1 .0, before-same _ _ _ _ _ (j .formed .puts .left) _ (start .pre .1 .1 .1 .1)))))
+
+operand-forms-same-length-7 : (t : ℕ) → operand-forms-lts.Need-same-length-7 (operand-forms-calls t) (operand-forms-at t) operand-forms.Post
+operand-forms-same-length-7 t c = search needs
+
+operand-forms-same-length-8 : (t : ℕ) → operand-forms-lts.Need-same-length-8 (operand-forms-calls t) (operand-forms-at t) operand-forms.Post
+operand-forms-same-length-8 t c = search needs
+
+operand-forms-same-length-9 : (t : ℕ) → operand-forms-lts.Need-same-length-9 (operand-forms-calls t) (operand-forms-at t) operand-forms.Post
+operand-forms-same-length-9 t c = search needs
+
+operand-forms-same-length-10 : (t : ℕ) → operand-forms-lts.Need-same-length-10 (operand-forms-calls t) (operand-forms-at t) operand-forms.Post
+operand-forms-same-length-10 t c = search needs
+
+operand-forms-returns-3 : (t : ℕ) → operand-forms-lts.Need-returns-3 (operand-forms-calls t) (operand-forms-at t) operand-forms.Post
+operand-forms-returns-3 t c =
+    let at-operand-forms = c .before .before .before .before .before .before .before .before in
+    let at-m = at-operand-forms .before .before .before .before .before .before in
+    let at-negation-normal-form = at-m .before .before .before .before .before .before .before .before .before .before in
+    let at-if1 = at-negation-normal-form .before .before .before .before .before .before in
+    let at-operands = at-if1 .before in
+    operands-next normal _ _ _ _ _ _ _ _ _ (at-operands .operands .ensures) (at-if1 .if1 .left) _ refl _ _ _ _ (at-negation-normal-form .negation-normal-form .ensures) _ _ (at-m .m .given .1) _ _ _ _ (at-operand-forms .operand-forms .ensures)
+
+pair-of-negation-normal-form-requires : (t : ℕ) → pair-of-lts.Need-negation-normal-form-requires (pair-of-calls t) (pair-of-at t) pair-of.Post
+pair-of-negation-normal-form-requires t c κs =
+    let start = c .before .before .before .before .before .before .before .before in
+    (omega (arith, max-left (start .args .a .0) (start .args .b), start .pre .0), (start .pre .1 .0, (start .pre .1 .1 .0, start .pre .1 .1 .1 .0)))
+
+pair-of-enum-known-p : (t : ℕ) → pair-of-lts.Need-enum-known-p (pair-of-calls t) (pair-of-at t) pair-of.Post
+pair-of-enum-known-p t c = search needs
+
+pair-of-enum-told : (t : ℕ) → pair-of-lts.Need-enum-told (pair-of-calls t) (pair-of-at t) pair-of.Post
+pair-of-enum-told t c = search needs
+
+pair-of-same-length : (t : ℕ) → pair-of-lts.Need-same-length (pair-of-calls t) (pair-of-at t) pair-of.Post
+pair-of-same-length t c = search needs
+
+pair-of-same-length-2 : (t : ℕ) → pair-of-lts.Need-same-length-2 (pair-of-calls t) (pair-of-at t) pair-of.Post
+pair-of-same-length-2 t c = search needs
+
+pair-of-same-length-3 : (t : ℕ) → pair-of-lts.Need-same-length-3 (pair-of-calls t) (pair-of-at t) pair-of.Post
+pair-of-same-length-3 t c = search needs
+
+pair-of-same-length-4 : (t : ℕ) → pair-of-lts.Need-same-length-4 (pair-of-calls t) (pair-of-at t) pair-of.Post
+pair-of-same-length-4 t c = search needs
+
+pair-of-returns : (t : ℕ) → pair-of-lts.Need-returns (pair-of-calls t) (pair-of-at t) pair-of.Post
+pair-of-returns t c = search pairs
+
+pair-of-negation-normal-form-requires-2 :
+    (t : ℕ) → pair-of-lts.Need-negation-normal-form-requires-2 (pair-of-calls t) (pair-of-at t) pair-of.Post
+pair-of-negation-normal-form-requires-2 t c κs =
+    let at-p = c .before .before .before .before .before in
+    let at-scratch = at-p .before .before .before in
+    let at-memo = at-scratch .before .before in
+    let at-negation-normal-form = at-memo .before .before .before .before .before in
+    let start = at-negation-normal-form .before .before .before .before .before .before .before .before .before in
+    let j = at-negation-normal-form .negation-normal-form .ensures in
+    (omega (arith, max-right (start .args .a .0) (start .args .b), start .pre .0), (ready-after normal _ _ _ _ _ _ _ _ _ (j .formed) _ _ (at-p .p .given .1) (omega (arith, at-memo .memo .given, start .pre .1 .0 .room)), (omega (arith, at-scratch .scratch .given, start .pre .1 .1 .0), start .pre .1 .1 .1 .1)))
+
+pair-of-enum-known-q : (t : ℕ) → pair-of-lts.Need-enum-known-q (pair-of-calls t) (pair-of-at t) pair-of.Post
+pair-of-enum-known-q t c = search needs
+
+pair-of-enum-told-2 : (t : ℕ) → pair-of-lts.Need-enum-told-2 (pair-of-calls t) (pair-of-at t) pair-of.Post
+pair-of-enum-told-2 t c = search needs
+
+pair-of-same-length-5 : (t : ℕ) → pair-of-lts.Need-same-length-5 (pair-of-calls t) (pair-of-at t) pair-of.Post
+pair-of-same-length-5 t c = search needs
+
+pair-of-same-length-6 : (t : ℕ) → pair-of-lts.Need-same-length-6 (pair-of-calls t) (pair-of-at t) pair-of.Post
+pair-of-same-length-6 t c = search needs
+
+pair-of-same-length-7 : (t : ℕ) → pair-of-lts.Need-same-length-7 (pair-of-calls t) (pair-of-at t) pair-of.Post
+pair-of-same-length-7 t c = search needs
+
+pair-of-same-length-8 : (t : ℕ) → pair-of-lts.Need-same-length-8 (pair-of-calls t) (pair-of-at t) pair-of.Post
+pair-of-same-length-8 t c = search needs
+
+pair-of-returns-2 : (t : ℕ) → pair-of-lts.Need-returns-2 (pair-of-calls t) (pair-of-at t) pair-of.Post
+pair-of-returns-2 t c =
+    let at-negation-normal-form2 = c .before .before .before .before .before .before .before .before .before .before in
+    let at-p = at-negation-normal-form2 .before .before .before .before .before .before in
+    let at-negation-normal-form = at-p .before .before .before .before .before .before .before .before .before .before in
+    pair-right-full _ _ _ _ _ _ _ _ _ _ _ _ _ _ (at-negation-normal-form .negation-normal-form .ensures) _ _ (at-p .p .given .1) _ _ _ _ (at-negation-normal-form2 .negation-normal-form2 .ensures) (c .enum-told2 .given .1)
+
+pair-of-put-pair-requires : (t : ℕ) → pair-of-lts.Need-put-pair-requires (pair-of-calls t) (pair-of-at t) pair-of.Post
+pair-of-put-pair-requires t c κs =
+    let at-q = c .before .before .before in
+    let at-negation-normal-form2 = at-q .before .before .before .before .before .before .before .before .before .before in
+    own-after normal _ _ _ _ _ _ _ _ _ (at-negation-normal-form2 .negation-normal-form2 .ensures .formed) _ _ (at-q .q .given .1)
+
+pair-of-same-length-9 : (t : ℕ) → pair-of-lts.Need-same-length-9 (pair-of-calls t) (pair-of-at t) pair-of.Post
+pair-of-same-length-9 t c = search needs
+
+pair-of-same-length-10 : (t : ℕ) → pair-of-lts.Need-same-length-10 (pair-of-calls t) (pair-of-at t) pair-of.Post
+pair-of-same-length-10 t c = search needs
+
+pair-of-same-length-11 : (t : ℕ) → pair-of-lts.Need-same-length-11 (pair-of-calls t) (pair-of-at t) pair-of.Post
+pair-of-same-length-11 t c = search needs
+
+pair-of-same-length-12 : (t : ℕ) → pair-of-lts.Need-same-length-12 (pair-of-calls t) (pair-of-at t) pair-of.Post
+pair-of-same-length-12 t c = search needs
+
+pair-of-returns-3 : (t : ℕ) → pair-of-lts.Need-returns-3 (pair-of-calls t) (pair-of-at t) pair-of.Post
+pair-of-returns-3 t c =
+    let at-put-pair = c .before .before .before .before in
+    let at-q = at-put-pair .before .before .before .before in
+    let at-negation-normal-form2 = at-q .before .before .before .before .before .before .before .before .before .before in
+    let at-p = at-negation-normal-form2 .before .before .before .before .before .before in
+    let at-negation-normal-form = at-p .before .before .before .before .before .before .before .before .before .before in
+    pair-put _ _ _ _ _ _ _ _ _ _ _ _ _ _ (at-negation-normal-form .negation-normal-form .ensures) _ _ (at-p .p .given .1) _ _ _ _ (at-negation-normal-form2 .negation-normal-form2 .ensures) _ _ (at-q .q .given .1) _ _ _ (at-put-pair .put-pair .ensures)
+
+two-pairs-pair-of-requires : (t : ℕ) → two-pairs-lts.Need-pair-of-requires (two-pairs-calls t) (two-pairs-at t) two-pairs.Post
+two-pairs-pair-of-requires t c κs =
+    let start = c .before .before .before .before .before .before .before .before in
+    (omega (arith, max-left (maxOf (start .args .a) (start .args .b)) (maxOf (start .args .c .0) (start .args .d)), start .pre .0), (start .pre .1 .0, (start .pre .1 .1 .0, (start .pre .1 .1 .1 .first, start .pre .1 .1 .1 .second))))
+
+two-pairs-enum-known-p : (t : ℕ) → two-pairs-lts.Need-enum-known-p (two-pairs-calls t) (two-pairs-at t) two-pairs.Post
+two-pairs-enum-known-p t c = search needs
+
+two-pairs-enum-told : (t : ℕ) → two-pairs-lts.Need-enum-told (two-pairs-calls t) (two-pairs-at t) two-pairs.Post
+two-pairs-enum-told t c = search needs
+
+two-pairs-same-length : (t : ℕ) → two-pairs-lts.Need-same-length (two-pairs-calls t) (two-pairs-at t) two-pairs.Post
+two-pairs-same-length t c = search needs
+
+two-pairs-same-length-2 : (t : ℕ) → two-pairs-lts.Need-same-length-2 (two-pairs-calls t) (two-pairs-at t) two-pairs.Post
+two-pairs-same-length-2 t c = search needs
+
+two-pairs-same-length-3 : (t : ℕ) → two-pairs-lts.Need-same-length-3 (two-pairs-calls t) (two-pairs-at t) two-pairs.Post
+two-pairs-same-length-3 t c = search needs
+
+two-pairs-same-length-4 : (t : ℕ) → two-pairs-lts.Need-same-length-4 (two-pairs-calls t) (two-pairs-at t) two-pairs.Post
+two-pairs-same-length-4 t c = search needs
+
+two-pairs-returns : (t : ℕ) → two-pairs-lts.Need-returns (two-pairs-calls t) (two-pairs-at t) two-pairs.Post
+two-pairs-returns t c = search twos
+
+two-pairs-pair-of-requires-2 : (t : ℕ) → two-pairs-lts.Need-pair-of-requires-2 (two-pairs-calls t) (two-pairs-at t) two-pairs.Post
+two-pairs-pair-of-requires-2 t c κs =
+    let at-p = c .before .before .before .before .before in
+    let at-scratch = at-p .before .before .before in
+    let at-memo = at-scratch .before .before in
+    let at-pair-of = at-memo .before .before .before .before .before in
+    let start = at-pair-of .before .before .before .before .before .before .before .before .before in
+    let j = at-pair-of .pair-of .ensures in
+    (omega (arith, max-right (maxOf (start .args .a) (start .args .b)) (maxOf (start .args .c .0) (start .args .d)), start .pre .0), (ready-after normal _ _ _ _ _ _ _ _ _ j _ _ (at-p .p .given .1) (omega (arith, at-memo .memo .given, start .pre .1 .0 .room)), (omega (arith, at-scratch .scratch .given, start .pre .1 .1 .0), (start .pre .1 .1 .1 .third, start .pre .1 .1 .1 .fourth))))
+
+two-pairs-enum-known-q : (t : ℕ) → two-pairs-lts.Need-enum-known-q (two-pairs-calls t) (two-pairs-at t) two-pairs.Post
+two-pairs-enum-known-q t c = search needs
+
+two-pairs-enum-told-2 : (t : ℕ) → two-pairs-lts.Need-enum-told-2 (two-pairs-calls t) (two-pairs-at t) two-pairs.Post
+two-pairs-enum-told-2 t c = search needs
+
+two-pairs-same-length-5 : (t : ℕ) → two-pairs-lts.Need-same-length-5 (two-pairs-calls t) (two-pairs-at t) two-pairs.Post
+two-pairs-same-length-5 t c = search needs
+
+two-pairs-same-length-6 : (t : ℕ) → two-pairs-lts.Need-same-length-6 (two-pairs-calls t) (two-pairs-at t) two-pairs.Post
+two-pairs-same-length-6 t c = search needs
+
+two-pairs-same-length-7 : (t : ℕ) → two-pairs-lts.Need-same-length-7 (two-pairs-calls t) (two-pairs-at t) two-pairs.Post
+two-pairs-same-length-7 t c = search needs
+
+two-pairs-same-length-8 : (t : ℕ) → two-pairs-lts.Need-same-length-8 (two-pairs-calls t) (two-pairs-at t) two-pairs.Post
+two-pairs-same-length-8 t c = search needs
+
+two-pairs-returns-2 : (t : ℕ) → two-pairs-lts.Need-returns-2 (two-pairs-calls t) (two-pairs-at t) two-pairs.Post
+two-pairs-returns-2 t c =
+    let at-pair-of2 = c .before .before .before .before .before .before .before .before .before .before in
+    let at-p = at-pair-of2 .before .before .before .before .before .before in
+    let at-pair-of = at-p .before .before .before .before .before .before .before .before .before .before in
+    let start = at-pair-of .before .before .before .before .before .before .before .before .before in
+    two-right-full _ (start .args .n) _ _ _ _ _ _ _ _ _ _ _ _ _ (at-pair-of .pair-of .ensures) _ _ (at-p .p .given .1) _ _ _ _ (at-pair-of2 .pair-of2 .ensures) (c .enum-told2 .given .1)
+
+two-pairs-put-pair-requires : (t : ℕ) → two-pairs-lts.Need-put-pair-requires (two-pairs-calls t) (two-pairs-at t) two-pairs.Post
+two-pairs-put-pair-requires t c κs =
+    let at-q = c .before .before .before in
+    let at-pair-of2 = at-q .before .before .before .before .before .before .before .before .before .before in
+    own-after normal _ _ _ _ _ _ _ _ _ (at-pair-of2 .pair-of2 .ensures) _ _ (at-q .q .given .1)
+
+two-pairs-same-length-9 : (t : ℕ) → two-pairs-lts.Need-same-length-9 (two-pairs-calls t) (two-pairs-at t) two-pairs.Post
+two-pairs-same-length-9 t c =
+    let at-tags3 = c .before .before .before in
+    let at-tags2 = at-tags3 .before .before .before .before .before .before .before .before .before .before .before .before .before .before in
+    let at-tags = at-tags2 .before .before .before .before .before .before .before .before .before .before .before .before .before .before .before .before in
+    omega (arith, at-tags .tags .given, at-tags2 .tags2 .given, at-tags3 .tags3 .given)
+
+two-pairs-same-length-10 : (t : ℕ) → two-pairs-lts.Need-same-length-10 (two-pairs-calls t) (two-pairs-at t) two-pairs.Post
+two-pairs-same-length-10 t c = search needs
+
+two-pairs-same-length-11 : (t : ℕ) → two-pairs-lts.Need-same-length-11 (two-pairs-calls t) (two-pairs-at t) two-pairs.Post
+two-pairs-same-length-11 t c = search needs
+
+two-pairs-same-length-12 : (t : ℕ) → two-pairs-lts.Need-same-length-12 (two-pairs-calls t) (two-pairs-at t) two-pairs.Post
+two-pairs-same-length-12 t c = search needs
+
+two-pairs-returns-3 : (t : ℕ) → two-pairs-lts.Need-returns-3 (two-pairs-calls t) (two-pairs-at t) two-pairs.Post
+two-pairs-returns-3 t c =
+    let at-put-pair = c .before .before .before .before in
+    let at-q = at-put-pair .before .before .before .before in
+    let at-pair-of2 = at-q .before .before .before .before .before .before .before .before .before .before in
+    let at-p = at-pair-of2 .before .before .before .before .before .before in
+    let at-pair-of = at-p .before .before .before .before .before .before .before .before .before .before in
+    let start = at-pair-of .before .before .before .before .before .before .before .before .before in
+    two-put _ (start .args .n) _ _ _ _ _ _ _ _ _ _ _ _ _ (at-pair-of .pair-of .ensures) _ _ (at-p .p .given .1) _ _ _ _ (at-pair-of2 .pair-of2 .ensures) _ _ (at-q .q .given .1) _ _ _ (at-put-pair .put-pair .ensures)
+
+pub +expand+negation-normal-form+operand-forms+pair-of+two-pairs-spec : {M : Type 1} → statement M
++expand+negation-normal-form+operand-forms+pair-of+two-pairs-spec =
+    close
+    μ-expand
+    μ-negation-normal-form
+    μ-operand-forms
+    μ-pair-of
+    μ-two-pairs
+    (λ t. expand-lts.spec (expand-calls t)
+    (expand-at t)
+    expand.Post
+    (expand-slice-reshare-prefix-view-of t)
+    (expand-slice-aggregate-view-of t)
+    (expand-slice-reshare-prefix-view-of-2 t)
+    (expand-slice-aggregate-view-of-2 t)
+    (expand-view-of-requires t)
+    (expand-enum-told t)
+    (expand-literal-requires t)
+    (expand-enum-known-view t)
+    (expand-negation-normal-form-requires t)
+    (expand-enum-known-view-2 t)
+    (expand-operand-forms-requires t)
+    (expand-enum-known-m t)
+    (expand-enum-told-2 t)
+    (expand-same-length t)
+    (expand-same-length-2 t)
+    (expand-same-length-3 t)
+    (expand-same-length-4 t)
+    (expand-returns t)
+    (expand-put-many-requires t)
+    (expand-enum-known-view-3 t)
+    (expand-pair-of-requires t)
+    (expand-enum-known-view-4 t)
+    (expand-two-pairs-requires t)
+    (expand-enum-known-view-5 t)
+    (expand-two-pairs-requires-2 t)
+    (expand-enum-known-view-6 t)
+    (expand-negation-normal-form-requires-2 t)
+    (expand-enum-known-p t)
+    (expand-enum-told-3 t)
+    (expand-same-length-5 t)
+    (expand-same-length-6 t)
+    (expand-same-length-7 t)
+    (expand-same-length-8 t)
+    (expand-returns-2 t)
+    (expand-put-quantifier-requires t)
+    (expand-same-length-9 t)
+    (expand-same-length-10 t)
+    (expand-returns-3 t)
+    (expand-same-length-11 t)
+    (expand-same-length-12 t)
+    (expand-same-length-13 t)
+    (expand-same-length-14 t)
+    (expand-returns-4 t)
+    (expand-same-length-15 t)
+    (expand-same-length-16 t)
+    (expand-same-length-17 t)
+    (expand-same-length-18 t)
+    (expand-returns-5 t)
+    (expand-same-length-19 t)
+    (expand-same-length-20 t)
+    (expand-same-length-21 t)
+    (expand-same-length-22 t)
+    (expand-returns-6 t)
+    (expand-same-length-23 t)
+    (expand-same-length-24 t)
+    (expand-same-length-25 t)
+    (expand-same-length-26 t)
+    (expand-returns-7 t)
+    (expand-same-length-27 t)
+    (expand-same-length-28 t)
+    (expand-same-length-29 t)
+    (expand-same-length-30 t)
+    (expand-returns-8 t)
+    (expand-same-length-31 t)
+    (expand-same-length-32 t)
+    (expand-same-length-33 t)
+    (expand-same-length-34 t)
+    (expand-returns-9 t))
+    (λ t. negation-normal-form-lts.spec (negation-normal-form-calls t)
+    (negation-normal-form-at t)
+    negation-normal-form.Post
+    (negation-normal-form-slot-requires t)
+    (negation-normal-form-mul-known t)
+    (negation-normal-form-slice-read-known t)
+    (negation-normal-form-sub-t17 t)
+    (negation-normal-form-returns t)
+    (negation-normal-form-expand-requires t)
+    (negation-normal-form-enum-known-p t)
+    (negation-normal-form-enum-told t)
+    (negation-normal-form-same-length t)
+    (negation-normal-form-same-length-2 t)
+    (negation-normal-form-same-length-3 t)
+    (negation-normal-form-same-length-4 t)
+    (negation-normal-form-returns-2 t)
+    (negation-normal-form-add-memo t)
+    (negation-normal-form-mul-memo t)
+    (negation-normal-form-slice-write-memo t)
+    (negation-normal-form-same-length-5 t)
+    (negation-normal-form-same-length-6 t)
+    (negation-normal-form-same-length-7 t)
+    (negation-normal-form-same-length-8 t)
+    (negation-normal-form-returns-3 t))
+    (λ t. operand-forms-lts.spec (operand-forms-calls t)
+    (operand-forms-at t)
+    operand-forms.Post
+    (operand-forms-slice-reshare-prefix-operands t)
+    (operand-forms-slice-aggregate-operands t)
+    (operand-forms-slice-reshare-prefix-operands-2 t)
+    (operand-forms-slice-aggregate-operands-2 t)
+    (operand-forms-operands-requires t)
+    (operand-forms-same-length t)
+    (operand-forms-same-length-2 t)
+    (operand-forms-returns t)
+    (operand-forms-mul-u t)
+    (operand-forms-shared-slice-read-u t)
+    (operand-forms-negation-normal-form-requires t)
+    (operand-forms-enum-known-m t)
+    (operand-forms-enum-told t)
+    (operand-forms-same-length-3 t)
+    (operand-forms-same-length-4 t)
+    (operand-forms-same-length-5 t)
+    (operand-forms-same-length-6 t)
+    (operand-forms-returns-2 t)
+    (operand-forms-add-operand-forms t)
+    (operand-forms-operand-forms-requires t)
+    (operand-forms-same-length-7 t)
+    (operand-forms-same-length-8 t)
+    (operand-forms-same-length-9 t)
+    (operand-forms-same-length-10 t)
+    (operand-forms-returns-3 t))
+    (λ t. pair-of-lts.spec (pair-of-calls t)
+    (pair-of-at t)
+    pair-of.Post
+    (pair-of-negation-normal-form-requires t)
+    (pair-of-enum-known-p t)
+    (pair-of-enum-told t)
+    (pair-of-same-length t)
+    (pair-of-same-length-2 t)
+    (pair-of-same-length-3 t)
+    (pair-of-same-length-4 t)
+    (pair-of-returns t)
+    (pair-of-negation-normal-form-requires-2 t)
+    (pair-of-enum-known-q t)
+    (pair-of-enum-told-2 t)
+    (pair-of-same-length-5 t)
+    (pair-of-same-length-6 t)
+    (pair-of-same-length-7 t)
+    (pair-of-same-length-8 t)
+    (pair-of-returns-2 t)
+    (pair-of-put-pair-requires t)
+    (pair-of-same-length-9 t)
+    (pair-of-same-length-10 t)
+    (pair-of-same-length-11 t)
+    (pair-of-same-length-12 t)
+    (pair-of-returns-3 t))
+    λ t. two-pairs-lts.spec
+    (pair-of-below t, pair-of.Post, put-pair-reads.Asked, put-pair-reads.Learnt)
+    (two-pairs-at t)
+    two-pairs.Post
+    (two-pairs-pair-of-requires t)
+    (two-pairs-enum-known-p t)
+    (two-pairs-enum-told t)
+    (two-pairs-same-length t)
+    (two-pairs-same-length-2 t)
+    (two-pairs-same-length-3 t)
+    (two-pairs-same-length-4 t)
+    (two-pairs-returns t)
+    (two-pairs-pair-of-requires-2 t)
+    (two-pairs-enum-known-q t)
+    (two-pairs-enum-told-2 t)
+    (two-pairs-same-length-5 t)
+    (two-pairs-same-length-6 t)
+    (two-pairs-same-length-7 t)
+    (two-pairs-same-length-8 t)
+    (two-pairs-returns-2 t)
+    (two-pairs-put-pair-requires t)
+    (two-pairs-same-length-9 t)
+    (two-pairs-same-length-10 t)
+    (two-pairs-same-length-11 t)
+    (two-pairs-same-length-12 t)
+    (two-pairs-returns-3 t)

@@ -1,0 +1,167 @@
+-- What the walkers that build promise each other: what is built, what the memo may hold, and what a refusal leaves.
+-- The memo is no part of a public contract.
+-- Rests on Built and Arrays.
+use Prim.Native.Nat.{ℕ, suc, _+_, _-_, _≤_, _<_}
+use mathlib.Core.Path.{_≡_}
+use mathlib.Core.Bool.{Bool, true, false, not, cond}
+use mathlib.Core.List.{List, map}
+use lib.ListN.{length, getD, take, drop}
+use lib.Dec.{ltb}
+use Rattle.cells.specs.Cell.{operandsOf}
+use Rattle.headers.proofs.description.Fills.{Fills}
+use Rattle.building.specs.declared.build.Built.{Built}
+use Rattle.building.specs.declared.build.Built.the-variants.{At, Full}
+use Rattle.formulas.specs.Normal.{Normal, Normals, pair, nnf, prenex}
+use Rattle.formulas.specs.Formula.{form}
+use Rattle.formulas.specs.Built.{Pool, Placed, count, intern, interns, normalsOf, normalAt}
+use Rattle.building.specs.Arrays.{poolOf, fits}
+
+-- arrays of one length whose first n cells are filled by headers with their cells; the walk reads the first lim of them
+pub record State (lim n : ℕ) (tags values : List ℕ) : Type 0 where
+  pub size : length tags ≡ length values
+  pub within : n ≤ length tags
+  pub small : n ≤ 8192
+  pub fills : Fills values n 0
+  pub source : lim ≤ n
+
+-- what a refusal leaves: the source cells, and the arrays' sizes
+pub record Left (lim : ℕ) (tags values tags′ values′ : List ℕ) : Type 0 where
+  pub tags-size : length tags′ ≡ length tags
+  pub values-size : length values′ ≡ length values
+  pub tags-kept : take lim tags′ ≡ take lim tags
+  pub values-kept : take lim values′ ≡ take lim values
+
+-- ---- what a call that builds comes to
+-- the arrays hold the pool o in their first m cells, and p is its place
+pub record Holds (lim : ℕ) (o : Placed) (p m : ℕ) (tags values : List ℕ) : Type 0 where
+  pub pool-is : poolOf tags values m ≡ o .pool
+  pub place-is : p ≡ o .place
+  pub below : p < m
+  pub state : State lim m tags values
+
+-- that, or no room for o in arrays of this size
+abbrev pub Outcome : ℕ → ℕ → Placed → Built → List ℕ → List ℕ → Type 0
+Outcome lim size o (At p m) tags values = Holds lim o p m tags values
+Outcome lim size o Full tags values = fits (o .pool) size ≡ false
+
+-- r is the answer of a call that puts o into tags and values, which leaves tags′ and values′
+pub record Puts (lim : ℕ) (tags values : List ℕ) (o : Placed) (r : Built) (tags′ values′ : List ℕ) : Type 0 where
+  pub outcome : Outcome lim (length tags) o r tags′ values′
+  pub left : Left lim tags values tags′ values′
+
+-- the first k cells of the scratch are these
+pub record Cells (cells : List ℕ) (k : ℕ) (scratch : List ℕ) : Type 0 where
+  pub within : k ≤ length scratch
+  pub are : take k scratch ≡ cells
+
+-- ---- the memo
+-- its index of a term and a polarity: the forms at true polarity come first
+unfoldable pub slotOf : ℕ → Bool → ℕ
+slotOf t true = t
+slotOf t false = 8192 + t
+
+-- where it has the forms of these terms
+abbrev pub placesIn : List ℕ → Bool → List ℕ → List ℕ
+placesIn memo polarity us = map (λ u. getD memo (slotOf u polarity) 0 - 1) us
+
+-- the form stands in the pool at p: putting it there changes nothing
+abbrev pub Stands : Pool → Normal (List ℕ) ℕ → ℕ → Type 0
+Stands q f p = intern f q ≡ record { pool = q; place = p }
+
+abbrev pub StandAll : Pool → Normals (List ℕ) ℕ → List ℕ → Type 0
+StandAll q fs ps = interns fs q ≡ record { pool = q; places = ps }
+
+-- every entry of the memo that is set is one more than the place where its form stands; formAt gives the form of an entry
+pub record Right (formAt : ℕ → Normal (List ℕ) ℕ) (q : Pool) (memo : List ℕ) : Type 0 where
+  pub entry : (i p : ℕ) → getD memo i 0 ≡ suc p → Stands q (formAt i) p
+  pub below : (i p : ℕ) → getD memo i 0 ≡ suc p → p < count q
+
+-- an entry that is set stays as it is
+abbrev pub Keeps : List ℕ → List ℕ → Type 0
+Keeps memo memo′ = (i p : ℕ) → getD memo i 0 ≡ suc p → getD memo′ i 0 ≡ suc p
+
+pub record Noted (formAt : ℕ → Normal (List ℕ) ℕ) (q : Pool) (memo memo′ : List ℕ) : Type 0 where
+  pub right : Right formAt q memo′
+  pub keeps : Keeps memo memo′
+
+-- what is left of the memo's promise: a refusal ends the whole walk
+abbrev pub Remembers : (ℕ → Normal (List ℕ) ℕ) → List ℕ → Built → List ℕ → List ℕ → List ℕ → Type 0
+Remembers formAt memo (At p m) tags values memo′ = Noted formAt (poolOf tags values m) memo memo′
+Remembers formAt memo Full tags values memo′ = Unit {0}
+
+-- a walker that puts o, and keeps in the memo what it built on the way
+pub record Builds (formAt : ℕ → Normal (List ℕ) ℕ) (lim : ℕ) (tags values memo : List ℕ) (o : Placed) (r : Built) (tags′ values′ memo′ : List ℕ) : Type 0 where
+  pub puts : Puts lim tags values o r tags′ values′
+  pub memo-is : Remembers formAt memo r tags′ values′ memo′
+
+-- ---- the two walks over the first lim cells
+-- the negation normal form of a term, or the taken-out form of a term in normal form
+pub data Walk : Type 0 where
+  normal : Walk
+  taken-out : Walk
+
+-- the form that a walk builds of the term at t; a taken-out form has no polarity
+unfoldable pub formOf : Walk → ℕ → List ℕ → List ℕ → ℕ → Bool → Normal (List ℕ) ℕ
+formOf normal lim tags values t polarity = nnf (form (take lim tags) (take lim values) t) polarity
+formOf taken-out lim tags values t polarity = prenex (normalAt (poolOf tags values lim) t)
+
+abbrev pub normalOf : ℕ → List ℕ → List ℕ → ℕ → Bool → Normal (List ℕ) ℕ
+normalOf lim tags values t polarity = formOf normal lim tags values t polarity
+
+abbrev pub runOf : ℕ → List ℕ → List ℕ → ℕ → List ℕ
+runOf lim tags values t = operandsOf (take lim tags) (take lim values) t
+
+-- the form of the memo's entry i
+unfoldable pub entryForm : Walk → ℕ → List ℕ → List ℕ → ℕ → Normal (List ℕ) ℕ
+entryForm w lim tags values i = cond (ltb i 8192) (formOf w lim tags values i true) (formOf w lim tags values (i - 8192) false)
+
+-- how many entries a walk uses: a taken-out form is kept at true polarity alone
+abbrev pub roomFor : Walk → ℕ
+roomFor normal = 16384
+roomFor taken-out = 8192
+
+-- what the walkers start from
+pub record Ready (w : Walk) (lim n : ℕ) (tags values memo : List ℕ) : Type 0 where
+  pub state : State lim n tags values
+  pub room : roomFor w ≤ length memo
+  pub right : Right (entryForm w lim tags values) (poolOf tags values n) memo
+
+-- a form is put into the pool of n cells
+abbrev pub Formed : Walk → ℕ → ℕ → List ℕ → List ℕ → List ℕ → Normal (List ℕ) ℕ → Built → List ℕ → List ℕ → List ℕ → Type 0
+Formed w lim n tags values memo f r tags′ values′ memo′ =
+    Builds (entryForm w lim tags values) lim tags values memo (intern f (poolOf tags values n)) r tags′ values′ memo′
+
+-- the form of the term at t, which the memo then has
+pub record Known (w : Walk) (lim n : ℕ) (tags values memo : List ℕ) (t : ℕ) (polarity : Bool) (r : Built) (tags′ values′ memo′ : List ℕ) : Type 0 where
+  pub formed : Formed w lim n tags values memo (formOf w lim tags values t polarity) r tags′ values′ memo′
+  pub known : (p m : ℕ) → r ≡ At p m → getD memo′ (slotOf t polarity) 0 ≡ suc p
+
+-- the forms of the operands of the term at t from i on, whose places the memo then has
+abbrev pub operandForms : Walk → ℕ → List ℕ → List ℕ → ℕ → Bool → ℕ → Normals (List ℕ) ℕ
+operandForms w lim tags values t polarity i = normalsOf (λ u. formOf w lim tags values u polarity) (drop i (runOf lim tags values t))
+
+pub record OperandsKnown (w : Walk) (lim n : ℕ) (tags values memo : List ℕ) (t : ℕ) (polarity : Bool) (i : ℕ) (r : Built) (tags′ values′ memo′ : List ℕ) : Type 0 where
+  pub builds : Builds (entryForm w lim tags values) lim tags values memo
+      (record { pool = interns (operandForms w lim tags values t polarity i) (poolOf tags values n) .pool; place = 0 }) r tags′ values′ memo′
+  pub places : (p m : ℕ) → r ≡ At p m
+      → interns (operandForms w lim tags values t polarity i) (poolOf tags values n) .places ≡ placesIn memo′ polarity (drop i (runOf lim tags values t))
+
+-- every operand of the term at t stands before it
+pub record Before (lim : ℕ) (tags values : List ℕ) (t : ℕ) : Type 0 where
+  pub operand : (i : ℕ) → i < length (runOf lim tags values t) → getD (runOf lim tags values t) i 0 < t
+
+-- four terms of the first lim cells
+pub record AllBelow (lim a b c d : ℕ) : Type 0 where
+  pub first : a < lim
+  pub second : b < lim
+  pub third : c < lim
+  pub fourth : d < lim
+
+-- the two pairs that `ite` and `=` become; f gives the form of a term at a polarity
+abbrev pub twoPairs : Bool → (ℕ → Bool → Normal (List ℕ) ℕ) → ℕ → ℕ → ℕ → Bool → ℕ → Normal (List ℕ) ℕ
+twoPairs p f a b c q d = pair p (pair (not p) (f a (not p)) (f b p)) (pair (not p) (f c q) (f d p))
+
+-- the form of a term, o, in arrays whose first n cells are a pool
+abbrev pub NormalBuilt : ℕ → List ℕ → List ℕ → Placed → Built → List ℕ → List ℕ → Type 0
+NormalBuilt n tags values o (At p m) tags′ values′ = Holds n o p m tags′ values′ × (fits (o .pool) (length tags) ≡ true)
+NormalBuilt n tags values o Full tags′ values′ = Left n tags values tags′ values′ × (fits (o .pool) (length tags) ≡ false)

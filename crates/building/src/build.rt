@@ -1,0 +1,25 @@
+// Putting terms into the pool.
+use pool::description::Added;
+use pool::description::add;
+ghost use Rattle.formulas.specs.Built.{put};
+ghost use Rattle.building.specs.Arrays.{poolOf};
+ghost use Rattle.building.specs.Walk.{State, Puts};
+
+// Where a term that was built stands, with the new count; or no room.
+pub enum Built {
+    At(u32, usize),
+    Full,
+}
+
+// Puts a description into the pool of n cells: where it stands already, nothing changes.
+pub(crate) fn put(tags: &mut [u32], values: &mut [u32], n: usize, tag: u32, cells: &[u32]) -> Built
+    requires { ⌜ State n n (now tags) (now values) ⌝ }
+    ensures { λ r. ⌜ Puts n (now (tags .entry)) (now (values .entry)) (put (poolOf (now (tags .entry)) (now (values .entry)) n) tag (now (cells .entry))) r (now (tags .exit)) (now (values .exit)) ⌝ }
+{
+    let added = add(tags, values, 8192, n, tag, cells);
+    match added {
+        Added::There(p) => Built::At(p as u32, n),
+        Added::New(p, m) => Built::At(p as u32, m),
+        Added::Full => Built::Full,
+    }
+}
