@@ -1,0 +1,3 @@
+pub mod TruthAlong
+pub mod WithoutLet
+pub mod Numbered

@@ -1,0 +1,1 @@
+// The six rules, and what an accepted step says of its conclusion.
