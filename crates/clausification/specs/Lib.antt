@@ -1,1 +1,2 @@
 pub mod QntCnf
+pub mod NoCapture

@@ -112,11 +112,11 @@ module _ {B L : Type 0} (P : L → Type 0) where
     prenexes-each (ncons n ns) o = (prenex-each n (o .0), prenexes-each ns (o .1))
 
   -- ---- clauses
-  abbrev EachC : Clause B L → Type 0
+  abbrev pub EachC : Clause B L → Type 0
   EachC [] = Unit {0}
   EachC (l ∷ c) = EachN l × EachC c
 
-  abbrev EachCs : List (Clause B L) → Type 0
+  abbrev pub EachCs : List (Clause B L) → Type 0
   EachCs [] = Unit {0}
   EachCs (c ∷ cs) = EachC c × EachCs cs
 
@@ -137,7 +137,7 @@ module _ {B L : Type 0} (P : L → Type 0) where
   product-each (c ∷ cs) ds o q = append-each (map (_++_ c) ds) (product cs ds) (map-each c ds (o .0) q) (product-each cs ds (o .1) q)
 
   mutual
-    cnf-each : (n : Normal B L) → EachN n → EachCs (cnf n)
+    pub cnf-each : (n : Normal B L) → EachN n → EachCs (cnf n)
     cnf-each (lit b t) o = ((o, tt), tt)
     cnf-each (nmany true ns) o = cnfAnd-each ns o
     cnf-each (nmany false ns) o = cnfOr-each ns o

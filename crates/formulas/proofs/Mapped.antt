@@ -2,12 +2,23 @@
 -- Assumes nothing.
 use mathlib.Core.Path.{_≡_, refl, ap, ap₂, subst, _∙_}
 use mathlib.Core.Bool.{Bool, true, false, not, _||_}
-use mathlib.Core.List.{List, [], _∷_, _++_, map, List·Memᴰ, List·Memᴰ·head, List·Memᴰ·tail}
+use mathlib.Core.List.{List, [], _∷_, _++_, map, map-append, List·Memᴰ, List·Memᴰ·head, List·Memᴰ·tail}
 use Rattle.formulas.specs.Formula.{Form, Forms, opaque, neg, many, imp, ite, iff, all, fnil, fcons}
 use Rattle.formulas.specs.Normal.{Normal, Normals, lit, nmany, nall, nnil, ncons, flip, pair, nnf, nnfs, prenex, prenexes, taken, takens}
 use Rattle.formulas.specs.Clauses.{Clause, product, cnf, cnfAnd, cnfOr, isEmptyOr, emptyOr, emptyOrs}
 use Rattle.formulas.specs.Totals.{combine, totals, totalsOf}
 use Rattle.formulas.specs.Mapped.{mapF, mapFs, mapN, mapNs}
+
+-- ---- clauses of other literals
+module _ {X Y : Type 0} (f : X → Y) where
+  map-joined : (c : List X) (ds : List (List X)) → map (map f) (map (_++_ c) ds) ≡ map (_++_ (map f c)) (map (map f) ds)
+  map-joined c [] = refl
+  map-joined c (d ∷ ds) = ap₂ _∷_ (map-append f c d) (map-joined c ds)
+
+  pub product-map : (cs ds : List (List X)) → map (map f) (product cs ds) ≡ product (map (map f) cs) (map (map f) ds)
+  product-map [] ds = refl
+  product-map (c ∷ cs) ds =
+      map-append (map f) (map (_++_ c) ds) (product cs ds) ∙ ap₂ _++_ (map-joined c ds) (product-map cs ds)
 
 module _ {B C K L : Type 0} (list : B → C) (leaf : K → L) where
   abbrev onN : Normal B K → Normal C L
@@ -53,19 +64,6 @@ module _ {B C K L : Type 0} (list : B → C) (leaf : K → L) where
       takens-map (ncons n ns) = ap₂ _++_ (taken-map n) (takens-map ns)
 
   -- ---- clauses
-  map-append : {X Y : Type 0} (f : X → Y) (xs ys : List X) → map f (xs ++ ys) ≡ map f xs ++ map f ys
-  map-append f [] ys = refl
-  map-append f (x ∷ xs) ys = ap (_∷_ (f x)) (map-append f xs ys)
-
-  map-joined : (c : Clause B K) (ds : List (Clause B K)) → map (map onN) (map (_++_ c) ds) ≡ map (_++_ (map onN c)) (map (map onN) ds)
-  map-joined c [] = refl
-  map-joined c (d ∷ ds) = ap₂ _∷_ (map-append onN c d) (map-joined c ds)
-
-  product-map : (cs ds : List (Clause B K)) → map (map onN) (product cs ds) ≡ product (map (map onN) cs) (map (map onN) ds)
-  product-map [] ds = refl
-  product-map (c ∷ cs) ds =
-      map-append (map onN) (map (_++_ c) ds) (product cs ds) ∙ ap₂ _++_ (map-joined c ds) (product-map cs ds)
-
   mutual
     pub cnf-map : (n : Normal B K) → map (map onN) (cnf n) ≡ cnf (onN n)
     cnf-map (lit b t) = refl
@@ -79,7 +77,7 @@ module _ {B C K L : Type 0} (list : B → C) (leaf : K → L) where
 
     cnfOr-map : (ns : Normals B K) → map (map onN) (cnfOr ns) ≡ cnfOr (mapNs list leaf ns)
     cnfOr-map nnil = refl
-    cnfOr-map (ncons n ns) = product-map (cnf n) (cnfOr ns) ∙ ap₂ product (cnf-map n) (cnfOr-map ns)
+    cnfOr-map (ncons n ns) = product-map onN (cnf n) (cnfOr ns) ∙ ap₂ product (cnf-map n) (cnfOr-map ns)
 
   mem-map : {X Y : Type 0} (f : X → Y) (x : X) (xs : List X) → List·Memᴰ x xs → List·Memᴰ (f x) (map f xs)
   mem-map f x (y ∷ xs) (List·Memᴰ·head q) = List·Memᴰ·head (ap f q)

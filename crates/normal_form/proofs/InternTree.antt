@@ -41,7 +41,7 @@ termIn q = tree (q .tags) (q .values)
 abbrev pub onPool : Pool → Normal (List ℕ) ℕ → Normal Vars Term
 onPool q = mapN (varsAt (q .tags) (q .values)) (termIn q)
 
-abbrev onPools : Pool → Normals (List ℕ) ℕ → Normals Vars Term
+abbrev pub onPools : Pool → Normals (List ℕ) ℕ → Normals Vars Term
 onPools q = mapNs (varsAt (q .tags) (q .values)) (termIn q)
 
 -- ---- a pool that goes on has the same terms and pairs, with the same trees

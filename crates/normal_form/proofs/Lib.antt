@@ -1,3 +1,6 @@
 pub mod TreeGrows
 pub mod InternTree
 pub mod NormalFormTruth
+pub mod ReadBack
+pub mod ReadPlace
+pub mod ClauseListTruth

@@ -32,7 +32,7 @@ use Rattle.normal_form.proofs.InternTree.{termIn, Interned, normal-form
 
 module _ {tags values rules : List ℕ} {n : ℕ} (c : Passed tags values rules n) where
   -- ---- the used cells alone
-  used-same : Same n tags values (take n tags) (take n values)
+  pub used-same : Same n tags values (take n tags) (take n values)
   used-same = record {
     long = c .whole;
     long′ = rw (length-take-le n values (c .whole)) (omega arith);
@@ -40,7 +40,7 @@ module _ {tags values rules : List ℕ} {n : ℕ} (c : Passed tags values rules 
     values-same = λ i h. getD-take n values i 0 h;
   }
 
-  used-count : count (poolOf tags values n) ≡ n
+  pub used-count : count (poolOf tags values n) ≡ n
   used-count = length-take-le n tags (omega (arith, c .equal, c .whole))
 
   pub used-sound : Sound (poolOf tags values n)
@@ -60,7 +60,7 @@ module _ {tags values rules : List ℕ} {n : ℕ} (c : Passed tags values rules 
   }
 
   module _ (t : ℕ) (h : t < n) (k : isTermTag (getD tags t 0) ≡ true) where
-    used-tree : termIn (poolOf tags values n) t ≡ tree tags values t
+    pub used-tree : termIn (poolOf tags values n) t ≡ tree tags values t
     used-tree = tree-kept n tags values (take n tags) (take n values) used-same (c .formed) t h k
 
     -- the normal form stands as the term that it builds

@@ -1,23 +1,21 @@
 -- The premises of demand 3, and what it says of an accepted conclusion.
 --     holdsLet c             c is a let or reaches one
 --     LocalWithoutLet R      R fixes the truth of opaque terms by their free variables' values; of terms that hold a let nothing is asked
---     NoCapture c            rule 3's premise
 --     TrueInReadings c       c is true in every reading whose values are numbers
 -- Demand 3: "if the check accepts, the conclusion is true in every reading, under all six rules alike. Premises: a reading gives each sort
 -- finitely many values, at least one; a variable is its name with its sort; a term that is no connective or quantifier has a truth value
 -- fixed by its free variables' values; the step holds no let; for clausification, no variable taken out of an inner quantifier is free in
 -- the left quantified formula."
--- Rests on pool's Sort, Term and FreeTree, and on formulas' Normal, Skeleton and Truth.
+-- Rule 3's own premise is clausification's NoCapture.
+-- Rests on pool's Sort, Term and FreeTree, and on formulas' Truth.
 use Prim.Native.Nat.{ℕ, zero, suc, Fin, zero-le, suc-le-suc}
 use mathlib.Core.Path.{_≡_, refl, ap}
 use mathlib.Core.Bool.{Bool, true, false, _||_}
 use mathlib.Core.List.{List, [], _∷_, map, List·Memᴰ, List·Memᴰ·head, List·Memᴰ·tail}
 use native.Mathlib.Decide.{Fin·succ, Fin·val-path}
 use Rattle.pool.specs.Sort.{Sort}
-use Rattle.pool.specs.Term.{Var, Vars, Term, Terms, const, bitVector, var, app, quant, bind, letin, op, noTerm, tnil, tcons}
-use Rattle.pool.specs.FreeTree.{has, free}
-use Rattle.formulas.specs.Normal.{nnf, taken}
-use Rattle.formulas.specs.Skeleton.{skeleton}
+use Rattle.pool.specs.Term.{Var, Term, Terms, const, bitVector, var, app, quant, bind, letin, op, noTerm, tnil, tcons}
+use Rattle.pool.specs.FreeTree.{free}
 use Rattle.formulas.specs.Truth.{Assignment, Reading, True}
 
 -- ---- 01, "Truth in a reading": "A step holds a let if its conclusion is one or reaches one through operands, bodies, functions, arguments
@@ -43,13 +41,6 @@ abbrev pub LocalWithoutLet : Reading → Type 0
 LocalWithoutLet R =
     (t : Term) → holdsLet t ≡ false → (ρ σ : Assignment (R .Value)) → ((v : Var) → free t v ≡ true → ρ v ≡ σ v)
     → R .opaque-truth t ρ ≡ R .opaque-truth t σ
-
--- ---- 01: "In rule 3 the left quantified formula is l, and a variable is taken out if it is bound by a forall reached through `and`, `or`
--- and forall from the normal form of l's body at true polarity." The conclusion is `(or (not l) r)`.
-abbrev pub NoCapture : Term → Type 0
-NoCapture c =
-    (s s′ s″ : Sort) (ls : Vars) (t r : Term) → c ≡ op 37 s (tcons (op 34 s′ (tcons (quant true s″ ls t) tnil)) (tcons r tnil))
-    → (v : Var) → has (taken (λ (vs : Vars). vs) (nnf (skeleton t) true)) v ≡ true → free (quant true s″ ls t) v ≡ false
 
 -- ---- Readings whose values are numbers. All of them together are a type of Type 0, so that a contract can speak of each; what is true in
 -- all of them is true in every reading (proofs/Numbered.antt).

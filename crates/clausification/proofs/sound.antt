@@ -1,0 +1,2 @@
+-- Rule 3 is sound: a step that passes is true in every reading.
+pub mod QntCnf
