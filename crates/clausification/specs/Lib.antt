@@ -1,2 +1,4 @@
 pub mod QntCnf
 pub mod NoCapture
+pub mod TakenSearch
+pub mod ClauseSearch

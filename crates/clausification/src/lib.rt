@@ -1,1 +1,3 @@
 // Rule 3: clausification.
+mod clause_search;
+mod taken_variables;

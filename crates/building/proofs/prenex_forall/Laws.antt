@@ -24,7 +24,7 @@ use Rattle.building.proofs.build.Building.{builds-stood}
 use Rattle.building.proofs.build.Walks.{connective-full, connective-put, whole-built}
 
 -- the body of a forall stands before it
-body-before : (tags values : List ℕ) (x body : ℕ) → Forall body ≡ normalView tags values x → body < x
+pub body-before : (tags values : List ℕ) (x body : ℕ) → Forall body ≡ normalView tags values x → body < x
 unfolding normalView
 body-before tags values x body e =
     by-test (eqb (getD tags x 0) 23)
