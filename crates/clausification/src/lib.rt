@@ -1,3 +1,4 @@
 // Rule 3: clausification.
 mod clause_search;
+pub mod qnt_cnf;
 mod taken_variables;

@@ -12,7 +12,6 @@ use borrow.Author.Tests.{eq-eqb, ne-eqb, eqb-false, ltb-true}
 use Rattle.cells.specs.ByPlace.{by-test}
 use Rattle.headers.specs.WellFormed.{isTerm}
 use Rattle.headers.specs.Description.{zeroFrom, Cut}
-use Rattle.headers.proofs.description.Fills.{well-formed-fills}
 use Rattle.pool.specs.Answer.{accepted}
 use Rattle.pool.specs.Check.{checkPool, andThen, checkTerm}
 use Rattle.pool.specs.declared.Answer.{Answer}
@@ -24,6 +23,7 @@ use Rattle.clauses.specs.Lists.{padded}
 use Rattle.normal_form.specs.Calls.{noRoom, arrayLeft, normalAnswer, normalPlace, NormalForm}
 use Rattle.building.specs.Walk.{State, Holds, NormalBuilt}
 use Rattle.building.proofs.build.Laws.{pool-count}
+use Rattle.building.proofs.Clausal.{passed-state, zero-kept}
 
 -- ---- a term that passes its checks
 and-left : (a b : Bool) → (a && b) ≡ true → a ≡ true
@@ -52,16 +52,7 @@ module _ (tags values rules : List ℕ) (n t : ℕ) where
 
     pub checked-ready : State n n tags values × (t < n)
     checked-ready =
-        let (p, term) = passed in (
-          record {
-            size = p .equal;
-            within = omega (arith, p .whole, p .equal);
-            small = p .limit;
-            fills = well-formed-fills tags values n (p .formed);
-            source = omega arith;
-          },
-          term-below tags n t term,
-        )
+        let (p, term) = passed in (passed-state p, term-below tags n t term)
 
 -- ---- what is left in the arrays
 -- arrays that hold a pool, cut back to its count
@@ -85,11 +76,6 @@ module _ (n m p : ℕ) (o : Placed) (tags values : List ℕ) (h : Holds n o p m 
 pub count-fits : (n : ℕ) (tags values : List ℕ) (o : Placed) (b : Built) (tags′ values′ : List ℕ) → NormalBuilt n tags values o b tags′ values′
     → (p m : ℕ) → b ≡ At p m → m < 2 ^ 32
 count-fits n tags values o b tags′ values′ built p m e = let (h, room) = rw e at built in omega (arith, h .state .small)
-
--- arrays that have kept their first n cells, cut back to these
-pub zero-kept : (n : ℕ) (l l′ : List ℕ) → length l′ ≡ length l → take n l′ ≡ take n l → zeroFrom n l′ ≡ zeroFrom n l
-unfolding zeroFrom
-zero-kept n l l′ e k = rw (e, k)
 
 -- what each code leaves
 module _ (r : Answer) (cells : List ℕ) (n : ℕ) (used : List ℕ) where

@@ -1,4 +1,4 @@
-use Rattle.normal_form.proofs.call.Clauses.{clausals, normal-state, normal-below}
+use Rattle.building.proofs.Clausal.{clausals, normal-state, normal-below}
 use borrow.Author.Needs.{needs}
 use Rattle.normal_form.proofs.call.build_clausal.Statement.{statement}
 use Rattle.normal_form.proofs.call.build_clausal.Tie as tie

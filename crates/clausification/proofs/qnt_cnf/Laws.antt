@@ -1,0 +1,152 @@
+-- Laws of `qnt_cnf`: the forms that are matched, the places that they name, and one law for each answer up to the clauses.
+-- Assumes nothing.
+use Prim.Native.Nat.{ℕ, _<_}
+use mathlib.Core.Path.{_≡_, refl, ap, _∙_}
+use mathlib.Core.Bool.{Bool, true, false, not}
+use mathlib.Core.List.{List, [], _∷_}
+use mathlib.Core.Option.{some}
+use lib.Dec.{eqb, ltb}
+use native.Mathlib.Omega.{arith}
+use borrow.Author.Tests.{eqb-true, eqb-false, ltb-true, not-true, not-false}
+use Rattle.cells.specs.ByPlace.{by-test}
+use Rattle.sorts.specs.Table.{builtIn}
+use Rattle.headers.specs.WellFormed.{isTerm}
+use Rattle.headers.specs.Description.{Cut}
+use Rattle.pool.specs.Check.{checkPool, andThen as checkThen, checkTerm}
+use Rattle.pool.specs.declared.Answer.{Answer}
+use Rattle.pool.proofs.tree.Header.{both}
+use Rattle.pool.proofs.tree.Passed.{Passed, pool-passes, pool-accepts}
+use Rattle.building.proofs.Clausal.{zero-kept}
+use Rattle.quantifiers.specs.Outcome.{Outcome, refuse, _>>=_, _>>_, need, guard, answerOf}
+use Rattle.quantifiers.specs.Form.{quantifier, operator, oneOf, twoOf, andThen}
+use Rattle.quantifiers.specs.FormAnswer.{withList, quantifierIn, oneIn, twoIn}
+use Rattle.quantifiers.specs.declared.form.Quantified.{Quantified}
+use Rattle.quantifiers.specs.declared.form.Quantified.the-variants as quantified
+use Rattle.quantifiers.specs.declared.form.One.{One}
+use Rattle.quantifiers.specs.declared.form.One.the-variants as one
+use Rattle.quantifiers.specs.declared.form.Two.{Two}
+use Rattle.quantifiers.specs.declared.form.Two.the-variants as two
+use Rattle.quantifiers.proofs.form.Laws.{Reads}
+use Rattle.quantifiers.proofs.Passes.{then-some}
+use Rattle.quantifiers.proofs.Trees.{AllTerms, two-are, quantifier-tree, operator-tree}
+use Rattle.clausification.specs.QntCnf.{implication, clausified, qntCnf}
+use Rattle.clausification.specs.Promises.{forallAt, Sides, Leaves, Clausified}
+
+-- ---- `(or (not l) r)`
+module _ (tags values : List ℕ) (x : ℕ) (t : Two) (outer : andThen (operator tags values 37 x) twoOf ≡ twoIn t) where
+  pub implication-other : t ≡ two.Not → implication tags values x ≡ twoIn two.Not
+  unfolding implication twoIn
+  implication-other e = rw (outer, e)
+
+  module _ (p r : ℕ) (e : t ≡ two.Are p r) (o : One) (inner : andThen (operator tags values 34 p) oneOf ≡ oneIn o) where
+    pub implication-plain : o ≡ one.Not → implication tags values x ≡ twoIn two.Not
+    unfolding implication twoIn oneIn
+    implication-plain f = rw (outer, e, inner, f)
+
+    pub implication-is : (l : ℕ) → o ≡ one.Is l → implication tags values x ≡ twoIn (two.Are l r)
+    unfolding implication twoIn oneIn
+    implication-is l f = rw (outer, e, inner, f)
+
+pub ruleset implications = (implication-other, implication-plain, implication-is)
+
+-- ---- a conclusion that has passed its checks: the sides and their bodies are terms of the pool
+pub term-checked : (tags values rules : List ℕ) (n t : ℕ) → checkTerm tags values rules n t .code ≡ 0
+    → (checkPool tags values rules n .code ≡ 0) × (isTerm tags n t ≡ true)
+unfolding checkTerm checkThen
+term-checked tags values rules n t e =
+    by-test (eqb (checkPool tags values rules n .code) 0)
+    (λ a. (eqb-true _ 0 a, by-test (isTerm tags n t) (λ b. b) (λ b. absurd (other (rw (a, b) at e)))))
+    (λ a. absurd (eqb-false _ 0 a (rw a at e)))
+  where
+    other : _≡_ {A = ℕ} 17 0 → ⊥
+    other z = omega arith
+
+one-is : (os : List ℕ) (a : ℕ) → oneOf os ≡ some a → os ≡ a ∷ []
+one-is [] a e = cc
+one-is (b ∷ []) a e = cc
+one-is (b ∷ (d ∷ os)) a e = cc
+
+term-below : (tags : List ℕ) (n t : ℕ) → isTerm tags n t ≡ true → t < n
+unfolding isTerm
+term-below tags n t e = ltb-true t n (both (ltb t n) _ e .0)
+
+module _ {tags values rules : List ℕ} {n : ℕ} (c : Passed tags values rules n) (x : ℕ) (term : isTerm tags n x ≡ true) where
+  implication-terms : (l r : ℕ) → implication tags values x ≡ some (l, r) → (isTerm tags n l ≡ true) × (isTerm tags n r ≡ true)
+  unfolding implication
+  implication-terms l r e =
+      then-some (andThen (operator tags values 37 x) twoOf) _ (l, r) e λ s e₁ e₂.
+      then-some (operator tags values 37 x) twoOf s e₁ λ os e₃ e₄.
+      then-some (andThen (operator tags values 34 (s .0)) oneOf) _ (l, r) e₂ λ p e₅ e₆.
+      then-some (operator tags values 34 (s .0)) oneOf p e₅ λ ps e₇ e₈.
+      let sides : AllTerms tags n (s .0 ∷ s .1 ∷ []) = rw (two-are os s e₄) at (operator-tree c 37 x (omega arith) (omega arith) term os e₃ .operands) in
+      let inner : AllTerms tags n (p ∷ []) = rw (one-is ps p e₈) at (operator-tree c 34 (s .0) (omega arith) (omega arith) (sides .0) ps e₇ .operands) in
+      let same : _≡_ {A = ℕ × ℕ} (p, s .1) (l, r) = cc in
+      (rw (ap (λ (z : ℕ × ℕ). z .0) same) at (inner .0), rw (ap (λ (z : ℕ × ℕ). z .1) same) at (sides .1 .0))
+
+  body-term : (k : Bool) (list : _) (b : ℕ) → quantifier tags values x ≡ some (withList k list b) → isTerm tags n b ≡ true
+  body-term k list b e = quantifier-tree c x term (withList k list b) e .body
+
+-- ---- the matching
+module _ (tags values : List ℕ) (n x : ℕ) (t : Two) (form : implication tags values x ≡ twoIn t) where
+  pub sides-form : t ≡ two.Not → refuse 2 x 0 ≡ qntCnf tags values n x
+  unfolding qntCnf twoIn need _>>=_
+  sides-form e = rw (form, e)
+
+  module _ (l r : ℕ) (e : t ≡ two.Are l r) (q : Quantified) (left : Reads tags values l q) where
+    pub sides-left : q ≡ quantified.Not → refuse 3 l 0 ≡ qntCnf tags values n x
+    unfolding qntCnf twoIn quantifierIn need _>>=_
+    sides-left o = rw (form, e, left, o)
+
+    module _ (k : Bool) (b : ℕ) (q-is : q ≡ quantified.Is k b) (q′ : Quantified) (right : Reads tags values r q′) where
+      pub sides-right : q′ ≡ quantified.Not → refuse 3 r 0 ≡ qntCnf tags values n x
+      unfolding qntCnf twoIn quantifierIn need _>>=_
+      sides-right o = rw (form, e, left, q-is, right, o)
+
+      module _ (k′ : Bool) (b′ : ℕ) (q′-is : q′ ≡ quantified.Is k′ b′) where
+        pub sides-kind : not k ≡ true → refuse 4 23 24 ≡ qntCnf tags values n x
+        unfolding qntCnf twoIn quantifierIn need guard _>>=_ _>>_
+        sides-kind o = rw (form, e, left, q-is, right, q′-is, not-true k o)
+
+        pub sides-right-kind : not k ≡ false → not k′ ≡ true → refuse 4 23 24 ≡ qntCnf tags values n x
+        unfolding qntCnf twoIn quantifierIn need guard _>>=_ _>>_
+        sides-right-kind o o′ = rw (form, e, left, q-is, right, q′-is, not-false k o, not-true k′ o′)
+
+        pub sides-rest : not k ≡ false → not k′ ≡ false → clausified tags values n (forallAt tags values l b) (forallAt tags values r b′) ≡ qntCnf tags values n x
+        unfolding qntCnf twoIn quantifierIn need guard _>>=_ _>>_
+        sides-rest o o′ = rw (form, e, left, q-is, right, q′-is, not-false k o, not-false k′ o′)
+
+        pub sides-are : checkTerm tags values builtIn n x .code ≡ 0 → Sides tags values n l b r b′
+        unfolding twoIn quantifierIn
+        sides-are ok =
+            let (pool-ok, term) = term-checked tags values builtIn n x ok in
+            let c : Passed tags values builtIn n = pool-passes tags values builtIn n (pool-accepts tags values builtIn n pool-ok) in
+            let (l-term, r-term) = implication-terms c x term l r (form ∙ ap twoIn e) in
+            record {
+              passed = pool-ok;
+              left-place = term-below tags n l l-term;
+              left-body = term-below tags n b (body-term c l l-term k _ b (left ∙ ap (quantifierIn _) q-is));
+              right-place = term-below tags n r r-term;
+              right-body = term-below tags n b′ (body-term c r r-term k′ _ b′ (right ∙ ap (quantifierIn _) q′-is));
+            }
+
+-- ---- what is left in the arrays
+module _ (n : ℕ) (tags values : List ℕ) (a : Answer) (o p : Outcome (Unit {0})) where
+  -- nothing is built
+  pub leaves-all : a ≡ answerOf o → o ≡ p → Leaves n tags values p a tags values
+  leaves-all is e = record {
+    answer = is ∙ ap answerOf e;
+    left = record { tags-size = refl; values-size = refl; tags-kept = refl; values-kept = refl };
+  }
+
+  pub leaves-after : (tags′ values′ : List ℕ) → Leaves n tags values o a tags′ values′ → o ≡ p → Leaves n tags values p a tags′ values′
+  leaves-after tags′ values′ h e = record { answer = h .answer ∙ ap answerOf e; left = h .left }
+
+pub ruleset matching = (leaves-all, sides-form, sides-left, sides-right, sides-kind, sides-right-kind)
+
+pub leaves-cut : (tags values : List ℕ) (n x : ℕ) (a : Answer) (tags₁ values₁ tags′ values′ : List ℕ)
+    → Leaves n tags values (qntCnf tags values n x) a tags₁ values₁ → Cut n tags₁ values₁ tags′ values′ → Clausified tags values n x a tags′ values′
+leaves-cut tags values n x a tags₁ values₁ tags′ values′ h cut = record {
+  answer = h .answer;
+  tags-are = cut .tags-are ∙ zero-kept n tags tags₁ (h .left .tags-size) (h .left .tags-kept);
+  values-are = cut .values-are ∙ zero-kept n values values₁ (h .left .values-size) (h .left .values-kept);
+}

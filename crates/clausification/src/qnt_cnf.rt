@@ -1,0 +1,163 @@
+// Rule 3, `qnt_cnf`. The left body's normal form and its form with foralls taken out are built after the pool, and cut back at
+// the end.
+use crate::clause_search::any_clause;
+use crate::taken_variables::Sought;
+use crate::taken_variables::first_taken;
+use crate::taken_variables::first_unbound;
+use building::build::Built;
+use building::negation_normal_form::build_normal_form;
+use building::prenex_forall::build_taken_out;
+use clauses::clause_list::list_clauses;
+use pool::Answer;
+use pool::TermPlace;
+use pool::description::cut_back;
+use quantifiers::binding::FirstName;
+use quantifiers::binding::first_missing;
+use quantifiers::form::One;
+use quantifiers::form::Quantified;
+use quantifiers::form::Two;
+use quantifiers::form::bindings;
+use quantifiers::form::one_operand;
+use quantifiers::form::quantified_at;
+use quantifiers::form::two_operands;
+use quantifiers::outcome::accept;
+use quantifiers::outcome::refuse;
+ghost use mathlib.Core.Path.{_≡_};
+ghost use Rattle.sorts.specs.Table.{builtIn};
+ghost use Rattle.pool.specs.Check.{checkTerm};
+ghost use Rattle.quantifiers.specs.Outcome.{answerOf};
+ghost use Rattle.quantifiers.specs.FormAnswer.{twoIn};
+ghost use Rattle.clausification.specs.QntCnf.{implication, clausified, qntCnf};
+ghost use Rattle.clausification.specs.ClauseSearch.{clausesIn};
+ghost use Rattle.clausification.specs.Promises.{forallAt, followsIn, Sides, Leaves, Clausified};
+
+// The place of a forall, and its body's.
+struct Forall {
+    place: u32,
+    body: u32,
+}
+
+// The two sides of `(or (not l) r)` at x.
+fn implication_at(tags: &[u32], values: &[u32], x: u32) -> Two
+    ensures { λ t. ⌜ implication (now (tags .entry)) (now (values .entry)) x ≡ twoIn t ⌝ }
+{
+    let Two::Are(negation, r) = two_operands(tags, values, 37, x) else {
+        return Two::Not;
+    };
+    let One::Is(l) = one_operand(tags, values, 34, negation) else {
+        return Two::Not;
+    };
+    Two::Are(l, r)
+}
+
+// The right forall against the left one at l, the normal form of its body at x and the clauses of that: 8, 10, 9.
+fn clause_follows(
+    tags: &[u32],
+    values: &[u32],
+    n: usize,
+    x: u32,
+    l: u32,
+    right: Forall,
+    literals: &[u32],
+    ends: &[u32],
+    count: usize,
+) -> Answer
+    ensures { λ a. ⌜ a ≡ answerOf (followsIn (now (tags .entry)) (now (values .entry)) n x l (right .place) (right .body) (clausesIn (now (literals .entry)) (now (ends .entry)) 0 count)) ⌝ }
+{
+    let left = bindings(tags, values, l);
+    let bound = bindings(tags, values, right.place);
+    let body = right.body;
+    if let FirstName::Name(name) = first_unbound(tags, values, x, left, bound) {
+        return refuse(8, name, 0);
+    }
+    if !any_clause(tags, values, body, literals, ends, count) {
+        return refuse(10, body, 0);
+    }
+    if let FirstName::Name(name) = first_missing(tags, values, n, body, left, bound) {
+        return refuse(9, name, 0);
+    }
+    let sought = Sought::Missing(body);
+    if let FirstName::Name(name) = first_taken(tags, values, n, x, bound, sought) {
+        return refuse(9, name, 0);
+    }
+    accept()
+}
+
+// The clauses of the left forall's body, and the right forall: 31, 13, 32, 8, 10, 9.
+fn clausified(tags: &mut [u32], values: &mut [u32], n: usize, left: Forall, right: Forall) -> Answer
+    requires { ⌜ Sides (now tags) (now values) n (left .place) (left .body) (right .place) (right .body) ⌝ }
+    ensures { λ a. ⌜ Leaves n (now (tags .entry)) (now (values .entry)) (clausified (now (tags .entry)) (now (values .entry)) n (forallAt (now (tags .entry)) (now (values .entry)) (left .place) (left .body)) (forallAt (now (tags .entry)) (now (values .entry)) (right .place) (right .body))) a (now (tags .exit)) (now (values .exit)) ⌝ }
+{
+    let Built::At(x, m) = build_normal_form(tags, values, n, TermPlace(left.body), true) else {
+        return refuse(31, 0, 0);
+    };
+    let Built::At(y, k) = build_taken_out(tags, values, m, x) else {
+        return refuse(31, 0, 0);
+    };
+    let mut literals = [0u32; 8192];
+    let mut ends = [0u32; 2048];
+    let listed = list_clauses(
+        &tags[..k],
+        &values[..k],
+        TermPlace(y),
+        &mut literals,
+        &mut ends,
+    );
+    if listed.code != 0 {
+        return listed;
+    }
+    let count = listed.first as usize;
+    let l = left.place;
+    clause_follows(
+        &tags[..m],
+        &values[..m],
+        n,
+        x,
+        l,
+        right,
+        &literals,
+        &ends,
+        count,
+    )
+}
+
+// The checks in 01's order. What was built is left after the pool.
+fn checks(tags: &mut [u32], values: &mut [u32], n: usize, x: TermPlace) -> Answer
+    requires { ⌜ checkTerm (now tags) (now values) builtIn n (x .0) .code ≡ 0 ⌝ }
+    ensures { λ a. ⌜ Leaves n (now (tags .entry)) (now (values .entry)) (qntCnf (now (tags .entry)) (now (values .entry)) n (x .0)) a (now (tags .exit)) (now (values .exit)) ⌝ }
+{
+    let Two::Are(l, r) = implication_at(tags, values, x.0) else {
+        return refuse(2, x.0, 0);
+    };
+    let Quantified::Is(left_kind, left_body) = quantified_at(tags, values, l) else {
+        return refuse(3, l, 0);
+    };
+    let Quantified::Is(right_kind, right_body) = quantified_at(tags, values, r) else {
+        return refuse(3, r, 0);
+    };
+    if !left_kind {
+        return refuse(4, 23, 24);
+    }
+    if !right_kind {
+        return refuse(4, 23, 24);
+    }
+    let left = Forall {
+        place: l,
+        body: left_body,
+    };
+    let right = Forall {
+        place: r,
+        body: right_body,
+    };
+    clausified(tags, values, n, left, right)
+}
+
+// The answer to the conclusion at x, which has passed its checks; the cells past the pool are zeroed.
+pub fn qnt_cnf(tags: &mut [u32], values: &mut [u32], n: usize, x: TermPlace) -> Answer
+    requires { ⌜ checkTerm (now tags) (now values) builtIn n (x .0) .code ≡ 0 ⌝ }
+    ensures { λ a. ⌜ Clausified (now (tags .entry)) (now (values .entry)) n (x .0) a (now (tags .exit)) (now (values .exit)) ⌝ }
+{
+    let answer = checks(tags, values, n, x);
+    cut_back(tags, values, n);
+    answer
+}
