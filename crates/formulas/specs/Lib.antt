@@ -4,7 +4,6 @@ pub mod Clauses
 pub mod Skeleton
 pub mod Truth
 pub mod Totals
-pub mod Cases
 pub mod TruthCases
 pub mod Mapped
 pub mod Built

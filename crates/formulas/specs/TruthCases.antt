@@ -5,20 +5,14 @@
 --     (exists (x) x)                    true
 --     (forall () x)                     the value of x
 --     (forall ((x Bool)) (x of Int))    the value of x of sort Int: one name under two sorts is two variables
---
--- And the premise of rule 3 is needed: x is taken out of (or x (forall (x) z)) and free in it, the formula is true where x is true and z is
--- false, and the clause closed over x, (forall (x) (or x z)), is false there.
--- Rests on pool's Sort, Term and FreeTree, and on Skeleton and Truth.
+-- Rests on pool's Sort and Term, and on Skeleton and Truth.
 use mathlib.Core.Path.{_≡_, refl}
 use mathlib.Core.Bool.{Bool, true, false}
 use mathlib.Core.List.{[], _∷_, List·Memᴰ, List·Memᴰ·head, List·Memᴰ·tail}
 use native.Mathlib.Decide.{ℕ-discrete}
 use Rattle.pool.specs.Sort.{Sort, Sort-discrete, bool, int}
-use Rattle.pool.specs.Term.{Var, Vars, Var-discrete, Term, const, bitVector, var, app, quant, bind, letin, op, noTerm, tnil, tcons, stated}
-use Rattle.pool.specs.FreeTree.{isYes, same}
-use Rattle.formulas.specs.Normal.{lit, nnf, prenex, taken}
-use Rattle.formulas.specs.Clauses.{cnf}
-use Rattle.formulas.specs.Skeleton.{skeleton, leftBool, formOf, clauseTerm}
+use Rattle.pool.specs.Term.{Var, Var-discrete, Term, const, bitVector, var, app, quant, bind, letin, op, noTerm}
+use Rattle.formulas.specs.Skeleton.{skeleton}
 use Rattle.formulas.specs.Truth.{Assignment, Reading, valueAt, assign, over, True}
 
 -- every sort has the values true and false, a variable as a formula has its value, and every other opaque term is false
@@ -37,14 +31,11 @@ pub either : (x : Bool) → List·Memᴰ x (true ∷ false ∷ [])
 either true = List·Memᴰ·head refl
 either false = List·Memᴰ·tail (List·Memᴰ·head refl)
 
-abbrev twoValues : Reading
+abbrev pub twoValues : Reading
 twoValues = record { Value = λ s. Bool; values = λ s. true ∷ false ∷ []; listed = λ s. either; opaque-truth = valueOf }
 
-abbrev x : Var
+abbrev pub x : Var
 x = record { name = 1; sort = bool }
-
-abbrev z : Var
-z = record { name = 2; sort = bool }
 
 abbrev number : Var
 number = record { name = 1; sort = int }
@@ -64,27 +55,3 @@ empty-list b ρ = refl
 pub two-sorts : (ρ : Assignment (λ (s : Sort). Bool)) → ρ number ≡ true → True twoValues (quant true bool (x ∷ []) (var number)) ρ ≡ true
 unfolding True skeleton over assign valueAt Var-discrete Sort-discrete ℕ-discrete
 two-sorts ρ e = rw e
-
--- ---- the premise of rule 3
-abbrev body : Term
-body = op 37 bool (tcons (var x) (tcons (quant true bool (x ∷ []) (var z)) tnil))
-
-pub clause : cnf (prenex (nnf (skeleton body) true)) ≡ (lit true (var x) ∷ lit true (var z) ∷ []) ∷ []
-unfolding skeleton leftBool formOf stated Sort-discrete
-clause = refl
-
-pub taken-x : taken (λ (vs : Vars). vs) (nnf (skeleton body) true) ≡ x ∷ []
-unfolding skeleton leftBool formOf stated Sort-discrete
-taken-x = refl
-
--- x is true, z false
-abbrev atX : Assignment (λ (s : Sort). Bool)
-atX v = same v x
-
-pub formula-true : True twoValues (quant true bool [] body) atX ≡ true
-unfolding True skeleton leftBool formOf stated over assign valueAt same isYes Var-discrete Sort-discrete ℕ-discrete
-formula-true = refl
-
-pub clause-false : True twoValues (quant true bool (x ∷ []) (clauseTerm (lit true (var x) ∷ lit true (var z) ∷ []))) atX ≡ false
-unfolding True skeleton leftBool formOf stated over assign valueAt same isYes Var-discrete Sort-discrete ℕ-discrete
-clause-false = refl

@@ -1,4 +1,4 @@
--- 01's M cases on joins, of the definitions.
+-- The joins of 01's M cases, for any two different pairs; the table of the M cases is in the crate `rules`.
 -- "M join of x with y, x: right x y x accepted, x y refused 7. M x with x: right x accepted, x x refused."
 -- Rests on Binding and QntJoin.
 use Prim.Native.Nat.{ℕ}

@@ -1,4 +1,7 @@
 // Rule 1, `qnt_join`.
+use pool::Answer;
+use pool::TermPlace;
+use pool::run::cell;
 use quantifiers::binding::same_pair;
 use quantifiers::form::Quantified;
 use quantifiers::form::Two;
@@ -8,9 +11,6 @@ use quantifiers::form::quantified_at;
 use quantifiers::form::tag_of;
 use quantifiers::outcome::accept;
 use quantifiers::outcome::refuse;
-use pool::Answer;
-use pool::TermPlace;
-use pool::run::cell;
 ghost use mathlib.Core.Path.{_≡_};
 ghost use mathlib.Core.List.{[], _∷_};
 ghost use Rattle.quantifiers.specs.Outcome.{answerOf};

@@ -1,4 +1,6 @@
 // Rule 2, `qnt_rm_unused`.
+use pool::Answer;
+use pool::TermPlace;
 use quantifiers::binding::FirstName;
 use quantifiers::binding::first_free;
 use quantifiers::binding::first_missing;
@@ -11,8 +13,6 @@ use quantifiers::form::quantified_at;
 use quantifiers::form::tag_of;
 use quantifiers::outcome::accept;
 use quantifiers::outcome::refuse;
-use pool::Answer;
-use pool::TermPlace;
 ghost use mathlib.Core.Path.{_≡_};
 ghost use Rattle.quantifiers.specs.Outcome.{answerOf};
 ghost use Rattle.quantifiers.specs.Binding.{bindingsOf};

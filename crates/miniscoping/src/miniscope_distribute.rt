@@ -1,10 +1,4 @@
 // Rule 4, `miniscope_distribute`: 2, 11, then by operand 2, 6, 5.
-use quantifiers::binding::same_lists;
-use quantifiers::checked::Checked;
-use quantifiers::form::Quantified;
-use quantifiers::form::bindings;
-use quantifiers::outcome::accept;
-use quantifiers::outcome::refuse;
 use crate::sides::Matched;
 use crate::sides::Places;
 use crate::sides::either_sides;
@@ -13,6 +7,12 @@ use crate::sides::operand_count;
 use pool::Answer;
 use pool::TermPlace;
 use pool::run::operands;
+use quantifiers::binding::same_lists;
+use quantifiers::checked::Checked;
+use quantifiers::form::Quantified;
+use quantifiers::form::bindings;
+use quantifiers::outcome::accept;
+use quantifiers::outcome::refuse;
 ghost use mathlib.Core.Path.{_≡_};
 ghost use Rattle.quantifiers.specs.Outcome.{answerOf};
 ghost use Rattle.quantifiers.specs.Checked.{outcomeOf};

@@ -1,4 +1,7 @@
 // Rule 6, `miniscope_ite`: 2, 6, 6, 12.
+use crate::sides::of_kind;
+use pool::Answer;
+use pool::TermPlace;
 use quantifiers::binding::FirstName;
 use quantifiers::binding::first_free;
 use quantifiers::binding::same_lists;
@@ -10,9 +13,6 @@ use quantifiers::form::equality_at;
 use quantifiers::form::three_operands;
 use quantifiers::outcome::accept;
 use quantifiers::outcome::refuse;
-use crate::sides::of_kind;
-use pool::Answer;
-use pool::TermPlace;
 ghost use mathlib.Core.Path.{_≡_};
 ghost use Rattle.quantifiers.specs.Outcome.{answerOf};
 ghost use Rattle.miniscoping.specs.MiniscopeIte.{iteSides, miniscopeIte};

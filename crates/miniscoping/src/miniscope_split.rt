@@ -1,11 +1,4 @@
 // Rule 5, `miniscope_split`: 2, 11, then by operand: equal passes, else 2, 5, 8; then 12.
-use quantifiers::binding::FirstName;
-use quantifiers::binding::first_free;
-use quantifiers::checked::Checked;
-use quantifiers::form::Quantified;
-use quantifiers::form::bindings;
-use quantifiers::outcome::accept;
-use quantifiers::outcome::refuse;
 use crate::sides::Matched;
 use crate::sides::Places;
 use crate::sides::either_sides;
@@ -15,6 +8,13 @@ use crate::used::use_all;
 use pool::Answer;
 use pool::TermPlace;
 use pool::run::operands;
+use quantifiers::binding::FirstName;
+use quantifiers::binding::first_free;
+use quantifiers::checked::Checked;
+use quantifiers::form::Quantified;
+use quantifiers::form::bindings;
+use quantifiers::outcome::accept;
+use quantifiers::outcome::refuse;
 ghost use mathlib.Core.Path.{_≡_};
 ghost use Prim.Native.Nat.{_≤_};
 ghost use lib.ListN.{length};

@@ -1,11 +1,11 @@
 // The two sides that rules 4 and 5 match: on the left a quantifier over the operands of `and` or `or`, on the right the same operator.
+use pool::TermPlace;
+use pool::run::cell;
+use pool::run::operands;
 use quantifiers::form::Quantified;
 use quantifiers::form::Two;
 use quantifiers::form::equality_at;
 use quantifiers::form::quantified_at;
-use pool::TermPlace;
-use pool::run::cell;
-use pool::run::operands;
 ghost use mathlib.Core.Path.{_≡_};
 ghost use mathlib.Core.Bool.{true, false};
 ghost use lib.ListN.{length};

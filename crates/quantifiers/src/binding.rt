@@ -63,14 +63,7 @@ fn lacks(list: &[u32], name: u32, sort: u32) -> bool
 }
 
 // Whether the variable of a pair is free in the term at t. A variable after t is not: up to t, its place fits u32.
-pub fn is_free_in(
-    tags: &[u32],
-    values: &[u32],
-    n: usize,
-    name: u32,
-    sort: u32,
-    t: u32,
-) -> bool
+pub fn is_free_in(tags: &[u32], values: &[u32], n: usize, name: u32, sort: u32, t: u32) -> bool
     ensures { λ r. ⌜ r ≡ bindingFree (now (tags .entry)) (now (values .entry)) n t (pair name sort) ⌝ }
 {
     let cells = [sort, name];

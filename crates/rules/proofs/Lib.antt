@@ -1,3 +1,5 @@
 pub mod TruthAlong
 pub mod WithoutLet
 pub mod Numbered
+pub mod Codes
+pub mod Accepted

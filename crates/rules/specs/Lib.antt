@@ -1,2 +1,6 @@
 pub mod Premises
 pub mod PremisesCases
+pub mod Step
+pub mod StepWalk
+pub mod Cases
+pub mod CaptureCase

@@ -1,1 +1,9 @@
-// The six rules, and what an accepted step says of its conclusion.
+// The six rules of document 01, over a pool that passes its checks.
+pub mod check;
+
+pub use clausification::qnt_cnf;
+pub use joining::qnt_join;
+pub use joining::qnt_rm_unused;
+pub use miniscoping::miniscope_distribute;
+pub use miniscoping::miniscope_ite;
+pub use miniscoping::miniscope_split;

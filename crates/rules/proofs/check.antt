@@ -1,0 +1,2 @@
+-- Laws of `check`.
+pub mod Laws

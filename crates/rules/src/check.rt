@@ -1,0 +1,126 @@
+// The check of a step: 30, 14, 15, 16, 18, 1, 17, and then its rule.
+use clausification::qnt_cnf::qnt_cnf;
+use joining::qnt_join::qnt_join;
+use joining::qnt_rm_unused::qnt_rm_unused;
+use miniscoping::miniscope_distribute::miniscope_distribute;
+use miniscoping::miniscope_ite::miniscope_ite;
+use miniscoping::miniscope_split::miniscope_split;
+use pool::Answer;
+use pool::TermPlace;
+use pool::call::check_pool;
+use pool::description::cut_back;
+use pool::well_formed::is_term;
+ghost use Prim.Native.Nat.{min};
+ghost use mathlib.Core.Path.{_≡_};
+ghost use Rattle.sorts.specs.Table.{builtIn};
+ghost use Rattle.pool.specs.Check.{checkPool, checkTerm};
+ghost use Rattle.quantifiers.specs.Outcome.{answerOf};
+ghost use Rattle.rules.specs.Step.{isRule, ruleOutcome, stepAnswer, Step};
+ghost use Rattle.rules.specs.StepWalk.{Judged};
+
+fn is_rule(rule: u32) -> bool
+    ensures { λ r. ⌜ r ≡ isRule rule ⌝ }
+{
+    if rule < 1 {
+        return false;
+    }
+    rule <= 6
+}
+
+// A length as a carried number.
+fn carried(k: usize) -> u32
+    ensures { λ r. ⌜ r ≡ min 4294967295 k ⌝ }
+{
+    if k <= 4294967295 {
+        return k as u32;
+    }
+    4294967295
+}
+
+// The rule of a code on the conclusion at x, which has passed its checks.
+fn apply(tags: &mut [u32], values: &mut [u32], n: usize, rule: u32, x: TermPlace) -> Answer
+    requires { ⌜ checkTerm (now tags) (now values) builtIn n (x .0) .code ≡ 0 ⌝ }
+    ensures { λ r. ⌜ Judged n rule (answerOf (ruleOutcome (now (tags .entry)) (now (values .entry)) n rule (x .0))) r (now (tags .entry)) (now (values .entry)) (now (tags .exit)) (now (values .exit)) ⌝ }
+{
+    if rule == 1 {
+        return qnt_join(tags, values, x);
+    }
+    if rule == 2 {
+        return qnt_rm_unused(tags, values, n, x);
+    }
+    if rule == 3 {
+        return qnt_cnf(tags, values, n, x);
+    }
+    if rule == 4 {
+        return miniscope_distribute(tags, values, x);
+    }
+    if rule == 5 {
+        return miniscope_split(tags, values, n, x);
+    }
+    miniscope_ite(tags, values, n, x)
+}
+
+// What comes after the pool check, whose answer is `checked`.
+fn judge(
+    checked: Answer,
+    tags: &mut [u32],
+    values: &mut [u32],
+    n: usize,
+    rule: u32,
+    conclusion: &[u32],
+) -> Answer
+    requires { ⌜ checked ≡ checkPool (now tags) (now values) builtIn n ⌝ }
+    ensures { λ r. ⌜ Judged n rule (stepAnswer (now (tags .entry)) (now (values .entry)) builtIn n rule (now (conclusion .entry))) r (now (tags .entry)) (now (values .entry)) (now (tags .exit)) (now (values .exit)) ⌝ }
+{
+    if checked.code != 0 {
+        return checked;
+    }
+    if !is_rule(rule) {
+        return Answer::refused(18, rule, 0);
+    }
+    if conclusion.len() != 1 {
+        return Answer::refused(1, carried(conclusion.len()), 0);
+    }
+    let x = TermPlace(conclusion[0]);
+    if !is_term(tags, n, x) {
+        return Answer::refused(17, x.0, 0);
+    }
+    apply(tags, values, n, rule, x)
+}
+
+// The check of a step in a pool whose own check has answered `checked`: many steps over one pool ask for that once.
+pub fn check_after(
+    checked: Answer,
+    tags: &mut [u32],
+    values: &mut [u32],
+    count: usize,
+    rule: u32,
+    conclusion: &[u32],
+) -> Answer
+    requires { ⌜ checked ≡ checkPool (now tags) (now values) builtIn count ⌝ }
+    ensures { λ r. ⌜ Step (now (tags .entry)) (now (values .entry)) builtIn count rule (now (conclusion .entry)) r (now (tags .exit)) (now (values .exit)) ⌝ }
+{
+    let answer = judge(checked, tags, values, count, rule, conclusion);
+    if rule != 3 {
+        return answer;
+    }
+    if answer.code == 30 {
+        return answer;
+    }
+    cut_back(tags, values, count);
+    answer
+}
+
+// The check of a step whose conclusion is given by its places. Rule 3 builds: it leaves zeroes past the count, with every answer but 30.
+pub fn check(
+    tags: &mut [u32],
+    values: &mut [u32],
+    count: usize,
+    rule: u32,
+    conclusion: &[u32],
+) -> Answer
+    ensures { λ r. ⌜ Step (now (tags .entry)) (now (values .entry)) builtIn count rule (now (conclusion .entry)) r (now (tags .exit)) (now (values .exit)) ⌝ }
+{
+    let checked = check_pool(tags, values, count);
+    check_after(checked, tags, values, count, rule, conclusion)
+}
