@@ -1,11 +1,12 @@
 // The layout of a call file: u32 little-endian words, of which the first eight are call, T, V, N, rule or place,
-// polarity, X and Y. T tags and V values follow.
+// polarity, X and Y. T tags and V values follow, and in a call 0 the X places of the conclusion.
 ghost use Prim.Native.Nat.{_+_, _*_, _≤_, _<_};
 ghost use mathlib.Core.Path.{_≡_};
 ghost use lib.ListN.{length, getD};
-ghost use Rattle.calls.specs.Format.{wordAt, Words, headOf, isWhole};
+ghost use Rattle.calls.specs.Format.{wordAt, Words, headOf, conclusionCount, isWhole};
 
-// The words that the calls use: X is `lent`, the length of the marks or of the literals, and Y is `ends`, that of the clause ends.
+// The words that the calls use: X is `lent`, the length of the conclusion, of the marks or of the literals, and Y is `ends`, that
+// of the clause ends.
 pub struct Head {
     pub call: u32,
     pub tags: usize,
@@ -65,6 +66,16 @@ pub fn read_head(bytes: &[u8]) -> Head
     }
 }
 
+// How many places follow the values: the conclusion of a call 0.
+pub fn conclusion_count(head: Head) -> usize
+    ensures { λ r. ⌜ r ≡ conclusionCount head ⌝ }
+{
+    if head.call == 0 {
+        return head.lent;
+    }
+    0
+}
+
 // Whether the arrays have at most 9,000 elements each and fill the file to its end.
 pub fn is_whole(bytes: &[u8], head: Head) -> bool
     ensures { λ r. ⌜ r ≡ isWhole (now (bytes .entry)) head ⌝ }
@@ -75,7 +86,11 @@ pub fn is_whole(bytes: &[u8], head: Head) -> bool
     if 9000 < head.values {
         return false;
     }
-    bytes.len() == 4 * (8 + head.tags + head.values)
+    let places = conclusion_count(head);
+    if 9000 < places {
+        return false;
+    }
+    bytes.len() == 4 * (8 + head.tags + head.values + places)
 }
 
 // Fills out with the words from position start on.

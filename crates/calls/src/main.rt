@@ -1,4 +1,4 @@
-// The public calls of the pool and of normal forms from a shell: a call file on standard input, or the call files that the
+// The check of a step and the public calls of the pool and of normal forms from a shell: a call file on standard input, or the call files that the
 // arguments name, each after a line with its name.
 mod call_file;
 mod report;
@@ -14,6 +14,7 @@ use normal_form::call::Listed;
 use normal_form::call::clause_list;
 use normal_form::call::normal_form;
 use pool::TermPlace;
+use rules::check::check;
 
 fn bad_file() {
     io::write_all(STDOUT_FILENO, b"bad file\n");
@@ -44,6 +45,45 @@ fn file_bytes() -> [u8; 108033]
     ensures { λ r. ⌜ 108033 ≡ length r ⌝ }
 {
     [0; 108033]
+}
+
+// Call 0 on arrays of the file's lengths.
+fn check_in(
+    bytes: &[u8],
+    head: Head,
+    tags: &mut [u32],
+    values: &mut [u32],
+    conclusion: &mut [u32],
+)
+    requires { ⌜ 4 * (8 + length (now tags) + length (now values) + length (now conclusion)) ≤ length (now bytes) ⌝ }
+{
+    let t = tags.len();
+    let v = values.len();
+    call_file::read_words(bytes, 8, tags);
+    call_file::read_words(bytes, 8 + t, values);
+    call_file::read_words(bytes, 8 + t + v, conclusion);
+    let answer = check(tags, values, head.n, head.place, conclusion);
+    report::answer(answer, 0);
+    report::line(b"tags", tags);
+    report::line(b"values", values);
+}
+
+fn check_step(bytes: &[u8], head: Head)
+    requires { ⌜ Whole (now bytes) head ⌝ }
+{
+    let t = head.tags;
+    let v = head.values;
+    let x = call_file::conclusion_count(head);
+    let mut tags = cells();
+    let mut values = cells();
+    let mut conclusion = cells();
+    check_in(
+        bytes,
+        head,
+        &mut tags[..t],
+        &mut values[..v],
+        &mut conclusion[..x],
+    );
 }
 
 // Call 1 on arrays of the file's lengths.
@@ -197,6 +237,7 @@ fn run(bytes: &[u8]) {
     }
     let call = head.call;
     match call {
+        0 => check_step(bytes, head),
         1 => sort(bytes, head),
         2 => free_vars(bytes, head),
         3 => normal(bytes, head),

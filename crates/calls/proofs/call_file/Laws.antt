@@ -10,8 +10,8 @@ use lib.Seq.{getD-set-same, getD-set-other}
 use lib.Dec.{leb, eqb}
 use native.Mathlib.Omega.{arith}
 use native.Mathlib.Nat.{eq-or-lt-of-le}
-use borrow.Author.Tests.{lt-leb, le-leb, leb-true, eqb-true, not-false}
-use Rattle.calls.specs.Format.{wordAt, headOf, isWhole, Whole}
+use borrow.Author.Tests.{lt-leb, le-leb, leb-true, eqb-true, eq-eqb, ne-eqb, not-false}
+use Rattle.calls.specs.Format.{wordAt, headOf, conclusionCount, isWhole, Whole}
 use Rattle.calls.specs.declared.call_file.Head.{Head}
 
 -- ---- the lengths
@@ -29,19 +29,35 @@ module _ (bytes : List ℕ) (head : Head) where
     unfolding isWhole
     whole-values h = rw (le-leb _ _ t, lt-leb _ _ h)
 
-    pub whole-size : head .values ≤ 9000 → eqb (length bytes) (4 * (8 + head .tags + head .values)) ≡ isWhole bytes head
-    unfolding isWhole
-    whole-size h = rw (le-leb _ _ t, le-leb _ _ h)
+    module _ (v : head .values ≤ 9000) (x : ℕ) (is : x ≡ conclusionCount head) where
+      pub whole-places : 9000 < x → false ≡ isWhole bytes head
+      unfolding isWhole
+      whole-places h = rw (le-leb _ _ t, le-leb _ _ v, ← is, lt-leb _ _ h)
+
+      pub whole-size : x ≤ 9000 → eqb (length bytes) (4 * (8 + head .tags + head .values + x)) ≡ isWhole bytes head
+      unfolding isWhole
+      whole-size h = rw (le-leb _ _ t, le-leb _ _ v, ← is, le-leb _ _ h)
 
   -- what a call may count on
   pub whole-is : (w : Bool) → w ≡ isWhole bytes head → not w ≡ false → Whole bytes head
   unfolding isWhole
   whole-is w is e =
       let (t, rest) = both (leb (head .tags) 9000) _ (sym is ∙ not-false w e) in
-      let (v, size) = both (leb (head .values) 9000) _ rest in
-      record { tags = leb-true _ _ t; values = leb-true _ _ v; size = eqb-true _ _ size }
+      let (v, rest′) = both (leb (head .values) 9000) _ rest in
+      let (x, size) = both (leb (conclusionCount head) 9000) _ rest′ in
+      record { tags = leb-true _ _ t; values = leb-true _ _ v; conclusion = leb-true _ _ x; size = eqb-true _ _ size }
 
-pub ruleset whole = (whole-tags, whole-values, whole-size)
+pub count-none : (head : Head) → (head .call ≡ 0 → ⊥) → 0 ≡ conclusionCount head
+unfolding conclusionCount
+count-none head h = rw (ne-eqb _ _ h)
+
+pub count-some : (head : Head) → head .call ≡ 0 → head .lent ≡ conclusionCount head
+unfolding conclusionCount
+count-some head e = rw (eq-eqb _ _ e)
+
+pub ruleset counts = (count-none, count-some)
+
+pub ruleset whole = (whole-tags, whole-values, whole-places, whole-size)
 
 -- ---- words
 pub words-next : (bytes : List ℕ) (start i : ℕ) (out : List ℕ) (w : ℕ) → w ≡ wordAt bytes (start + i) → i < length out

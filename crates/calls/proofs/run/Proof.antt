@@ -2,6 +2,14 @@ use Rattle.calls.proofs.call_file.Laws.{whole-is}
 use borrow.Author.Needs.{needs}
 use Rattle.calls.proofs.run.Statement.{statement}
 use Rattle.calls.proofs.run.Tie as tie
+use Rattle.calls.proofs.bad_file.Reads as bad-file-reads
+use Rattle.calls.proofs.call_file.is_whole.Reads as is-whole-reads
+use Rattle.calls.proofs.call_file.read_head.Reads as read-head-reads
+use Rattle.calls.proofs.check_step.Reads as check-step-reads
+use Rattle.calls.proofs.clauses.Reads as clauses-reads
+use Rattle.calls.proofs.free_vars.Reads as free-vars-reads
+use Rattle.calls.proofs.normal.Reads as normal-reads
+use Rattle.calls.proofs.sort.Reads as sort-reads
 
 bad-file-requires : tie.Need-bad-file-requires
 bad-file-requires c κs = search needs
@@ -20,6 +28,9 @@ bad-file-requires-2 c κs = search needs
 
 returns-2 : tie.Need-returns-2
 returns-2 c = search needs
+
+check-step-requires : tie.Need-check-step-requires
+check-step-requires c κs = search whole-is
 
 sort-requires : tie.Need-sort-requires
 sort-requires c κs = search whole-is
@@ -51,6 +62,9 @@ returns-6 c = search needs
 returns-7 : tie.Need-returns-7
 returns-7 c = search needs
 
+returns-8 : tie.Need-returns-8
+returns-8 c = search needs
+
 pub run-spec : {M : Type 1} → statement M
 run-spec =
     tie.close
@@ -61,6 +75,7 @@ run-spec =
     is-whole-requires
     bad-file-requires-2
     returns-2
+    check-step-requires
     sort-requires
     free-vars-requires
     normal-requires
@@ -70,4 +85,5 @@ run-spec =
     returns-4
     returns-5
     returns-6
-    returns-7)
+    returns-7
+    returns-8)
