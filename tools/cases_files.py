@@ -1,15 +1,9 @@
 """Files that are no call files, or just are. A case is as in cases_checks.py, with None for `bad file`."""
-import struct
-
-from packed_pool import call_file
+from packed_pool import call_file, words
 
 BIG = 0xffffffff
 POOL = ([1, 21, 0, 0], [0, 2, 0, 1])  # Bool, and the variable 1 at place 1
 GOOD = call_file(1, *POOL, place=1)
-
-
-def words(*numbers):
-    return struct.pack('<%dI' % len(numbers), *numbers)
 
 
 def cases():
@@ -21,7 +15,7 @@ def cases():
     yield 'file-word-short', None, GOOD[:-4]
     yield 'file-word-long', None, GOOD + bytes(4)
     yield 'file-larger-than-any', None, call_file(1, [0] * 9000, [0] * 9000) + bytes(40000)
-    for call in (0, 5, 256, BIG):
+    for call in (5, 256, BIG):
         yield 'file-call-%d' % call, None, call_file(call, *POOL, place=1)
     yield 'file-9001-tags', None, call_file(1, [1] + [0] * 9000, [], n=1)
     yield 'file-9001-values', None, call_file(1, [], [0] * 9001)

@@ -3,7 +3,7 @@
 
     compare_clauses.py ORACLE [CALLS] [--seed SEED] [--pools COUNT]
 
-ORACLE is as in compare_oracle.py; its `dump` also prints for each term at P of the pool
+ORACLE and CALLS are as in comparison.py; the dump has for each term at P of the pool
     nnf P POLARITY TERM        its normal form
     cnf P LITERAL .. | ..      its clauses; `stop` where an `or` without operands is reached, `big` where they are many
     taken P NAME:SORT ..       the variables taken out
@@ -12,22 +12,16 @@ The reference makes the same lines from the cells that calls 3 and 4 leave, so t
 Those are held to document 01's order here: the places reached from a normal form, operands first and left to right, give
 the new ones from the count on.
 
-CALLS is the program `calls`. Its output must be the reference's, cell by cell, on these pools, in arrays that the new
-terms fill, that are a cell too short and that are longer, near the limit on the count, and on damaged copies. Only calls that are BUILT
-(reference_program.py) are asked.
+The output of CALLS must be the reference's, cell by cell, on these pools, in arrays that the new terms fill, that are a cell too
+short and that are longer, near the limit on the count, and on damaged copies. Only calls that are BUILT (reference_program.py)
+are asked.
 """
-import argparse
-import os
-import random
-import struct
-import subprocess
-
 import reference
 import reference_clauses
-from compare_oracle import BATCH, Compared, DATA
+from comparison import BATCH, Compared, arguments, cells_of, test_files
 from packed_pool import OPERATOR_TAG, call_file, step_file
 from random_pools import RandomFormulas, RandomPool, damaged, near_limits
-from reference_program import BUILT, call_of, run
+from reference_program import run
 
 NEAR = 3  # pools near the limits to a batch
 TREE = 2000  # the Rust's texts of a term end here
@@ -94,16 +88,14 @@ def new_count(call, tags, values, t, polarity):
 class ComparedClauses(Compared):
     # ---- the reference with the Rust
     def dump_lines(self, tags, values):
-        done = subprocess.run([self.oracle, 'dump'], input=step_file(tags, values), capture_output=True, check=True,
-                              env={**os.environ, 'ORACLE_BIG': '100000'})
         lines = {}
-        for line in done.stdout.decode().splitlines():
+        for line in self.rust('dump', step_file(tags, values), 100000):
             words = line.split(' ', 3)
             key = words[:3] if words[0] == 'nnf' else words[:2]
             lines[' '.join(key)] = line
         return lines
 
-    def rust(self, tags, values, terms):
+    def terms(self, tags, values, terms):
         lines = self.dump_lines(tags, values)
         for t in terms:
             for polarity in (True, False):
@@ -154,24 +146,12 @@ class ComparedClauses(Compared):
 
     def test_files(self):
         """The pools of the test files."""
-        for path in sorted(DATA.glob('*.call')):
-            file = path.read_bytes()
-            if call_of(file) not in (3, 4) or not run(file).startswith(('0 ', '13 ', '31 ', '32 ')):
-                continue
-            _, t, _, n, place = struct.unpack('<5I', file[:20])
-            tags = list(struct.unpack('<%dI' % n, file[32:32 + 4 * n]))
-            values = list(struct.unpack('<%dI' % n, file[32 + 4 * t:32 + 4 * (t + n)]))
-            self.rust(tags, values, [place])
-            self.count['test files'] += 1
+        for _, file, n, place in test_files(3, 4):
+            if run(file).startswith(('0 ', '13 ', '31 ', '32 ')):
+                self.terms(*cells_of(file, n), [place])
+                self.count['test files'] += 1
 
     # ---- `calls` with the reference
-    def ask(self, files):
-        files = [file for file in files if call_of(file) in BUILT]
-        for file, text in zip(files, self.replay(files) if files else ()):
-            expected = run(file)
-            self.same('outputs of call %d, answer %s' % (call_of(file), expected.split()[0]), '\n'.join(text) + '\n',
-                      expected, struct.unpack('<%dI' % (len(file) // 4), file), 0)
-
     def files(self, rng, tags, values, t):
         """Calls on one term: at both polarities and the clause list, each in arrays of several lengths."""
         n = len(tags)
@@ -202,14 +182,9 @@ class ComparedClauses(Compared):
 
 
 def main():
-    parser = argparse.ArgumentParser()
-    parser.add_argument('oracle')
-    parser.add_argument('calls', nargs='?')
-    parser.add_argument('--seed', type=int, default=1)
-    parser.add_argument('--pools', type=int, default=3000)
-    options = parser.parse_args()
-    rng = random.Random(options.seed)
-    compared = ComparedClauses(options.oracle, options.calls)
+    options = arguments(with_calls=False)
+    compared = ComparedClauses(options)
+    rng = compared.rng
     compared.test_files()
     for start in range(0, options.pools, BATCH):
         pools = [(RandomPool if rng.random() < 0.1 else RandomFormulas)(rng, rng.choice((5, 10, 20, 40)))
@@ -217,7 +192,7 @@ def main():
         pools += [near_limits(rng) for _ in range(NEAR)]
         files = []
         for pool in pools:
-            compared.rust(pool.tags, pool.values, pool.terms)
+            compared.terms(pool.tags, pool.values, pool.terms)
             for t in rng.sample(pool.terms, min(4, len(pool.terms))):
                 files += compared.files(rng, pool.tags, pool.values, t)
             if len(pool.terms) > 1:
@@ -225,10 +200,7 @@ def main():
         files += compared.padded(rng, pools[0].tags, pools[0].values, rng.choice(pools[0].terms))
         if options.calls:
             compared.ask(files)
-    print('seed %d: %d pools and %d near the limits, no difference' % (
-        options.seed, options.pools, NEAR * -(-options.pools // BATCH)))
-    for what, count in sorted(compared.count.items()):
-        print('%8d %s' % (count, what))
+    compared.report('%d pools and %d near the limits, no difference' % (options.pools, NEAR * -(-options.pools // BATCH)))
 
 
 if __name__ == '__main__':

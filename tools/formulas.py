@@ -1,15 +1,16 @@
-"""Pools of formulas written as in SMT-LIB, and calls 3 and 4 on them with their whole output written down.
+"""Pools of formulas written as in SMT-LIB, and calls 0, 3 and 4 on them with their whole output written down.
 
     p = Formulas('(=> p (forall (x) x))')     p.root is its place
     p.read('(not p)')                         the place of another, which is added if it is missing
 
-Variables are one letter: i, j and k are of sort Int, f of sort Function(Bool, Bool), the others Bool. A binder has a list
-of variables, a let one of (variable value).
+Variables are one letter: i, j and k are of sort Int, f of sort Function(Bool, Bool), P, Q and R of sort Function(Int, Bool),
+the others Bool; x' is of the name x and of sort Int. A binder has a list of variables, a let one of (variable value).
 """
 from packed_pool import BINDER_TAG, Pool, call_file
 from reference_program import printed
 
 BIG = 0xffffffff
+WHOLE = 'the conclusion'
 OPERATOR = {'and': 'And', 'or': 'Or', 'not': 'Not', '=>': 'Implies', '=': 'Equals', 'ite': 'Ite', 'xor': 'Xor',
             'distinct': 'Distinct', 'true': 'True', 'false': 'False', 'cl': 'Cl', '<': 'LessThan', '+': 'Add'}
 
@@ -39,22 +40,23 @@ class Formulas(Pool):
     def read(self, text):
         return self.put(parsed(text))
 
-    def pair(self, letter):
-        if letter == 'f':
-            return ord(letter), self.sort('Function', 0, 0)
-        return ord(letter), self.integer if letter in 'ijk' else 0
+    def pair(self, word):
+        """The name and the sort of a variable."""
+        if word in 'fPQR':
+            return ord(word), self.sort('Function', 0 if word == 'f' else self.integer, 0)
+        return ord(word[0]), self.integer if word in 'ijk' or word.endswith("'") else 0
 
     def put(self, form):
         if isinstance(form, str):
             return self.constant('integer', int(form)) if form.isdigit() else self.var(*self.pair(form))
         head, *rest = form
         if head in BINDER_TAG:
-            return self.binder(head, self.put(rest[1]), [self.pair(letter) for letter in rest[0]])
+            return self.binder(head, self.put(rest[1]), [self.pair(word) for word in rest[0]])
         if head == 'let':
             pairs = [(ord(letter), self.put(value)) for letter, value in rest[0]]
             return self.let(self.put(rest[1]), pairs)
-        if head == 'f':
-            return self.app(self.put('f'), *map(self.put, rest))
+        if head in 'fPQR':
+            return self.app(self.put(head), *map(self.put, rest))
         return self.op(OPERATOR[head], *map(self.put, rest))
 
     def grow(self, texts):
@@ -62,6 +64,13 @@ class Formulas(Pool):
         for text in texts:
             end = len(self.tags)
             assert self.read(text) == end, (text, 'is not new, or its parts are')
+
+    def there(self, text):
+        """The place of a term that stands."""
+        end = len(self.tags)
+        place = self.read(text)
+        assert len(self.tags) == end, (text, 'is new')
+        return place
 
 
 def cells_after(pool, n, size):
@@ -117,3 +126,31 @@ def clausal_refused(name, text, answer, room=60, sizes=(8192, 2048)):
     given, left = cells_after(pool, n, n + room)
     return (name, (answer, 0, 0), call_file(4, *given, n, pool.root, 0, *sizes),
             printed((answer, 0, 0, 0), **left, literals=lent([], sizes[0]), ends=lent([], sizes[1])))
+
+
+def carried(pool, conclusion, code, position, what):
+    """What an answer carries, as a number: a number, a variable's name by its letter, WHOLE, or a term by its text."""
+    if isinstance(what, int):
+        return what
+    if code in (8, 9, 12) and position == 0:
+        return ord(what)
+    return conclusion if what == WHOLE else pool.there(what)
+
+
+def step_on(name, pool, conclusion, rule, code=0, *numbers, room=None):
+    """Call 0 on a pool, in arrays with so many cells past it: what they hold is left, and by rule 3 zeroed."""
+    n = len(pool.tags)
+    if room is None:
+        room = 60 if rule == 3 else 5
+    numbers = [carried(pool, conclusion, code, *item) for item in enumerate(numbers)]
+    answer = code, *numbers, *[0] * (2 - len(numbers))
+    given, left = cells_after(pool, n, n + room)
+    if rule != 3:
+        left = dict(zip(left, given))
+    return (name, answer, call_file(0, *given, n, rule, conclusion=[conclusion]), printed((*answer, 0), **left))
+
+
+def step(rule, name, text, code=0, *numbers, room=None):
+    """Call 0 on a conclusion."""
+    pool = Formulas(text)
+    return step_on('rule%d-%d-%s' % (rule, code, name), pool, pool.root, rule, code, *numbers, room=room)

@@ -8,12 +8,18 @@ import pathlib
 
 import cases_checks
 import cases_clauses
+import cases_clausification
+import cases_examples
 import cases_files
 import cases_free
+import cases_miniscope
 import cases_normal
+import cases_rules
 import cases_sorts
-from reference_program import BUILT, call_of, run
+from reference_program import is_tried, run
 
+CASES = (cases_files, cases_checks, cases_sorts, cases_free, cases_normal, cases_clauses, cases_rules, cases_miniscope,
+         cases_clausification, cases_examples)
 CRATE = pathlib.Path(__file__).resolve().parent.parent / 'crates' / 'calls'
 MISSING = 'no-such-file.call'
 
@@ -36,13 +42,13 @@ def main():
     for old in data.glob('*.call'):
         old.unlink()
     written, names, printed = set(), [], []
-    for cases in (cases_files, cases_checks, cases_sorts, cases_free, cases_normal, cases_clauses):
+    for cases in CASES:
         for name, answer, file, *more in cases.cases():
             assert name not in written, name
             written.add(name)
             (data / (name + '.call')).write_bytes(file)
             text = held(name, run(file), answer, *more)
-            if call_of(file) not in (3, 4) or call_of(file) in BUILT:
+            if is_tried(file):
                 names.append(name + '.call')
                 printed.append(names[-1] + ':\n' + text)
     names.append(MISSING)

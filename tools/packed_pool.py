@@ -78,12 +78,20 @@ def packed(*headers):
     return tags, values
 
 
-def call_file(call, tags, values, n=None, place=0, polarity=0, x=0, y=0):
-    """The bytes of a call file; n is all of the tags unless it is given."""
-    words = [call, len(tags), len(values), len(tags) if n is None else n, place, polarity, x, y, *tags, *values]
-    return struct.pack('<%dI' % len(words), *words)
+def words(*numbers):
+    """As little-endian u32."""
+    return struct.pack('<%dI' % len(numbers), *numbers)
 
 
-def step_file(tags, values):
-    """The same pool as a step file without steps, which the Rust reads."""
-    return struct.pack('<%dI' % (2 + 2 * len(tags)), len(tags), 0, *tags, *values)
+def call_file(call, tags, values, n=None, place=0, polarity=0, x=None, y=0, conclusion=()):
+    """The bytes of a call file; n is all of the tags unless it is given. Call 0 has its rule for the place and its
+    conclusion after the values: X is the number of these places unless it is given."""
+    n = len(tags) if n is None else n
+    x = len(conclusion) if x is None else x
+    return words(call, len(tags), len(values), n, place, polarity, x, y, *tags, *values, *conclusion)
+
+
+def step_file(tags, values, steps=()):
+    """A pool and steps (rule, place of the conclusion), which the Rust reads."""
+    rules, places = [rule for rule, _ in steps], [place for _, place in steps]
+    return words(len(tags), len(steps), *tags, *values, *rules, *places)

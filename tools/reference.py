@@ -281,9 +281,14 @@ def check(tags, values, n):
     return 0, 0, 0
 
 
+def is_term(tags, n, t):
+    """Of a pool that passes."""
+    return t < n and tags[t] >= 16
+
+
 def check_term(tags, values, n, t):
     answer = check(tags, values, n)
-    if answer[0] == 0 and (t >= n or tags[t] < 16):
+    if answer[0] == 0 and not is_term(tags, n, t):
         return 17, t, 0
     return answer
 

@@ -233,7 +233,7 @@ def clause_call(tags, values, n, t, literals, ends):
     return *answer, count
 
 
-def clause_answer(pool, t, room):
+def clause_answer(pool, t, room, most=(MOST_CLAUSES, MOST_LITERALS)):
     """31, 13 or 32, or the two totals; and the list."""
     form = taken_out(pool, normal_form(pool, t, True))
     if pool.count > room:
@@ -241,6 +241,6 @@ def clause_answer(pool, t, room):
     if empty_or(pool, form):
         return (13, 0, 0), []
     count, length = totals(pool, form)[form]
-    if count > MOST_CLAUSES or length > MOST_LITERALS:
+    if count > most[0] or length > most[1]:
         return (32, 0, 0), []
     return (0, count, length), clauses(pool, form)
