@@ -1,5 +1,5 @@
 -- What the functions of `check` promise each other.
--- Rests on pool's Check and on Step.
+-- Rests on headers' Description and on the struct `Answer`.
 use Prim.Native.Nat.{ℕ}
 use mathlib.Core.Path.{_≡_}
 use mathlib.Core.List.{List}
