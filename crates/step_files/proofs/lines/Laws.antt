@@ -1,0 +1,104 @@
+-- Laws of `StepFile` for the functions of `lines`.
+-- Assumes nothing.
+use Prim.Native.Nat.{ℕ, zero, suc, _+_, _-_, _*_, _≤_, _<_}
+use mathlib.Core.Path.{_≡_, refl, sym, ap, _∙_}
+use mathlib.Core.Bool.{Bool, true, false, not, _&&_, cond}
+use mathlib.Core.List.{List, [], _∷_, _++_}
+use lib.ListN.{length, take, drop, replicate, length-append, length-replicate}
+use lib.Seq.{take-at, length-take-le}
+use lib.Dec.{eqb}
+use native.Mathlib.Omega.{arith}
+use native.Mathlib.Numerals.{add-one}
+use Rattle.cells.specs.ByPlace.{by-test}
+use Rattle.headers.specs.Description.{zeroFrom}
+use Rattle.words.specs.Words.{wordAt, wordsFrom}
+use Rattle.words.proofs.Words.{length-words}
+use Rattle.sorts.specs.Table.{builtIn}
+use Rattle.pool.specs.Check.{checkPool}
+use Rattle.pool.specs.declared.Answer.{Answer}
+use Rattle.rules.specs.Step.{stepAnswer, cellsLeft, Step}
+use Rattle.step_files.specs.StepFile.{cellsFrom, cellCount, stepCount, fileTags, fileValues, answerTo, lines}
+use Rattle.step_files.specs.Steps.{noCells, Sized, Ready}
+use Rattle.step_files.specs.Text.{line, Put}
+use Rattle.step_files.proofs.text.Laws.{put-append}
+
+-- ---- the arrays
+drop-replicate : (m n : ℕ) → _≡_ {A = List ℕ} (drop m (replicate n 0)) (replicate (n - m) 0)
+drop-replicate zero n = let e : n - 0 ≡ n = omega arith in rw e
+drop-replicate (suc m) zero = let e : 0 - suc m ≡ 0 = omega arith in rw e
+drop-replicate (suc m) (suc n) = let e : suc n - suc m ≡ n - m = omega arith in rw e (drop-replicate m n)
+
+pub length-none : length noCells ≡ 8192
+unfolding noCells
+length-none = length-replicate {A = ℕ} 8192 0
+
+-- the part that a call reads into
+pub part-read : (n : ℕ) (cells : List ℕ) → cells ≡ noCells → n ≤ 8192 → n ≡ length (take n cells)
+part-read n cells e h = sym (length-take-le n cells (rw (e, length-none) h))
+
+-- an array whose first n cells are read
+pub cells-read : (bytes : List ℕ) (start n k : ℕ) (cells words : List ℕ) → cells ≡ noCells → words ≡ wordsFrom bytes start k → n ≡ k
+    → words ++ drop n cells ≡ cellsFrom bytes start n
+unfolding cellsFrom noCells
+cells-read bytes start n k cells words none e same = rw (e, ← same, none, drop-replicate n 8192)
+
+module _ (bytes : List ℕ) (start n : ℕ) (fits : n ≤ 8192) where
+  pub length-cells : length (cellsFrom bytes start n) ≡ 8192
+  unfolding cellsFrom
+  length-cells = rw (length-append, length-words, length-replicate) (omega arith)
+
+  -- past n there are zeroes already
+  cut-same : zeroFrom n (cellsFrom bytes start n) ≡ cellsFrom bytes start n
+  unfolding cellsFrom zeroFrom
+  cut-same =
+      let e : length (wordsFrom bytes start n ++ replicate (8192 - n) 0) - n ≡ 8192 - n =
+      rw (length-append, length-words, length-replicate) (omega arith) in
+      rw (e, take-at (wordsFrom bytes start n) (replicate (8192 - n) 0) n (length-words bytes start n))
+
+  -- so a step leaves them as they were
+  pub left-same : (tags values table : List ℕ) (rule : ℕ) (conclusion : List ℕ) (a : Answer)
+      → cellsLeft tags values table n rule conclusion a (cellsFrom bytes start n) ≡ cellsFrom bytes start n
+  unfolding cellsLeft
+  left-same tags values table rule conclusion a =
+      by-test (eqb rule 3 && not (eqb (a .code) 30)) (λ e. rw e cut-same) (λ e. rw e)
+
+pub made-ready : (bytes : List ℕ) (n steps room : ℕ) (checked : Answer) (tags values : List ℕ) → Sized bytes n steps room
+    → tags ≡ cellsFrom bytes 2 n → values ≡ cellsFrom bytes (2 + n) n → checked ≡ checkPool tags values builtIn n
+    → Ready bytes n steps room checked tags values
+made-ready bytes n steps room checked tags values sized t v c =
+    record { sized = sized; tags-are = t ∙ rw (sized .n-is); values-are = v ∙ rw (sized .n-is); checked-is = c }
+
+-- ---- one step
+module _ (bytes : List ℕ) (n steps room : ℕ) (checked : Answer) (tags₀ values₀ : List ℕ) (ready : Ready bytes n steps room checked tags₀ values₀)
+    (tags values : List ℕ) (same-tags : tags ≡ tags₀) (same-values : values ≡ values₀) where
+  pub checked-now : checked ≡ checkPool tags values builtIn n
+  checked-now = rw (same-tags, same-values) (ready .checked-is)
+
+  module _ (k i s rule place : ℕ) (i-is : i ≡ k) (s-is : s ≡ steps) (rule-is : rule ≡ wordAt bytes (2 + 2 * n + i))
+      (place-is : place ≡ wordAt bytes (2 + 2 * n + s + i)) (a : Answer) (tags′ values′ : List ℕ)
+      (step : Step tags values builtIn n rule (place ∷ []) a tags′ values′) where
+    pub answer-is : a ≡ answerTo bytes k
+    unfolding answerTo
+    answer-is = cc (step .answer, ready .tags-are, ready .values-are, ready .sized .n-is, ready .sized .steps-are)
+
+    pub tags-same : tags′ ≡ tags₀
+    tags-same = cc (step .tags-are, left-same bytes 2 n (ready .sized .n-fits) tags values builtIn rule (place ∷ []) a, ready .tags-are, ready .sized .n-is)
+
+    pub values-same : values′ ≡ values₀
+    values-same = cc (step .values-are, left-same bytes (2 + n) n (ready .sized .n-fits) tags values builtIn rule (place ∷ []) a, ready .values-are, ready .sized .n-is)
+
+-- ---- the lines
+pub lines-none : (bytes out : List ℕ) → Put (lines bytes 0) (44 * 0) 0 out 0 out
+unfolding lines
+lines-none bytes out = record { end = refl; short = omega arith; out-is = refl }
+
+module _ (bytes : List ℕ) (k : ℕ) (out₀ : List ℕ) (at : ℕ) (out : List ℕ) (so-far : Put (lines bytes k) (44 * k) 0 out₀ at out) where
+  pub lines-next : (a : Answer) (r : ℕ) (out′ : List ℕ) → a ≡ answerTo bytes k → Put (line (k + 1) a) 44 at out r out′
+      → Put (lines bytes (k + 1)) (44 * (k + 1)) 0 out₀ r out′
+  unfolding lines
+  lines-next a r out′ is p =
+      let e : 44 * suc k ≡ 44 * k + 44 = omega arith in
+      rw (add-one, e, ← is) (put-append so-far (rw add-one at p))
+
+  pub lines-all : (steps : ℕ) → k ≡ steps → steps ≤ 256 → Put (lines bytes steps) 11264 0 out₀ at out
+  lines-all steps e h = record { end = rw (← e) (so-far .end); short = rw (← e) (omega (arith, so-far .short)); out-is = rw (← e) (so-far .out-is) }

@@ -1,0 +1,110 @@
+use borrow.Author.Needs.{needs}
+use native.Mathlib.Omega.{arith}
+use Prim.Native.Nat.{_-_, _*_, _≤_}
+use mathlib.Core.Path.{_≡_, refl}
+use lib.ListN.{length}
+use Rattle.step_files.specs.StepFile.{lines}
+use Rattle.step_files.specs.Text.{Put}
+use Rattle.step_files.proofs.lines.Laws.{checked-now, answer-is, tags-same, values-same, lines-none, lines-next, lines-all}
+use Rattle.step_files.proofs.lines.put_lines.Statement.{statement}
+use Rattle.step_files.proofs.lines.put_lines.Tie as tie
+
+abbrev Inv-loop : tie.InvT-loop
+Inv-loop input checked tags₀ values₀ n steps out₀ rules places at₀ k₀ tags values out at k =
+    (tags ≡ tags₀) × (values ≡ values₀) × (k ≤ steps) × (length out ≡ length out₀) × Put (lines input k) (44 * k) 0 out₀ at out
+
+abbrev μ-loop : tie.MeasureT-loop
+μ-loop input checked tags₀ values₀ n steps out₀ rules places at₀ k₀ tags values out at k = steps - k
+
+mul-rules : tie.Need-mul-rules Inv-loop μ-loop
+mul-rules c = search needs
+
+add-rules : tie.Need-add-rules Inv-loop μ-loop
+add-rules c = search needs
+
+wide-requires : tie.Need-wide-requires Inv-loop μ-loop
+wide-requires c κs = search needs
+
+add-places : tie.Need-add-places Inv-loop μ-loop
+add-places c = search needs
+
+loop-holds : tie.Need-loop-holds Inv-loop μ-loop
+loop-holds c = (refl, refl, omega arith, refl, lines-none _ _)
+
+wide-requires-2 : tie.Need-wide-requires-2 Inv-loop μ-loop
+wide-requires-2 c κs = search needs
+
+add-word : tie.Need-add-word Inv-loop μ-loop
+add-word c = search needs
+
+word-requires : tie.Need-word-requires Inv-loop μ-loop
+word-requires c κs = search needs
+
+add-word-2 : tie.Need-add-word-2 Inv-loop μ-loop
+add-word-2 c = search needs
+
+word-requires-2 : tie.Need-word-requires-2 Inv-loop μ-loop
+word-requires-2 c κs = search needs
+
+slice-aggregate-check-after : tie.Need-slice-aggregate-check-after Inv-loop μ-loop
+slice-aggregate-check-after c = search needs
+
+check-after-requires : tie.Need-check-after-requires Inv-loop μ-loop
+check-after-requires c κs = search checked-now
+
+add-k : tie.Need-add-k Inv-loop μ-loop
+add-k c = search needs
+
+put-line-requires : tie.Need-put-line-requires Inv-loop μ-loop
+put-line-requires c κs = search needs
+
+loop-less : tie.Need-loop-less Inv-loop μ-loop
+loop-less c = search needs
+
+loop-again : tie.Need-loop-again Inv-loop μ-loop
+loop-again c = (
+  search tags-same,
+  search values-same,
+  omega arith,
+  omega arith,
+  lines-next _ _ _ _ _ (c .before .before .before .before .before .before .before .before .before .before .before .before .before .before .before .before .loop .inv .4) _ _ _ (search answer-is) (c .before .before .put-line .ensures),
+)
+
+same-length : tie.Need-same-length Inv-loop μ-loop
+same-length c = search needs
+
+same-length-2 : tie.Need-same-length-2 Inv-loop μ-loop
+same-length-2 c = search needs
+
+same-length-3 : tie.Need-same-length-3 Inv-loop μ-loop
+same-length-3 c = search needs
+
+returns : tie.Need-returns Inv-loop μ-loop
+returns c = (lines-all _ _ _ _ _ (c .before .loop .inv .4) _ (omega arith) (omega arith), (c .before .loop .inv .0, c .before .loop .inv .1))
+
+pub put-lines-spec : {M : Type 1} → statement M
+put-lines-spec =
+    tie.close
+    (tie.spec
+    Inv-loop
+    μ-loop
+    mul-rules
+    add-rules
+    wide-requires
+    add-places
+    loop-holds
+    wide-requires-2
+    add-word
+    word-requires
+    add-word-2
+    word-requires-2
+    slice-aggregate-check-after
+    check-after-requires
+    add-k
+    put-line-requires
+    loop-less
+    loop-again
+    same-length
+    same-length-2
+    same-length-3
+    returns)

@@ -1,0 +1,30 @@
+-- What the functions of `lines` ask of their arguments, and what a new array holds.
+-- Rests on StepFile and pool's Check.
+use Prim.Native.Nat.{ℕ, _≤_}
+use mathlib.Core.Path.{_≡_}
+use mathlib.Core.List.{List}
+use lib.ListN.{replicate}
+use Rattle.sorts.specs.Table.{builtIn}
+use Rattle.pool.specs.Check.{checkPool}
+use Rattle.pool.specs.declared.Answer.{Answer}
+use Rattle.step_files.specs.StepFile.{cellCount, stepCount, fileTags, fileValues}
+
+-- the cells before a file is read
+unfoldable pub noCells : List ℕ
+noCells = replicate 8192 0
+
+module _ (bytes : List ℕ) (n steps room : ℕ) where
+  -- n and steps are the file's N and R and in bounds, and there is room for the text
+  pub record Sized : Type 0 where
+    pub n-is : n ≡ cellCount bytes
+    pub steps-are : steps ≡ stepCount bytes
+    pub n-fits : n ≤ 8192
+    pub steps-fit : steps ≤ 256
+    pub text-fits : 11264 ≤ room
+
+  -- the arrays are the file's, and the pool check over them has answered `checked`
+  pub record Ready (checked : Answer) (tags values : List ℕ) : Type 0 where
+    pub sized : Sized
+    pub tags-are : tags ≡ fileTags bytes
+    pub values-are : values ≡ fileValues bytes
+    pub checked-is : checked ≡ checkPool tags values builtIn n

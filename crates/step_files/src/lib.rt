@@ -1,0 +1,35 @@
+// A step file from its bytes to the lines that answer it.
+mod lines;
+mod text;
+
+ghost use Rattle.step_files.specs.StepFile.{Answered};
+use lines::answer_steps;
+use lines::wide;
+use pool::Answer;
+use text::put_line;
+use words::word;
+
+// Writes the text that answers the file to the front of out, and says how many bytes that is. Nothing is written where out
+// has under 11,264 bytes.
+pub fn answer_file(input: &[u8], out: &mut [u8]) -> usize
+    ensures { λ r. ⌜ Answered (now (input .entry)) (now (out .entry)) r (now (out .exit)) ⌝ }
+{
+    if out.len() < 11264 {
+        return 0;
+    }
+    if input.len() < 8 {
+        return put_line(out, 0, 0, Answer::refused(14, 0, 0));
+    }
+    let n = word(input, 0);
+    let steps = word(input, 1);
+    if 8192 < n {
+        return put_line(out, 0, 0, Answer::refused(30, 0, 0));
+    }
+    if 256 < steps {
+        return put_line(out, 0, 0, Answer::refused(30, 0, 0));
+    }
+    if input.len() != 4 * (2 + 2 * wide(n) + 2 * wide(steps)) {
+        return put_line(out, 0, 0, Answer::refused(14, 0, 0));
+    }
+    answer_steps(input, wide(n), steps, out)
+}

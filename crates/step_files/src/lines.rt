@@ -1,0 +1,75 @@
+// The steps of a file of the right length, answered one after another over one pool.
+ghost use Prim.Native.Nat.{_≤_};
+ghost use mathlib.Core.Path.{_≡_};
+ghost use lib.ListN.{length};
+ghost use Rattle.step_files.specs.StepFile.{cellsFrom, lines};
+ghost use Rattle.step_files.specs.Steps.{noCells, Sized, Ready};
+ghost use Rattle.step_files.specs.Text.{Put};
+use crate::text::put_line;
+use pool::Answer;
+use pool::call::check_pool;
+use rules::check::check_after;
+use words::read_words;
+use words::word;
+
+pub fn wide(x: u32) -> usize
+    ensures { λ r. ⌜ r ≡ x ⌝ }
+{
+    x as usize
+}
+
+fn no_cells() -> [u32; 8192]
+    ensures { λ r. ⌜ r ≡ noCells ⌝ }
+{
+    [0; 8192]
+}
+
+// An array of n words of the file from position start on, and zeroes.
+fn cells_from(input: &[u8], start: usize, n: usize) -> [u32; 8192]
+    requires { ⌜ n ≤ 8192 ⌝ }
+    ensures { λ r. ⌜ r ≡ cellsFrom (now (input .entry)) start n ⌝ }
+{
+    let mut cells = no_cells();
+    read_words(input, start, &mut cells[..n]);
+    cells
+}
+
+// The line of every step, over the file's arrays and the answer of the pool check on them. Each step leaves the cells as they were.
+fn put_lines(
+    input: &[u8],
+    checked: Answer,
+    tags: &mut [u32],
+    values: &mut [u32],
+    n: usize,
+    steps: u32,
+    out: &mut [u8],
+) -> usize
+    requires { ⌜ Ready (now input) n steps (length (now out)) checked (now tags) (now values) ⌝ }
+    ensures { λ r. ⌜ Put (lines (now (input .entry)) steps) 11264 0 (now (out .entry)) r (now (out .exit)) ⌝ }
+    ensures { λ _. ⌜ (now (tags .exit) ≡ now (tags .entry)) × (now (values .exit) ≡ now (values .entry)) ⌝ }
+{
+    let rules = 2 + 2 * n;
+    let places = rules + wide(steps);
+    let mut at = 0;
+    let mut k = 0;
+    while k < steps {
+        let i = wide(k);
+        let rule = word(input, rules + i);
+        let conclusion = [word(input, places + i)];
+        let answer = check_after(checked, tags, values, n, rule, &conclusion);
+        k += 1;
+        at = put_line(out, at, k, answer);
+    }
+    at
+}
+
+// The pool is checked once.
+pub fn answer_steps(input: &[u8], n: usize, steps: u32, out: &mut [u8]) -> usize
+    requires { ⌜ Sized (now input) n steps (length (now out)) ⌝ }
+    ensures { λ r. ⌜ Put (lines (now (input .entry)) steps) 11264 0 (now (out .entry)) r (now (out .exit)) ⌝ }
+{
+    let mut tags = cells_from(input, 2, n);
+    let mut values = cells_from(input, 2 + n, n);
+    let checked = check_pool(&tags, &values, n);
+    put_lines(input, checked, &mut tags, &mut values, n, steps, out)
+}
