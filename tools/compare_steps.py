@@ -23,18 +23,20 @@ import struct
 
 import reference
 from comparison import BATCH, Compared, arguments, cells_of, loader_stops, test_files
-from packed_pool import OPERATOR_TAG, call_file, step_file
+from limit_steps import new_cells, padded
+from packed_pool import call_file, step_file
 from random_pools import damaged
 from random_steps import RandomSteps, near_step
-from reference_clauses import normal_form, taken_out
+from reference_clauses import AND, EQUALS, IMPLIES, ITE, NOT, OR
 from reference_program import run
-from reference_rules import RULES, Checked, Refused, check, clausification, rule_answer
+from reference_rules import RULES, Checked, check, rule_answer
 
 STEPS = 12  # to a pool
 NEAR = 2  # pools near the limits on clauses to a batch
 DAMAGED = 5  # pools of a batch of which a damaged copy is tried
 SIZE = 8192
 LARGEST = 0xffffffff
+USUAL = {NOT: (1,), IMPLIES: (2,), EQUALS: (2,), ITE: (3,), AND: range(2, LARGEST), OR: range(2, LARGEST)}
 NO_RULES = (0, 8, 255, 257, 65539, LARGEST)  # the Rust program has a rule 7
 
 
@@ -85,6 +87,8 @@ def features(pool, t):
         pairs = list(zip(cells[1::2], cells[2::2])) if pool.tag[p] in (23, 24, 25, 26) else []
         bound[p] = below | set(pairs)
         yield from {25: ['a choice'], 26: ['a lambda'], 27: ['a let']}.get(pool.tag[p], [])
+        if len(cells) not in USUAL.get(pool.tag[p], (len(cells),)):
+            yield 'a connective of an unusual number of operands'
         if len(set(pairs)) < len(pairs):
             yield 'a list that repeats a pair'
         if len({name for name, _ in pairs}) < len(set(pairs)):
@@ -97,25 +101,6 @@ def terms_in(pool, p):
     """The operands, body, function, arguments and let values of a term."""
     cells = pool.cells[p]
     return [c for kind, c in zip(reference.kinds_of(pool.tag[p], len(cells)), cells) if kind == 't']
-
-
-def new_cells(tags, values, t):
-    """The cells of the new terms of rule 3, or 0 where it is refused before they are asked for."""
-    pool = Checked(tags, values, len(tags))
-    try:
-        whole, _ = clausification(pool, t)
-    except Refused:
-        return 0
-    taken_out(pool, normal_form(pool, whole.body, True))
-    return pool.count - len(tags)
-
-
-def padded(pool, n):
-    """The arrays of a pool with one more term, so that they have n cells."""
-    more = n - len(pool.tags)
-    variable = pool.tags.index(21)
-    return (pool.tags + [OPERATOR_TAG['Cl']] + [0] * (more - 1),
-            pool.values + [more - 1, 0] + [variable] * (more - 2))
 
 
 class ComparedSteps(Compared):

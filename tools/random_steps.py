@@ -108,7 +108,10 @@ class RandomSteps(RandomFormulas):
         return ['Equals', [q, left, body], [q, self.kept(left, self.free[body]), body]]
 
     def cnf(self):
-        body = self.put(self.formula_form(2)) if self.rng.random() < 0.6 else self.leaf()
+        return self.clausified(self.put(self.formula_form(2)) if self.rng.random() < 0.6 else self.leaf())
+
+    def clausified(self, body):
+        """A step to one of the body's clauses, or to any term if there is none."""
         left = self.list_of()
         growing = Growing(self.tags, self.values, len(self.tags))
         _, clauses = clause_answer(growing, body, reference.LIMIT)

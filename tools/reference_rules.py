@@ -203,6 +203,12 @@ def step_answer(tags, values, n, rule, conclusion):
     answer = reference.check(tags, values, n)
     if answer[0]:
         return answer
+    return checked_answer(Checked(tags, values, n), rule, conclusion)
+
+
+def checked_answer(pool, rule, conclusion):
+    """18, 1 and 17, and then the rule."""
+    tags, _, n = pool.arrays
     if rule not in RULES:
         return 18, rule, 0
     if len(conclusion) != 1:
@@ -210,7 +216,7 @@ def step_answer(tags, values, n, rule, conclusion):
     t, = conclusion
     if not reference.is_term(tags, n, t):
         return 17, t, 0
-    return rule_answer(Checked(tags, values, n), rule, t)
+    return rule_answer(pool, rule, t)
 
 
 def rule_answer(pool, rule, t):
