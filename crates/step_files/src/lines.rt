@@ -57,8 +57,9 @@ fn put_lines(
         let rule = word(input, rules + i);
         let conclusion = [word(input, places + i)];
         let answer = check_after(checked, tags, values, n, rule, &conclusion);
-        k += 1;
-        at = put_line(out, at, k, answer);
+        let number = k + 1;
+        at = put_line(out, at, number, answer);
+        k = number;
     }
     at
 }

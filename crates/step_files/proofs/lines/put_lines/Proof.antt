@@ -52,8 +52,8 @@ slice-aggregate-check-after c = search needs
 check-after-requires : tie.Need-check-after-requires Inv-loop μ-loop
 check-after-requires c κs = search checked-now
 
-add-k : tie.Need-add-k Inv-loop μ-loop
-add-k c = search needs
+add-number : tie.Need-add-number Inv-loop μ-loop
+add-number c = search needs
 
 put-line-requires : tie.Need-put-line-requires Inv-loop μ-loop
 put-line-requires c κs = search needs
@@ -100,7 +100,7 @@ put-lines-spec =
     word-requires-2
     slice-aggregate-check-after
     check-after-requires
-    add-k
+    add-number
     put-line-requires
     loop-less
     loop-again
