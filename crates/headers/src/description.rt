@@ -1,4 +1,5 @@
 // Descriptions, a header's tag and cells: check 15, adding a term and cutting back.
+use crate::index;
 use cells::Found;
 use cells::run;
 ghost use mathlib.Core.Path.{_≡_};
@@ -43,8 +44,8 @@ fn repeats(tags: &[u32], values: &[u32], p: usize) -> bool
     }
 }
 
-// Check 15: the first header below n that repeats an earlier one.
-pub fn first_repeat(tags: &[u32], values: &[u32], n: usize) -> Found
+// The first header below n that repeats an earlier one, each compared with all before it.
+fn scan_repeats(tags: &[u32], values: &[u32], n: usize) -> Found
     ensures { λ r. ⌜ r ≡ firstRepeat (now (tags .entry)) (now (values .entry)) n ⌝ }
 {
     let mut p: usize = 0;
@@ -59,6 +60,18 @@ pub fn first_repeat(tags: &[u32], values: &[u32], n: usize) -> Found
         p += 1 + k;
     }
     Found::Nothing
+}
+
+// Check 15: the first header below n that repeats an earlier one. An index has room for 8,192 cells.
+pub fn first_repeat(tags: &[u32], values: &[u32], n: usize) -> Found
+    ensures { λ r. ⌜ r ≡ firstRepeat (now (tags .entry)) (now (values .entry)) n ⌝ }
+{
+    if 8192 < n {
+        return scan_repeats(tags, values, n);
+    }
+    let mut heads = [0u32; 4096];
+    let mut links = [0u32; 8192];
+    index::first_repeat(tags, values, n, &mut heads, &mut links)
 }
 
 // Whether there is no room after n for a header with k cells.

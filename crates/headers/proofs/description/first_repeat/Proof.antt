@@ -1,70 +1,34 @@
 use borrow.Author.Needs.{needs}
-use Rattle.headers.proofs.description.Laws.{walk}
-use mathlib.Core.Path.{_≡_}
-use Prim.Native.Nat.{_-_}
-use Rattle.cells.specs.Headers.{firstHeader, firstFrom}
-use Rattle.headers.specs.Description.{repeats, firstRepeat}
+use mathlib.Core.Path.{refl}
+use Rattle.headers.proofs.index.Laws.{index-start}
 use Rattle.headers.proofs.description.first_repeat.Statement.{statement}
 use Rattle.headers.proofs.description.first_repeat.Tie as tie
 
-abbrev Inv-loop : tie.InvT-loop
-Inv-loop tags values n p₀ p = firstRepeat tags values n ≡ firstFrom values n (repeats tags values) p
+scan-repeats-requires : tie.Need-scan-repeats-requires
+scan-repeats-requires c κs = search needs
 
-abbrev μ-loop : tie.MeasureT-loop
-μ-loop tags values n p₀ p = n - p
+returns : tie.Need-returns
+returns c = search needs
 
-loop-holds : tie.Need-loop-holds Inv-loop μ-loop
-unfolding firstRepeat firstHeader
-loop-holds c = search needs
+slice-aggregate-first-repeat : tie.Need-slice-aggregate-first-repeat
+slice-aggregate-first-repeat c = search needs
 
-repeats-requires : tie.Need-repeats-requires Inv-loop μ-loop
-repeats-requires c κs = search needs
+slice-aggregate-first-repeat-2 : tie.Need-slice-aggregate-first-repeat-2
+slice-aggregate-first-repeat-2 c = search needs
 
-returns : tie.Need-returns Inv-loop μ-loop
-returns c = search walk
+first-repeat-requires : tie.Need-first-repeat-requires
+first-repeat-requires c κs = (index-start _ _ 4096 8192 refl refl, search needs)
 
-cell-requires : tie.Need-cell-requires Inv-loop μ-loop
-cell-requires c κs = search needs
-
-cast-k : tie.Need-cast-k Inv-loop μ-loop
-cast-k c = search needs
-
-sub-if2 : tie.Need-sub-if2 Inv-loop μ-loop
-sub-if2 c = search needs
-
-returns-2 : tie.Need-returns-2 Inv-loop μ-loop
-returns-2 c = search walk
-
-add-p : tie.Need-add-p Inv-loop μ-loop
-add-p c = search needs
-
-add-p-2 : tie.Need-add-p-2 Inv-loop μ-loop
-add-p-2 c = search needs
-
-loop-less : tie.Need-loop-less Inv-loop μ-loop
-loop-less c = search needs
-
-loop-again : tie.Need-loop-again Inv-loop μ-loop
-loop-again c = search walk
-
-returns-3 : tie.Need-returns-3 Inv-loop μ-loop
-returns-3 c = search walk
+returns-2 : tie.Need-returns-2
+returns-2 c = search needs
 
 pub first-repeat-spec : {M : Type 1} → statement M
 first-repeat-spec =
     tie.close
     (tie.spec
-    Inv-loop
-    μ-loop
-    loop-holds
-    repeats-requires
+    scan-repeats-requires
     returns
-    cell-requires
-    cast-k
-    sub-if2
-    returns-2
-    add-p
-    add-p-2
-    loop-less
-    loop-again
-    returns-3)
+    slice-aggregate-first-repeat
+    slice-aggregate-first-repeat-2
+    first-repeat-requires
+    returns-2)

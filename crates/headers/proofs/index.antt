@@ -1,0 +1,2 @@
+-- Laws of the index.
+pub mod Laws
