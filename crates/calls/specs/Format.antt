@@ -1,24 +1,14 @@
 -- The layout of a call file, over the list of its bytes: u32 little-endian words, of which the first eight say what follows.
 --     call, T, V, N, rule or place, polarity, X, Y; then T tags and V values, and in a call 0 the X places of the conclusion
--- Rests on the struct `Head`.
-use Prim.Native.Nat.{ℕ, _+_, _*_, _≤_, _<_}
+-- Rests on words' Words and the struct `Head`.
+use Prim.Native.Nat.{ℕ, _+_, _*_, _≤_}
 use mathlib.Core.Path.{_≡_}
 use mathlib.Core.Bool.{Bool, _&&_, cond}
 use mathlib.Core.List.{List}
-use lib.ListN.{length, getD}
+use lib.ListN.{length}
 use lib.Dec.{leb, eqb}
+use Rattle.words.specs.Words.{wordAt}
 use Rattle.calls.specs.declared.call_file.Head.{Head}
-
--- the word at i, counted in words
-unfoldable pub wordAt : List ℕ → ℕ → ℕ
-wordAt bytes i =
-    getD bytes (4 * i) 0 + 256 * getD bytes (4 * i + 1) 0
-    + 65536 * getD bytes (4 * i + 2) 0 + 16777216 * getD bytes (4 * i + 3) 0
-
--- an array holds the words from position start on
-pub record Words (bytes : List ℕ) (start k : ℕ) (words : List ℕ) : Type 0 where
-  pub size : length words ≡ k
-  pub at : (i : ℕ) → i < k → getD words i 0 ≡ wordAt bytes (start + i)
 
 unfoldable pub headOf : List ℕ → Head
 headOf bytes =
@@ -43,9 +33,8 @@ isWhole bytes head =
     leb (head .tags) 9000 && (leb (head .values) 9000 && (leb (conclusionCount head) 9000
     && eqb (length bytes) (4 * (8 + head .tags + head .values + conclusionCount head))))
 
--- the same as facts
-pub record Whole (bytes : List ℕ) (head : Head) : Type 0 where
+-- the arrays' bounds as facts
+pub record Bounded (head : Head) : Type 0 where
   pub tags : head .tags ≤ 9000
   pub values : head .values ≤ 9000
   pub conclusion : conclusionCount head ≤ 9000
-  pub size : length bytes ≡ 4 * (8 + head .tags + head .values + conclusionCount head)

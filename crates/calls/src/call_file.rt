@@ -1,9 +1,8 @@
 // The layout of a call file: u32 little-endian words, of which the first eight are call, T, V, N, rule or place,
 // polarity, X and Y. T tags and V values follow, and in a call 0 the X places of the conclusion.
-ghost use Prim.Native.Nat.{_+_, _*_, _≤_, _<_};
 ghost use mathlib.Core.Path.{_≡_};
-ghost use lib.ListN.{length, getD};
-ghost use Rattle.calls.specs.Format.{wordAt, Words, headOf, conclusionCount, isWhole};
+ghost use Rattle.calls.specs.Format.{headOf, conclusionCount, isWhole};
+use words::word;
 
 // The words that the calls use: X is `lent`, the length of the conclusion, of the marks or of the literals, and Y is `ends`, that
 // of the clause ends.
@@ -18,32 +17,13 @@ pub struct Head {
     pub ends: usize,
 }
 
-fn byte(bytes: &[u8], i: usize) -> u32
-    requires { ⌜ i < length (now bytes) ⌝ }
-    ensures { λ r. ⌜ (r ≡ getD (now (bytes .entry)) i 0) × (r < 256) ⌝ }
-{
-    bytes[i] as u32
-}
-
 fn wide(x: u32) -> usize
     ensures { λ r. ⌜ r ≡ x ⌝ }
 {
     x as usize
 }
 
-// The word at i, counted in words.
-fn word(bytes: &[u8], i: usize) -> u32
-    requires { ⌜ 4 * i + 4 ≤ length (now bytes) ⌝ }
-    ensures { λ r. ⌜ r ≡ wordAt (now (bytes .entry)) i ⌝ }
-{
-    let at = 4 * i;
-    let low = byte(bytes, at) + 256 * byte(bytes, at + 1);
-    let high = byte(bytes, at + 2) + 256 * byte(bytes, at + 3);
-    low + 65536 * high
-}
-
 pub fn read_head(bytes: &[u8]) -> Head
-    requires { ⌜ 32 ≤ length (now bytes) ⌝ }
     ensures { λ r. ⌜ r ≡ headOf (now (bytes .entry)) ⌝ }
 {
     let call = word(bytes, 0);
@@ -91,16 +71,4 @@ pub fn is_whole(bytes: &[u8], head: Head) -> bool
         return false;
     }
     bytes.len() == 4 * (8 + head.tags + head.values + places)
-}
-
-// Fills out with the words from position start on.
-pub fn read_words(bytes: &[u8], start: usize, out: &mut [u32])
-    requires { ⌜ 4 * (start + length (now out)) ≤ length (now bytes) ⌝ }
-    ensures { λ _. ⌜ Words (now (bytes .entry)) start (length (now (out .entry))) (now (out .exit)) ⌝ }
-{
-    let mut i = 0;
-    while i < out.len() {
-        out[i] = word(bytes, start + i);
-        i += 1;
-    }
 }

@@ -3,10 +3,10 @@
 mod call_file;
 mod report;
 
-ghost use Prim.Native.Nat.{_+_, _*_, _≤_};
+ghost use Prim.Native.Nat.{_≤_};
 ghost use mathlib.Core.Path.{_≡_};
 ghost use lib.ListN.{length};
-ghost use Rattle.calls.specs.Format.{Whole};
+ghost use Rattle.calls.specs.Format.{Bounded};
 use call_file::Head;
 use libc::STDIN_FILENO;
 use libc::STDOUT_FILENO;
@@ -15,6 +15,7 @@ use normal_form::call::clause_list;
 use normal_form::call::normal_form;
 use pool::TermPlace;
 use rules::check::check;
+use words::read_words;
 
 fn bad_file() {
     io::write_all(STDOUT_FILENO, b"bad file\n");
@@ -48,20 +49,14 @@ fn file_bytes() -> [u8; 108033]
 }
 
 // Call 0 on arrays of the file's lengths.
-fn check_in(
-    bytes: &[u8],
-    head: Head,
-    tags: &mut [u32],
-    values: &mut [u32],
-    conclusion: &mut [u32],
-)
-    requires { ⌜ 4 * (8 + length (now tags) + length (now values) + length (now conclusion)) ≤ length (now bytes) ⌝ }
+fn check_in(bytes: &[u8], head: Head, tags: &mut [u32], values: &mut [u32], conclusion: &mut [u32])
+    requires { ⌜ (length (now tags) ≤ 9000) × (length (now values) ≤ 9000) ⌝ }
 {
     let t = tags.len();
     let v = values.len();
-    call_file::read_words(bytes, 8, tags);
-    call_file::read_words(bytes, 8 + t, values);
-    call_file::read_words(bytes, 8 + t + v, conclusion);
+    read_words(bytes, 8, tags);
+    read_words(bytes, 8 + t, values);
+    read_words(bytes, 8 + t + v, conclusion);
     let answer = check(tags, values, head.n, head.place, conclusion);
     report::answer(answer, 0);
     report::line(b"tags", tags);
@@ -69,7 +64,7 @@ fn check_in(
 }
 
 fn check_step(bytes: &[u8], head: Head)
-    requires { ⌜ Whole (now bytes) head ⌝ }
+    requires { ⌜ Bounded head ⌝ }
 {
     let t = head.tags;
     let v = head.values;
@@ -88,11 +83,11 @@ fn check_step(bytes: &[u8], head: Head)
 
 // Call 1 on arrays of the file's lengths.
 fn sort_in(bytes: &[u8], head: Head, tags: &mut [u32], values: &mut [u32])
-    requires { ⌜ 4 * (8 + length (now tags) + length (now values)) ≤ length (now bytes) ⌝ }
+    requires { ⌜ length (now tags) ≤ 9000 ⌝ }
 {
     let t = tags.len();
-    call_file::read_words(bytes, 8, tags);
-    call_file::read_words(bytes, 8 + t, values);
+    read_words(bytes, 8, tags);
+    read_words(bytes, 8 + t, values);
     let answer = pool::call::sort_of_term(tags, values, head.n, TermPlace(head.place));
     report::answer(answer, 0);
     report::line(b"tags", tags);
@@ -100,7 +95,7 @@ fn sort_in(bytes: &[u8], head: Head, tags: &mut [u32], values: &mut [u32])
 }
 
 fn sort(bytes: &[u8], head: Head)
-    requires { ⌜ Whole (now bytes) head ⌝ }
+    requires { ⌜ Bounded head ⌝ }
 {
     let t = head.tags;
     let v = head.values;
@@ -111,11 +106,11 @@ fn sort(bytes: &[u8], head: Head)
 
 // Call 2 on arrays of the file's lengths.
 fn free_vars_in(bytes: &[u8], head: Head, tags: &mut [u32], values: &mut [u32], marks: &mut [u8])
-    requires { ⌜ 4 * (8 + length (now tags) + length (now values)) ≤ length (now bytes) ⌝ }
+    requires { ⌜ length (now tags) ≤ 9000 ⌝ }
 {
     let t = tags.len();
-    call_file::read_words(bytes, 8, tags);
-    call_file::read_words(bytes, 8 + t, values);
+    read_words(bytes, 8, tags);
+    read_words(bytes, 8 + t, values);
     let answer = pool::call::free_vars(tags, values, head.n, TermPlace(head.place), marks);
     report::answer(answer, 0);
     report::line(b"tags", tags);
@@ -124,7 +119,7 @@ fn free_vars_in(bytes: &[u8], head: Head, tags: &mut [u32], values: &mut [u32], 
 }
 
 fn free_vars(bytes: &[u8], head: Head)
-    requires { ⌜ Whole (now bytes) head ⌝ }
+    requires { ⌜ Bounded head ⌝ }
 {
     let t = head.tags;
     let v = head.values;
@@ -147,11 +142,11 @@ fn free_vars(bytes: &[u8], head: Head)
 
 // Call 3 on arrays of the file's lengths.
 fn normal_in(bytes: &[u8], head: Head, tags: &mut [u32], values: &mut [u32])
-    requires { ⌜ 4 * (8 + length (now tags) + length (now values)) ≤ length (now bytes) ⌝ }
+    requires { ⌜ length (now tags) ≤ 9000 ⌝ }
 {
     let t = tags.len();
-    call_file::read_words(bytes, 8, tags);
-    call_file::read_words(bytes, 8 + t, values);
+    read_words(bytes, 8, tags);
+    read_words(bytes, 8 + t, values);
     let polarity = head.polarity != 0;
     let answer = normal_form(tags, values, head.n, TermPlace(head.place), polarity);
     report::answer(answer, 0);
@@ -160,7 +155,7 @@ fn normal_in(bytes: &[u8], head: Head, tags: &mut [u32], values: &mut [u32])
 }
 
 fn normal(bytes: &[u8], head: Head)
-    requires { ⌜ Whole (now bytes) head ⌝ }
+    requires { ⌜ Bounded head ⌝ }
 {
     let t = head.tags;
     let v = head.values;
@@ -186,17 +181,17 @@ fn clauses_in(
     literals: &mut [u32],
     ends: &mut [u32],
 )
-    requires { ⌜ 4 * (8 + length (now tags) + length (now values)) ≤ length (now bytes) ⌝ }
+    requires { ⌜ length (now tags) ≤ 9000 ⌝ }
 {
     let t = tags.len();
-    call_file::read_words(bytes, 8, tags);
-    call_file::read_words(bytes, 8 + t, values);
+    read_words(bytes, 8, tags);
+    read_words(bytes, 8 + t, values);
     let listed = clause_list(tags, values, head.n, TermPlace(head.place), literals, ends);
     report_list(listed, tags, values, literals, ends);
 }
 
 fn clauses(bytes: &[u8], head: Head)
-    requires { ⌜ Whole (now bytes) head ⌝ }
+    requires { ⌜ Bounded head ⌝ }
 {
     let t = head.tags;
     let v = head.values;

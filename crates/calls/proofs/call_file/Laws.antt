@@ -4,14 +4,12 @@ use Prim.Native.Nat.{ℕ, _+_, _*_, _≤_, _<_}
 use mathlib.Core.Path.{_≡_, refl, sym, _∙_}
 use mathlib.Core.Bool.{Bool, true, false, not, _&&_}
 use mathlib.Core.List.{List}
-use mathlib.Core.Logic.{⊎-elim}
-use lib.ListN.{length, getD, set}
-use lib.Seq.{getD-set-same, getD-set-other}
+use lib.ListN.{length}
 use lib.Dec.{leb, eqb}
 use native.Mathlib.Omega.{arith}
-use native.Mathlib.Nat.{eq-or-lt-of-le}
-use borrow.Author.Tests.{lt-leb, le-leb, leb-true, eqb-true, eq-eqb, ne-eqb, not-false}
-use Rattle.calls.specs.Format.{wordAt, headOf, conclusionCount, isWhole, Whole}
+use borrow.Author.Tests.{lt-leb, le-leb, leb-true, eq-eqb, ne-eqb, not-false}
+use Rattle.words.specs.Words.{wordAt}
+use Rattle.calls.specs.Format.{headOf, conclusionCount, isWhole, Bounded}
 use Rattle.calls.specs.declared.call_file.Head.{Head}
 
 -- ---- the lengths
@@ -39,13 +37,13 @@ module _ (bytes : List ℕ) (head : Head) where
       whole-size h = rw (le-leb _ _ t, le-leb _ _ v, ← is, le-leb _ _ h)
 
   -- what a call may count on
-  pub whole-is : (w : Bool) → w ≡ isWhole bytes head → not w ≡ false → Whole bytes head
+  pub whole-bounded : (w : Bool) → w ≡ isWhole bytes head → not w ≡ false → Bounded head
   unfolding isWhole
-  whole-is w is e =
+  whole-bounded w is e =
       let (t, rest) = both (leb (head .tags) 9000) _ (sym is ∙ not-false w e) in
       let (v, rest′) = both (leb (head .values) 9000) _ rest in
-      let (x, size) = both (leb (conclusionCount head) 9000) _ rest′ in
-      record { tags = leb-true _ _ t; values = leb-true _ _ v; conclusion = leb-true _ _ x; size = eqb-true _ _ size }
+      let (x, _) = both (leb (conclusionCount head) 9000) _ rest′ in
+      record { tags = leb-true _ _ t; values = leb-true _ _ v; conclusion = leb-true _ _ x }
 
 pub count-none : (head : Head) → (head .call ≡ 0 → ⊥) → 0 ≡ conclusionCount head
 unfolding conclusionCount
@@ -58,16 +56,6 @@ count-some head e = rw (eq-eqb _ _ e)
 pub ruleset counts = (count-none, count-some)
 
 pub ruleset whole = (whole-tags, whole-values, whole-places, whole-size)
-
--- ---- words
-pub words-next : (bytes : List ℕ) (start i : ℕ) (out : List ℕ) (w : ℕ) → w ≡ wordAt bytes (start + i) → i < length out
-    → ((j : ℕ) → j < i → getD out j 0 ≡ wordAt bytes (start + j))
-    → (j : ℕ) → j < i + 1 → getD (set out i w) j 0 ≡ wordAt bytes (start + j)
-words-next bytes start i out w e h before j less =
-    ⊎-elim
-    (λ q. rw q (getD-set-same out i w 0 h ∙ e))
-    (λ l. getD-set-other out i j w 0 (λ q. omega arith) ∙ before j l)
-    (eq-or-lt-of-le (omega arith))
 
 -- ---- the first words
 pub head-read : (bytes : List ℕ) (k t v n p q x y t' v' n' x' y' : ℕ) → k ≡ wordAt bytes 0 → t' ≡ wordAt bytes 1 → v' ≡ wordAt bytes 2

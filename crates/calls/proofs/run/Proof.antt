@@ -1,4 +1,4 @@
-use Rattle.calls.proofs.call_file.Laws.{whole-is}
+use Rattle.calls.proofs.call_file.Laws.{whole-bounded}
 use borrow.Author.Needs.{needs}
 use Rattle.calls.proofs.run.Statement.{statement}
 use Rattle.calls.proofs.run.Tie as tie
@@ -30,19 +30,19 @@ returns-2 : tie.Need-returns-2
 returns-2 c = search needs
 
 check-step-requires : tie.Need-check-step-requires
-check-step-requires c κs = search whole-is
+check-step-requires c κs = search whole-bounded
 
 sort-requires : tie.Need-sort-requires
-sort-requires c κs = search whole-is
+sort-requires c κs = search whole-bounded
 
 free-vars-requires : tie.Need-free-vars-requires
-free-vars-requires c κs = search whole-is
+free-vars-requires c κs = search whole-bounded
 
 normal-requires : tie.Need-normal-requires
-normal-requires c κs = search whole-is
+normal-requires c κs = search whole-bounded
 
 clauses-requires : tie.Need-clauses-requires
-clauses-requires c κs = search whole-is
+clauses-requires c κs = search whole-bounded
 
 bad-file-requires-3 : tie.Need-bad-file-requires-3
 bad-file-requires-3 c κs = search needs
