@@ -81,14 +81,23 @@ module _ (links : List ℕ) (test : ℕ → Bool) (s : PointsBack links) where
       pub chain-here : r ≡ true → true ≡ w
       chain-here e = rw (first-of, e)
 
-      -- the measure
-      pub chain-less : (d : ℕ) → d ≡ getD links (x - 1) 0 → d < c
-      chain-less d q = omega (arith, s .back (x - 1))
-
       pub chain-next : r ≡ false → (d : ℕ) → d ≡ getD links (x - 1) 0 → w ≡ onChain links test d
       chain-next e d q = rw (first-of, e, q)
 
-pub ruleset chains = (chain-end, chain-here, chain-less, chain-next)
+pub ruleset chains = (chain-end, chain-here, chain-next)
+
+-- a link of a place below c stays below c: the measure
+module _ (c : ℕ) where
+  pub place-less : (x : ℕ) → 0 < c → x ≡ c → x - 1 < c
+  place-less x h e = omega arith
+
+  pub link-less : (links : List ℕ) (u d : ℕ) → PointsBack links → d ≡ getD links u 0 → u < c → d < c
+  link-less links u d s e h = omega (arith, s .back u)
+
+  pub index-less : (u d : ℕ) → u ≡ d → d < c → u < c
+  index-less u d e h = omega arith
+
+pub ruleset descent = (place-less, link-less, index-less)
 
 -- a chain from c depends on the links below c alone
 module _ (links links′ : List ℕ) (test : ℕ → Bool) (s : PointsBack links) (p : ℕ) (same : (q : ℕ) → q < p → getD links′ q 0 ≡ getD links q 0) where

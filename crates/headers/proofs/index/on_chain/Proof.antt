@@ -1,5 +1,5 @@
 use borrow.Author.Needs.{needs}
-use Rattle.headers.proofs.index.Laws.{chains}
+use Rattle.headers.proofs.index.Laws.{chains, descent}
 use mathlib.Core.Path.{_≡_}
 use Rattle.cells.specs.Cell.{isAt}
 use Rattle.headers.specs.Index.{onChain}
@@ -32,7 +32,7 @@ cell-requires : tie.Need-cell-requires Inv-loop μ-loop
 cell-requires c κs = search needs
 
 loop-less : tie.Need-loop-less Inv-loop μ-loop
-loop-less c = search chains
+loop-less c = search descent
 
 loop-again : tie.Need-loop-again Inv-loop μ-loop
 loop-again c = search chains
