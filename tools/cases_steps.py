@@ -69,7 +69,8 @@ def without():
 # ---- the checks before the rule
 def bad_pools():
     for name, headers, code, place in (
-            ('14-header', [[1], [21, 0, 1], [14, 0]], 14, 4), ('14-no-bool', [[2]], 14, 0), ('14-later-place', [[1], [34, 0, 1]], 14, 1),
+            ('14-header', [[1], [21, 0, 1], [14, 0]], 14, 4), ('14-no-bool', [[2]], 14, 0),
+            ('14-later-place', [[1], [34, 0, 1]], 14, 1),
             ('15', [[1], [21, 0, 1], [21, 0, 1]], 15, 4), ('16', [[1], [2], [36, 1]], 16, 2),
             ('14-before-15-and-16', [[1], [2], [36, 1], [36, 1], [14]], 14, 6), ('15-before-16', [[1], [2], [36, 1], [36, 1]], 15, 4)):
         answered = [(rule, 1, code, place, 0) for rule in (7, 0, BIG, 1, 2, 3, 4, 5, 6)] + [(1, BIG, code, place, 0)]

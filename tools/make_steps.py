@@ -120,16 +120,16 @@ class Files:
         (data / 'COUNTS.txt').write_text('\n'.join(self.counts()) + '\n')
 
     def differences(self):
-        yield 'Steps of these files on which the Rust and document 01 part. ../stdout has document 01\'s answer. Headers with trouble are'
-        yield 'none of the Rust\'s rules but its loader\'s: files on pools that are refused with 14, 15 or 16 are not listed.'
+        yield 'Steps of these files on which the Rust and document 01 part. ../stdout has document 01\'s answer. Headers with'
+        yield 'trouble are the loader\'s in the Rust: files on pools that are refused with 14, 15 or 16 are not listed.'
         yield ''
         for row in (('file', 'step', 'rule', 'document 01', 'the Rust', 'why'), *self.apart):
             yield '%-28s %5s %5s  %-12s %-18s %s' % row
 
     def counts(self):
         total = sum((self.by_hand + self.random).values())
-        yield '%d steps on pools that pass their checks: %d have the Rust\'s answer, %d are in DIFFERENCES.txt, %d have rule code 7.' % (
-            total, total - len(self.apart) - self.unasked, len(self.apart), self.unasked)
+        yield '%d steps on pools that pass their checks: %d have the Rust\'s answer, %d are in DIFFERENCES.txt, %d have rule code 7.' \
+            % (total, total - len(self.apart) - self.unasked, len(self.apart), self.unasked)
         yield 'By the check of the rule at which they end, the code first; with answers written by hand, and random:'
         yield from ('%6d %6d  %s' % (self.by_hand[label], self.random[label], label) for label in SITES)
         yield 'With:'

@@ -17,7 +17,8 @@ STEPS = [
     (1, join('x', 'y', 'x y'), '0 accepted'),
     (3, 'p', '2 wrong form: the conclusion is not of the form (or (not (forall L phi)) (forall M clause))'),
     (4, '(= (forall (x) (and x p)) (and (forall (x) x) p))', '2 wrong form: the operand @{p} v112 is no forall'),
-    (2, '(= (choice (x) x) p)', '3 no quantifier: forall or exists is wanted, and there is @{(choice (x) x)} (choice ((v120 Bool)) v120)'),
+    (2, '(= (choice (x) x) p)',
+     '3 no quantifier: forall or exists is wanted, and there is @{(choice (x) x)} (choice ((v120 Bool)) v120)'),
     (1, '(= (forall (x) (exists (y) p)) (forall (x y) p))', '4 other quantifier: forall against exists'),
     (3, '(or (not (exists (x) p)) (forall (x) p))', '4 other quantifier: forall is wanted, and there is exists'),
     (2, '(= (forall (x) p) (forall () (not p)))', '5 terms differ: @{p} v112 and @{(not p)} (not v112)'),
@@ -108,7 +109,8 @@ class ReadSteps(unittest.TestCase):
                  for body in bodies]
         last = [told(of_pool(pool, step))[-1].strip() for step in steps]
         self.assertEqual(last[0], '32 too many clauses or literals: the left body @%d has 4096 clauses and 4096 literals' % bodies[0])
-        self.assertRegex(last[1], '^31 no room for the new terms: [0-9]+ cells are new, and %d of 8192 are left$' % (8192 - len(pool.tags)))
+        self.assertRegex(last[1], '^31 no room for the new terms: [0-9]+ cells are new, and %d of 8192 are left$' % (
+            8192 - len(pool.tags)))
         self.assertRegex(last[2], '^32 .* has over 2.40 clauses and over 2.40 literals$')
 
     def test_every_code_is_told(self):
