@@ -167,6 +167,8 @@ def hostile_files():
     yield 'a full pool, every rule', [step_file(tags, values, (known * 2)[:MOST_STEPS])]
     yield 'a full pool of variables', [of_variables()]
     yield 'long lists, every variable free', [long_lists(980)]
+    yield 'long lists, no variable free in a shared body', [lists_over_shared(900)]
+    yield 'a long right list, taken out far below', [taken_out_below(1800)]
     yield 'a long join', [long_join(1300)]
     yield 'many variables taken out', [many_taken_out(450)]
 
@@ -189,6 +191,23 @@ def long_lists(count):
     body = pool.op('Or', *(pool.var(*pair) for pair in pairs))
     left, right = pool.binder('forall', body, pairs), pool.binder('forall', body, pairs[::-1])
     return whole(pool, [(2, pool.op('Equals', left, right))])
+
+
+def lists_over_shared(count):
+    """Each pair of the list is looked for through the whole of a doubled term."""
+    pool, term = chain(lambda s, t: s.op('And', t, t), 4000)
+    pool.var(3)
+    pairs = [(3, 0)] * count
+    operand = pool.op('Or', term)
+    return whole(pool, [(2, pool.op('Equals', pool.binder('forall', term, pairs), term)),
+                        (5, pool.op('Equals', pool.binder('forall', operand, pairs), operand))])
+
+
+def taken_out_below(count):
+    """Each pair of the right list is bound by a forall below all else."""
+    pool, term = chain(lambda s, t: s.op('And', t), 2000, lambda s: s.binder('forall', s.p, [(2, 0)]))
+    left = pool.op('Not', pool.binder('forall', term, []))
+    return whole(pool, [(3, pool.op('Or', left, pool.binder('forall', pool.p, [(2, 0)] * count)))])
 
 
 def long_join(count):

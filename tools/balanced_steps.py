@@ -1,7 +1,7 @@
 """Random steps of which only those are kept that end at a check with room left, so that seldom ends come up as often as others.
 
     p = BalancedSteps(rng, size, cells, wanted)     a pool of about so many cells, and p.steps, pairs of a rule and a place
-    wanted(site, step)                              asked of each step (sites.py); one that is not wanted leaves no cell
+    wanted(site)                                    asked of each step (sites.py); one that is not wanted leaves no cell
 """
 from packed_pool import BINDER_TAG, NoAnswer
 from random_pools import NAMES
@@ -21,7 +21,7 @@ class BalancedSteps(RandomSteps):
             if start >= cells:
                 break
             step = self.tried()
-            if step is None or not wanted(self.site(step), step):
+            if step is None or not wanted(self.site(step)):
                 self.cut_back(start)
             else:
                 self.steps.append(step)

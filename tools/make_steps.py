@@ -148,7 +148,7 @@ def mixed(rng):
     """Files until every check has its steps."""
     count, k = collections.Counter(), 0
 
-    def wanted(label, step):
+    def wanted(label):
         fits = count[label] < (ACCEPTED if ': 0' in label else REFUSED)
         count[label] += fits
         return fits

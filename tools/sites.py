@@ -14,7 +14,7 @@ BOTH = [(KIND[tag], KIND[FORALL + EXISTS - tag]) for tag in KIND]
 
 
 def other_sort(pairs, name):
-    """8 of a name that the pairs have as well: then its sort is another, or, in rule 5, it is used up."""
+    """8 of a name that the pairs have under another sort."""
     return ', a name of the left list' if name in [known for known, _ in pairs] else ''
 
 
