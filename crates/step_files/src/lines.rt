@@ -12,7 +12,7 @@ use rules::check::check_after;
 use words::read_words;
 use words::word;
 
-pub fn wide(x: u32) -> usize
+pub(crate) fn wide(x: u32) -> usize
     ensures { λ r. ⌜ r ≡ x ⌝ }
 {
     x as usize
@@ -65,7 +65,7 @@ fn put_lines(
 }
 
 // The pool is checked once.
-pub fn answer_steps(input: &[u8], n: usize, steps: u32, out: &mut [u8]) -> usize
+pub(crate) fn answer_steps(input: &[u8], n: usize, steps: u32, out: &mut [u8]) -> usize
     requires { ⌜ Sized (now input) n steps (length (now out)) ⌝ }
     ensures { λ r. ⌜ Put (lines (now (input .entry)) steps) 11264 0 (now (out .entry)) r (now (out .exit)) ⌝ }
 {

@@ -47,7 +47,7 @@ fn put_field(out: &mut [u8], at: usize, n: u32, after: u8) -> usize
 }
 
 // The line of a step's number and answer.
-pub fn put_line(out: &mut [u8], at: usize, number: u32, answer: Answer) -> usize
+pub(crate) fn put_line(out: &mut [u8], at: usize, number: u32, answer: Answer) -> usize
     requires { ⌜ at + 44 ≤ length (now out) ⌝ }
     ensures { λ r. ⌜ Put (line number answer) 44 at (now (out .entry)) r (now (out .exit)) ⌝ }
 {
