@@ -8,9 +8,9 @@ use mathlib.Core.List.{List, [], _∷_}
 use lib.ListN.{length, getD, take}
 use lib.Seq.{getD-take, take-take}
 use native.Mathlib.Omega.{arith}
-use Rattle.headers.specs.Description.{zeroFrom}
-use Rattle.headers.proofs.description.Fills.{well-formed-fills}
-use Rattle.pool.proofs.tree.Passed.{Passed}
+use Rattle.descriptions.specs.Description.{zeroFrom}
+use Rattle.descriptions.proofs.description.Fills.{well-formed-fills}
+use Rattle.term_trees.proofs.Passed.{Passed}
 use Rattle.formulas.specs.Normal.{prenex}
 use Rattle.formulas.specs.Built.{Pool, Placed, count, normalForm, normalAt, takenOut}
 use Rattle.building.specs.declared.build.Built.{Built}

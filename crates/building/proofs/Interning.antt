@@ -12,13 +12,13 @@ use native.Mathlib.Numerals.{add-one}
 use borrow.Author.Tests.{eq-eqb}
 use Rattle.cells.specs.Cell.{cellsOf, isAt}
 use Rattle.cells.specs.Headers.{firstFrom}
-use Rattle.headers.specs.Description.{find}
+use Rattle.descriptions.specs.Description.{find}
 use Rattle.cells.specs.declared.Found.{Found}
 use Rattle.cells.specs.declared.Found.the-variants.{At, Nothing}
 use Rattle.cells.proofs.Cells.{same-refl}
 use Rattle.cells.proofs.Walks.{first-here, first-below}
-use Rattle.headers.proofs.description.Fills.{Fills, filled, more, orElse, fills-grown}
-use Rattle.headers.proofs.description.Growth.{Same, find-grown}
+use Rattle.descriptions.proofs.description.Fills.{Fills, filled, more, orElse, fills-grown}
+use Rattle.descriptions.proofs.description.Growth.{Same, find-grown}
 use Rattle.formulas.specs.Normal.{Normal, Normals, lit, nmany, nall, nnil, ncons}
 use Rattle.formulas.specs.Built.{Pool, Placed, PlacedAll, count, extend, placeAt, put, tagOfMany, tagOfQuantifier, intern, interns}
 use Rattle.building.specs.Walk.{Stands, StandAll}

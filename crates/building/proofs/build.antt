@@ -2,3 +2,4 @@
 pub mod Laws
 pub mod Building
 pub mod Walks
+pub mod Indexing

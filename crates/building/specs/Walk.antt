@@ -8,7 +8,8 @@ use mathlib.Core.List.{List, map}
 use lib.ListN.{length, getD, take, drop}
 use lib.Dec.{ltb}
 use Rattle.cells.specs.Cell.{operandsOf}
-use Rattle.headers.proofs.description.Fills.{Fills}
+use Rattle.descriptions.specs.Index.{Index}
+use Rattle.descriptions.proofs.description.Fills.{Fills}
 use Rattle.building.specs.declared.build.Built.{Built}
 use Rattle.building.specs.declared.build.Built.the-variants.{At, Full}
 use Rattle.formulas.specs.Normal.{Normal, Normals, pair, nnf, prenex}
@@ -48,6 +49,11 @@ Outcome lim size o Full tags values = fits (o .pool) size ≡ false
 pub record Puts (lim : ℕ) (tags values : List ℕ) (o : Placed) (r : Built) (tags′ values′ : List ℕ) : Type 0 where
   pub outcome : Outcome lim (length tags) o r tags′ values′
   pub left : Left lim tags values tags′ values′
+
+-- the index of the pool that a call leaves; a refusal leaves any
+abbrev pub Indexed : Built → List ℕ → List ℕ → List ℕ → Type 0
+Indexed (At p m) tags values index = Index tags values m index
+Indexed Full tags values index = Unit {0}
 
 -- the first k cells of the scratch are these
 pub record Cells (cells : List ℕ) (k : ℕ) (scratch : List ℕ) : Type 0 where

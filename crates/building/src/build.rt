@@ -1,9 +1,10 @@
 // Putting terms into the pool.
 use pool::description::Added;
-use pool::description::add;
+use pool::index::add;
 ghost use Rattle.formulas.specs.Built.{put};
 ghost use Rattle.building.specs.Arrays.{poolOf};
-ghost use Rattle.building.specs.Walk.{State, Puts};
+ghost use Rattle.descriptions.specs.Index.{Index};
+ghost use Rattle.building.specs.Walk.{State, Indexed, Puts};
 
 // Where a term that was built stands, with the new count; or no room.
 pub enum Built {
@@ -12,11 +13,20 @@ pub enum Built {
 }
 
 // Puts a description into the pool of n cells: where it stands already, nothing changes.
-pub(crate) fn put(tags: &mut [u32], values: &mut [u32], n: usize, tag: u32, cells: &[u32]) -> Built
+pub(crate) fn put(
+    tags: &mut [u32],
+    values: &mut [u32],
+    index: &mut [u32; 12288],
+    n: usize,
+    tag: u32,
+    cells: &[u32],
+) -> Built
     requires { ⌜ State n n (now tags) (now values) ⌝ }
+    requires { ⌜ Index (now tags) (now values) n (now index) ⌝ }
     ensures { λ r. ⌜ Puts n (now (tags .entry)) (now (values .entry)) (put (poolOf (now (tags .entry)) (now (values .entry)) n) tag (now (cells .entry))) r (now (tags .exit)) (now (values .exit)) ⌝ }
+    ensures { λ r. ⌜ Indexed r (now (tags .exit)) (now (values .exit)) (now (index .exit)) ⌝ }
 {
-    let added = add(tags, values, 8192, n, tag, cells);
+    let added = add(tags, values, index, n, tag, cells);
     match added {
         Added::There(p) => Built::At(p as u32, n),
         Added::New(p, m) => Built::At(p as u32, m),

@@ -16,7 +16,8 @@ ghost use lib.ListN.{length, getD, drop};
 ghost use Rattle.formulas.specs.Normal.{flip, lit, pair};
 ghost use Rattle.formulas.specs.Built.{put, tagOfMany, tagOfQuantifier, intern, normalForm};
 ghost use Rattle.building.specs.Arrays.{poolOf};
-ghost use Rattle.building.specs.Walk.{State, Puts, Cells, slotOf, placesIn, normal, normalOf, runOf, Ready, Formed, Known, OperandsKnown, Before, AllBelow, twoPairs, NormalBuilt};
+ghost use Rattle.descriptions.specs.Index.{Index};
+ghost use Rattle.building.specs.Walk.{State, Indexed, Puts, Cells, slotOf, placesIn, normal, normalOf, runOf, Ready, Formed, Known, OperandsKnown, Before, AllBelow, twoPairs, NormalBuilt};
 
 // The place of a term, and a polarity.
 struct Signed(u32, bool);
@@ -110,6 +111,7 @@ pub(crate) fn put_many(
     values: &mut [u32],
     memo: &[u32],
     scratch: &mut [u32],
+    index: &mut [u32; 12288],
     lim: usize,
     n: usize,
     t: u32,
@@ -119,12 +121,14 @@ pub(crate) fn put_many(
     requires { ⌜ State lim n (now tags) (now values) ⌝ }
     requires { ⌜ 8192 ≤ length (now scratch) ⌝ }
     requires { ⌜ t < lim ⌝ }
+    requires { ⌜ Index (now tags) (now values) n (now index) ⌝ }
     ensures { λ r. ⌜ Puts n (now (tags .entry)) (now (values .entry)) (put (poolOf (now (tags .entry)) (now (values .entry)) n) (tagOfMany (flip b polarity)) (0 ∷ placesIn (now (memo .entry)) polarity (runOf lim (now (tags .entry)) (now (values .entry)) t))) r (now (tags .exit)) (now (values .exit)) ⌝ }
+    ensures { λ r. ⌜ Indexed r (now (tags .exit)) (now (values .exit)) (now (index .exit)) ⌝ }
 {
     let run = operands(&tags[..lim], &values[..lim], TermPlace(t));
     let k = gather(run, memo, scratch, polarity);
     let tag = tag_of_many(flip(b, polarity));
-    put(tags, values, n, tag, &scratch[..k])
+    put(tags, values, index, n, tag, &scratch[..k])
 }
 
 // Puts the quantifier of the term at t over its body's form.
@@ -132,6 +136,7 @@ fn put_quantifier(
     tags: &mut [u32],
     values: &mut [u32],
     scratch: &mut [u32],
+    index: &mut [u32; 12288],
     lim: usize,
     n: usize,
     t: u32,
@@ -142,34 +147,55 @@ fn put_quantifier(
     requires { ⌜ State lim n (now tags) (now values) ⌝ }
     requires { ⌜ 8192 ≤ length (now scratch) ⌝ }
     requires { ⌜ t < lim ⌝ }
+    requires { ⌜ Index (now tags) (now values) n (now index) ⌝ }
     ensures { λ r. ⌜ Puts n (now (tags .entry)) (now (values .entry)) (put (poolOf (now (tags .entry)) (now (values .entry)) n) (tagOfQuantifier (flip b polarity)) (0 ∷ body ∷ drop 1 (runOf lim (now (tags .entry)) (now (values .entry)) t))) r (now (tags .exit)) (now (values .exit)) ⌝ }
+    ensures { λ r. ⌜ Indexed r (now (tags .exit)) (now (values .exit)) (now (index .exit)) ⌝ }
 {
     let run = operands(&tags[..lim], &values[..lim], TermPlace(t));
     let k = gather_pairs(run, body, scratch);
     let tag = tag_of_quantifier(flip(b, polarity));
-    put(tags, values, n, tag, &scratch[..k])
+    put(tags, values, index, n, tag, &scratch[..k])
 }
 
 // Puts a connective of two operands.
-fn put_pair(tags: &mut [u32], values: &mut [u32], n: usize, b: bool, p: u32, q: u32) -> Built
+fn put_pair(
+    tags: &mut [u32],
+    values: &mut [u32],
+    index: &mut [u32; 12288],
+    n: usize,
+    b: bool,
+    p: u32,
+    q: u32,
+) -> Built
     requires { ⌜ State n n (now tags) (now values) ⌝ }
+    requires { ⌜ Index (now tags) (now values) n (now index) ⌝ }
     ensures { λ r. ⌜ Puts n (now (tags .entry)) (now (values .entry)) (put (poolOf (now (tags .entry)) (now (values .entry)) n) (tagOfMany b) (0 ∷ p ∷ q ∷ [])) r (now (tags .exit)) (now (values .exit)) ⌝ }
+    ensures { λ r. ⌜ Indexed r (now (tags .exit)) (now (values .exit)) (now (index .exit)) ⌝ }
 {
     let cells = [0u32, p, q];
-    put(tags, values, n, tag_of_many(b), &cells)
+    put(tags, values, index, n, tag_of_many(b), &cells)
 }
 
 // An opaque term, negated at false polarity.
-fn literal(tags: &mut [u32], values: &mut [u32], n: usize, t: u32, polarity: bool) -> Built
+fn literal(
+    tags: &mut [u32],
+    values: &mut [u32],
+    index: &mut [u32; 12288],
+    n: usize,
+    t: u32,
+    polarity: bool,
+) -> Built
     requires { ⌜ State n n (now tags) (now values) ⌝ }
     requires { ⌜ t < n ⌝ }
+    requires { ⌜ Index (now tags) (now values) n (now index) ⌝ }
     ensures { λ r. ⌜ Puts n (now (tags .entry)) (now (values .entry)) (intern (lit polarity t) (poolOf (now (tags .entry)) (now (values .entry)) n)) r (now (tags .exit)) (now (values .exit)) ⌝ }
+    ensures { λ r. ⌜ Indexed r (now (tags .exit)) (now (values .exit)) (now (index .exit)) ⌝ }
 {
     if polarity {
         return Built::At(t, n);
     }
     let cells = [0u32, t];
-    put(tags, values, n, 34, &cells)
+    put(tags, values, index, n, 34, &cells)
 }
 
 // The normal form of the term at t at a polarity, put into the pool of n cells.
@@ -178,6 +204,7 @@ fn negation_normal_form(
     values: &mut [u32],
     memo: &mut [u32],
     scratch: &mut [u32],
+    index: &mut [u32; 12288],
     lim: usize,
     n: usize,
     t: u32,
@@ -186,14 +213,16 @@ fn negation_normal_form(
     requires { ⌜ Ready normal lim n (now tags) (now values) (now memo) ⌝ }
     requires { ⌜ 8192 ≤ length (now scratch) ⌝ }
     requires { ⌜ t < lim ⌝ }
+    requires { ⌜ Index (now tags) (now values) n (now index) ⌝ }
     ensures { λ r. ⌜ Known normal lim n (now (tags .entry)) (now (values .entry)) (now (memo .entry)) t polarity r (now (tags .exit)) (now (values .exit)) (now (memo .exit)) ⌝ }
+    ensures { λ r. ⌜ Indexed r (now (tags .exit)) (now (values .exit)) (now (index .exit)) ⌝ }
 {
     let i = slot(t, polarity);
     let known = memo[i];
     if known != 0 {
         return Built::At(known - 1, n);
     }
-    let Built::At(p, m) = expand(tags, values, memo, scratch, lim, n, t, polarity) else {
+    let Built::At(p, m) = expand(tags, values, memo, scratch, index, lim, n, t, polarity) else {
         return Built::Full;
     };
     memo[i] = p + 1;
@@ -206,6 +235,7 @@ fn expand(
     values: &mut [u32],
     memo: &mut [u32],
     scratch: &mut [u32],
+    index: &mut [u32; 12288],
     lim: usize,
     n: usize,
     t: u32,
@@ -214,30 +244,89 @@ fn expand(
     requires { ⌜ Ready normal lim n (now tags) (now values) (now memo) ⌝ }
     requires { ⌜ 8192 ≤ length (now scratch) ⌝ }
     requires { ⌜ t < lim ⌝ }
+    requires { ⌜ Index (now tags) (now values) n (now index) ⌝ }
     ensures { λ r. ⌜ Formed normal lim n (now (tags .entry)) (now (values .entry)) (now (memo .entry)) (normalOf lim (now (tags .entry)) (now (values .entry)) t polarity) r (now (tags .exit)) (now (values .exit)) (now (memo .exit)) ⌝ }
+    ensures { λ r. ⌜ Indexed r (now (tags .exit)) (now (values .exit)) (now (index .exit)) ⌝ }
 {
     let view = view_of(&tags[..lim], &values[..lim], TermPlace(t));
     match view {
-        View::Opaque => literal(tags, values, n, t, polarity),
-        View::Not(a) => negation_normal_form(tags, values, memo, scratch, lim, n, a, !polarity),
+        View::Opaque => literal(tags, values, index, n, t, polarity),
+        View::Not(a) => negation_normal_form(
+            tags,
+            values,
+            memo,
+            scratch,
+            index,
+            lim,
+            n,
+            a,
+            !polarity,
+        ),
         View::Many(b) => {
-            let Built::At(_, m) = operand_forms(tags, values, memo, scratch, lim, n, t, 0, polarity)
-            else {
+            let Built::At(_, m) = operand_forms(
+                tags,
+                values,
+                memo,
+                scratch,
+                index,
+                lim,
+                n,
+                t,
+                0,
+                polarity,
+            ) else {
                 return Built::Full;
             };
-            put_many(tags, values, memo, scratch, lim, m, t, polarity, b)
+            put_many(tags, values, memo, scratch, index, lim, m, t, polarity, b)
         }
         View::Implies(a, b) => {
             let first = Signed(a, !polarity);
-            pair_of(tags, values, memo, scratch, lim, n, polarity, first, b)
+            pair_of(
+                tags,
+                values,
+                memo,
+                scratch,
+                index,
+                lim,
+                n,
+                polarity,
+                first,
+                b,
+            )
         }
         View::Ite(a, b, c) => {
             let d = Signed(a, polarity);
-            two_pairs(tags, values, memo, scratch, lim, n, polarity, a, b, d, c)
+            two_pairs(
+                tags,
+                values,
+                memo,
+                scratch,
+                index,
+                lim,
+                n,
+                polarity,
+                a,
+                b,
+                d,
+                c,
+            )
         }
         View::Iff(a, b) => {
             let d = Signed(b, !polarity);
-            two_pairs(tags, values, memo, scratch, lim, n, polarity, a, b, d, a)
+            two_pairs(
+                tags,
+                values,
+                memo,
+                scratch,
+                index,
+                lim,
+                n,
+                polarity,
+                a,
+                b,
+                d,
+                a,
+            )
         }
         View::Quantifier(b, body) => {
             let Built::At(p, m) = negation_normal_form(
@@ -245,6 +334,7 @@ fn expand(
                 values,
                 memo,
                 scratch,
+                index,
                 lim,
                 n,
                 body,
@@ -252,7 +342,7 @@ fn expand(
             ) else {
                 return Built::Full;
             };
-            put_quantifier(tags, values, scratch, lim, m, t, polarity, b, p)
+            put_quantifier(tags, values, scratch, index, lim, m, t, polarity, b, p)
         }
     }
 }
@@ -263,6 +353,7 @@ fn operand_forms(
     values: &mut [u32],
     memo: &mut [u32],
     scratch: &mut [u32],
+    index: &mut [u32; 12288],
     lim: usize,
     n: usize,
     t: u32,
@@ -273,18 +364,40 @@ fn operand_forms(
     requires { ⌜ 8192 ≤ length (now scratch) ⌝ }
     requires { ⌜ t < lim ⌝ }
     requires { ⌜ Before lim (now tags) (now values) t ⌝ }
+    requires { ⌜ Index (now tags) (now values) n (now index) ⌝ }
     ensures { λ r. ⌜ OperandsKnown normal lim n (now (tags .entry)) (now (values .entry)) (now (memo .entry)) t polarity i r (now (tags .exit)) (now (values .exit)) (now (memo .exit)) ⌝ }
+    ensures { λ r. ⌜ Indexed r (now (tags .exit)) (now (values .exit)) (now (index .exit)) ⌝ }
 {
     let run = operands(&tags[..lim], &values[..lim], TermPlace(t));
     if run.len() <= i {
         return Built::At(0, n);
     }
     let u = run[i];
-    let Built::At(_, m) = negation_normal_form(tags, values, memo, scratch, lim, n, u, polarity)
-    else {
+    let Built::At(_, m) = negation_normal_form(
+        tags,
+        values,
+        memo,
+        scratch,
+        index,
+        lim,
+        n,
+        u,
+        polarity,
+    ) else {
         return Built::Full;
     };
-    operand_forms(tags, values, memo, scratch, lim, m, t, i + 1, polarity)
+    operand_forms(
+        tags,
+        values,
+        memo,
+        scratch,
+        index,
+        lim,
+        m,
+        t,
+        i + 1,
+        polarity,
+    )
 }
 
 // A pair of the normal forms of a and, at the polarity, of b: their `or`, and their `and` at false polarity.
@@ -293,6 +406,7 @@ fn pair_of(
     values: &mut [u32],
     memo: &mut [u32],
     scratch: &mut [u32],
+    index: &mut [u32; 12288],
     lim: usize,
     n: usize,
     polarity: bool,
@@ -303,16 +417,28 @@ fn pair_of(
     requires { ⌜ 8192 ≤ length (now scratch) ⌝ }
     requires { ⌜ a .0 < lim ⌝ }
     requires { ⌜ b < lim ⌝ }
+    requires { ⌜ Index (now tags) (now values) n (now index) ⌝ }
     ensures { λ r. ⌜ Formed normal lim n (now (tags .entry)) (now (values .entry)) (now (memo .entry)) (pair (not polarity) (normalOf lim (now (tags .entry)) (now (values .entry)) (a .0) (a .1)) (normalOf lim (now (tags .entry)) (now (values .entry)) b polarity)) r (now (tags .exit)) (now (values .exit)) (now (memo .exit)) ⌝ }
+    ensures { λ r. ⌜ Indexed r (now (tags .exit)) (now (values .exit)) (now (index .exit)) ⌝ }
 {
-    let Built::At(p, m) = negation_normal_form(tags, values, memo, scratch, lim, n, a.0, a.1) else {
-        return Built::Full;
-    };
-    let Built::At(q, l) = negation_normal_form(tags, values, memo, scratch, lim, m, b, polarity)
+    let Built::At(p, m) = negation_normal_form(tags, values, memo, scratch, index, lim, n, a.0, a.1)
     else {
         return Built::Full;
     };
-    put_pair(tags, values, l, !polarity, p, q)
+    let Built::At(q, l) = negation_normal_form(
+        tags,
+        values,
+        memo,
+        scratch,
+        index,
+        lim,
+        m,
+        b,
+        polarity,
+    ) else {
+        return Built::Full;
+    };
+    put_pair(tags, values, index, l, !polarity, p, q)
 }
 
 // The two pairs that an `ite` or an equality becomes: of a, flipped, and b; of c and d. The left pair is whole before the right
@@ -322,6 +448,7 @@ fn two_pairs(
     values: &mut [u32],
     memo: &mut [u32],
     scratch: &mut [u32],
+    index: &mut [u32; 12288],
     lim: usize,
     n: usize,
     polarity: bool,
@@ -333,31 +460,46 @@ fn two_pairs(
     requires { ⌜ Ready normal lim n (now tags) (now values) (now memo) ⌝ }
     requires { ⌜ 8192 ≤ length (now scratch) ⌝ }
     requires { ⌜ AllBelow lim a b (c .0) d ⌝ }
+    requires { ⌜ Index (now tags) (now values) n (now index) ⌝ }
     ensures { λ r. ⌜ Formed normal lim n (now (tags .entry)) (now (values .entry)) (now (memo .entry)) (twoPairs polarity (λ t p. normalOf lim (now (tags .entry)) (now (values .entry)) t p) a b (c .0) (c .1) d) r (now (tags .exit)) (now (values .exit)) (now (memo .exit)) ⌝ }
+    ensures { λ r. ⌜ Indexed r (now (tags .exit)) (now (values .exit)) (now (index .exit)) ⌝ }
 {
-    let first = Signed(a, !polarity);
-    let Built::At(p, m) = pair_of(tags, values, memo, scratch, lim, n, polarity, first, b) else {
+    let f = Signed(a, !polarity);
+    let Built::At(p, m) = pair_of(tags, values, memo, scratch, index, lim, n, polarity, f, b) else {
         return Built::Full;
     };
-    let Built::At(q, l) = pair_of(tags, values, memo, scratch, lim, m, polarity, c, d) else {
+    let Built::At(q, l) = pair_of(tags, values, memo, scratch, index, lim, m, polarity, c, d) else {
         return Built::Full;
     };
-    put_pair(tags, values, l, polarity, p, q)
+    put_pair(tags, values, index, l, polarity, p, q)
 }
 
 // The normal form of the term at t at a polarity, put into the pool of n cells.
 pub fn build_normal_form(
     tags: &mut [u32],
     values: &mut [u32],
+    index: &mut [u32; 12288],
     n: usize,
     t: TermPlace,
     polarity: bool,
 ) -> Built
     requires { ⌜ State n n (now tags) (now values) ⌝ }
     requires { ⌜ t .0 < n ⌝ }
+    requires { ⌜ Index (now tags) (now values) n (now index) ⌝ }
     ensures { λ r. ⌜ NormalBuilt n (now (tags .entry)) (now (values .entry)) (normalForm (poolOf (now (tags .entry)) (now (values .entry)) n) (t .0) polarity) r (now (tags .exit)) (now (values .exit)) ⌝ }
+    ensures { λ r. ⌜ Indexed r (now (tags .exit)) (now (values .exit)) (now (index .exit)) ⌝ }
 {
     let mut memo = [0u32; 16384];
     let mut scratch = [0u32; 8192];
-    negation_normal_form(tags, values, &mut memo, &mut scratch, n, n, t.0, polarity)
+    negation_normal_form(
+        tags,
+        values,
+        &mut memo,
+        &mut scratch,
+        index,
+        n,
+        n,
+        t.0,
+        polarity,
+    )
 }

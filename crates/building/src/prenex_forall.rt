@@ -12,7 +12,8 @@ ghost use Prim.Native.Nat.{_≤_, _<_};
 ghost use lib.ListN.{length};
 ghost use Rattle.formulas.specs.Built.{takenOut};
 ghost use Rattle.building.specs.Arrays.{poolOf};
-ghost use Rattle.building.specs.Walk.{State, taken-out, formOf, Ready, Formed, Known, OperandsKnown, Before, NormalBuilt};
+ghost use Rattle.descriptions.specs.Index.{Index};
+ghost use Rattle.building.specs.Walk.{State, Indexed, taken-out, formOf, Ready, Formed, Known, OperandsKnown, Before, NormalBuilt};
 
 // The taken-out form of the term at x, put into the pool of n cells.
 fn prenex_forall(
@@ -20,6 +21,7 @@ fn prenex_forall(
     values: &mut [u32],
     memo: &mut [u32],
     scratch: &mut [u32],
+    index: &mut [u32; 12288],
     lim: usize,
     n: usize,
     x: u32,
@@ -27,14 +29,16 @@ fn prenex_forall(
     requires { ⌜ Ready taken-out lim n (now tags) (now values) (now memo) ⌝ }
     requires { ⌜ 8192 ≤ length (now scratch) ⌝ }
     requires { ⌜ x < lim ⌝ }
+    requires { ⌜ Index (now tags) (now values) n (now index) ⌝ }
     ensures { λ r. ⌜ Known taken-out lim n (now (tags .entry)) (now (values .entry)) (now (memo .entry)) x true r (now (tags .exit)) (now (values .exit)) (now (memo .exit)) ⌝ }
+    ensures { λ r. ⌜ Indexed r (now (tags .exit)) (now (values .exit)) (now (index .exit)) ⌝ }
 {
     let i = slot(x, true);
     let known = memo[i];
     if known != 0 {
         return Built::At(known - 1, n);
     }
-    let Built::At(p, m) = take_out(tags, values, memo, scratch, lim, n, x) else {
+    let Built::At(p, m) = take_out(tags, values, memo, scratch, index, lim, n, x) else {
         return Built::Full;
     };
     memo[i] = p + 1;
@@ -47,6 +51,7 @@ fn take_out(
     values: &mut [u32],
     memo: &mut [u32],
     scratch: &mut [u32],
+    index: &mut [u32; 12288],
     lim: usize,
     n: usize,
     x: u32,
@@ -54,17 +59,20 @@ fn take_out(
     requires { ⌜ Ready taken-out lim n (now tags) (now values) (now memo) ⌝ }
     requires { ⌜ 8192 ≤ length (now scratch) ⌝ }
     requires { ⌜ x < lim ⌝ }
+    requires { ⌜ Index (now tags) (now values) n (now index) ⌝ }
     ensures { λ r. ⌜ Formed taken-out lim n (now (tags .entry)) (now (values .entry)) (now (memo .entry)) (formOf taken-out lim (now (tags .entry)) (now (values .entry)) x true) r (now (tags .exit)) (now (values .exit)) (now (memo .exit)) ⌝ }
+    ensures { λ r. ⌜ Indexed r (now (tags .exit)) (now (values .exit)) (now (index .exit)) ⌝ }
 {
     let view = normal_view(&tags[..lim], &values[..lim], TermPlace(x));
     match view {
         NormalView::Literal => Built::At(x, n),
-        NormalView::Forall(body) => prenex_forall(tags, values, memo, scratch, lim, n, body),
+        NormalView::Forall(body) => prenex_forall(tags, values, memo, scratch, index, lim, n, body),
         NormalView::Connective(b) => {
-            let Built::At(_, m) = operand_forms(tags, values, memo, scratch, lim, n, x, 0) else {
+            let Built::At(_, m) = operand_forms(tags, values, memo, scratch, index, lim, n, x, 0)
+            else {
                 return Built::Full;
             };
-            put_many(tags, values, memo, scratch, lim, m, x, true, b)
+            put_many(tags, values, memo, scratch, index, lim, m, x, true, b)
         }
     }
 }
@@ -75,6 +83,7 @@ fn operand_forms(
     values: &mut [u32],
     memo: &mut [u32],
     scratch: &mut [u32],
+    index: &mut [u32; 12288],
     lim: usize,
     n: usize,
     x: u32,
@@ -84,26 +93,36 @@ fn operand_forms(
     requires { ⌜ 8192 ≤ length (now scratch) ⌝ }
     requires { ⌜ x < lim ⌝ }
     requires { ⌜ Before lim (now tags) (now values) x ⌝ }
+    requires { ⌜ Index (now tags) (now values) n (now index) ⌝ }
     ensures { λ r. ⌜ OperandsKnown taken-out lim n (now (tags .entry)) (now (values .entry)) (now (memo .entry)) x true i r (now (tags .exit)) (now (values .exit)) (now (memo .exit)) ⌝ }
+    ensures { λ r. ⌜ Indexed r (now (tags .exit)) (now (values .exit)) (now (index .exit)) ⌝ }
 {
     let run = operands(&tags[..lim], &values[..lim], TermPlace(x));
     if run.len() <= i {
         return Built::At(0, n);
     }
     let u = run[i];
-    let Built::At(_, m) = prenex_forall(tags, values, memo, scratch, lim, n, u) else {
+    let Built::At(_, m) = prenex_forall(tags, values, memo, scratch, index, lim, n, u) else {
         return Built::Full;
     };
-    operand_forms(tags, values, memo, scratch, lim, m, x, i + 1)
+    operand_forms(tags, values, memo, scratch, index, lim, m, x, i + 1)
 }
 
 // The taken-out form of the term in normal form at x, put into the pool of n cells.
-pub fn build_taken_out(tags: &mut [u32], values: &mut [u32], n: usize, x: u32) -> Built
+pub fn build_taken_out(
+    tags: &mut [u32],
+    values: &mut [u32],
+    index: &mut [u32; 12288],
+    n: usize,
+    x: u32,
+) -> Built
     requires { ⌜ State n n (now tags) (now values) ⌝ }
     requires { ⌜ x < n ⌝ }
+    requires { ⌜ Index (now tags) (now values) n (now index) ⌝ }
     ensures { λ r. ⌜ NormalBuilt n (now (tags .entry)) (now (values .entry)) (takenOut (poolOf (now (tags .entry)) (now (values .entry)) n) x) r (now (tags .exit)) (now (values .exit)) ⌝ }
+    ensures { λ r. ⌜ Indexed r (now (tags .exit)) (now (values .exit)) (now (index .exit)) ⌝ }
 {
     let mut memo = [0u32; 8192];
     let mut scratch = [0u32; 8192];
-    prenex_forall(tags, values, &mut memo, &mut scratch, n, n, x)
+    prenex_forall(tags, values, &mut memo, &mut scratch, index, n, n, x)
 }

@@ -1,13 +1,15 @@
 -- A term in normal form, read back from its place.
 --     read-literal, read-forall, read-connective     the form at a place, by how the term there is read
 --     run-before, before-at                          a connective's operands stand before it
+--     head-falls, rest-before                        a walk along them ends
 --     connective-within, read-past                   a connective stands in the pool; what stands past its end is a literal
 -- Assumes nothing.
-use Prim.Native.Nat.{ℕ, zero, suc, _≤_, _<_}
-use mathlib.Core.Path.{_≡_, refl, sym, ap, _∙_}
+use Prim.Native.Nat.{ℕ, zero, suc, _+_, _-_, _*_, _^_, _≤_, _<_}
+use mathlib.Core.Path.{_≡_, refl, sym, ap, subst, _∙_}
 use mathlib.Core.Bool.{Bool, true, false, cond, _&&_}
 use mathlib.Core.List.{List, [], _∷_}
-use lib.ListN.{length, getD, drop, List·getD-eq-default}
+use lib.ListN.{length, getD, take, drop, replicate, length-drop, List·getD-eq-default}
+use lib.Seq.{drop-cons, take-all}
 use lib.Dec.{ltb, leb, eqb}
 use native.Mathlib.Omega.{arith}
 use borrow.Author.Tests.{ltb-true, leb-true, leb-false, lt-ltb}
@@ -21,14 +23,20 @@ use Rattle.formulas.specs.Built.{normalView, normalsOf, normalBy, normalAt}
 use Rattle.clauses.specs.ClauseWalk.{formAt}
 
 -- ---- a view is one of three
-no-literal : (b : Bool) → Connective b ≡ Literal → ⊥
+pub no-literal : (b : Bool) → Connective b ≡ Literal → ⊥
 no-literal b e = let z : _≡_ {A = ℕ} 0 1 = cc in omega arith
 
-no-forall : (b : Bool) (body : ℕ) → Connective b ≡ Forall body → ⊥
+pub no-forall : (b : Bool) (body : ℕ) → Connective b ≡ Forall body → ⊥
 no-forall b body e = let z : _≡_ {A = ℕ} 0 1 = cc in omega arith
 
 false-true : false ≡ true → ⊥
 false-true e = let z : _≡_ {A = ℕ} 0 1 = cc in omega arith
+
+-- ---- a fresh memo
+pub zeros : (k u : ℕ) → getD {A = ℕ} (replicate k 0) u 0 ≡ 0
+zeros zero u = refl
+zeros (suc k) zero = refl
+zeros (suc k) (suc u) = zeros k u
 
 -- ---- a run that stands before x
 module _ (x u : ℕ) (us : List ℕ) (h : allBefore x (u ∷ us) ≡ true) where
@@ -44,6 +52,18 @@ pub before-at : (x : ℕ) (us : List ℕ) → allBefore x us ≡ true → (i : �
 before-at x [] h i l = absurd (omega arith)
 before-at x (u ∷ us) h zero l = before-head x u us h
 before-at x (u ∷ us) h (suc i) l = before-at x us (before-tail x u us h) i (omega arith)
+
+-- ---- a walk along a run, by its first place and `&run[1..]`
+pub run-split : (run : List ℕ) → (length run ≡ 0 → ⊥) → run ≡ getD run 0 0 ∷ take (length run - 1) (drop 1 run)
+run-split run some = drop-cons run 0 0 (omega arith) ∙ ap (λ (l : List ℕ). getD run 0 0 ∷ l) (sym (take-all (length run - 1) (drop 1 run) (rw (length-drop 1 run) (omega arith))))
+
+-- m is the walk's measure at x
+module _ (x : ℕ) (run : List ℕ) (before : allBefore x run ≡ true) (some : length run ≡ 0 → ⊥) where
+  pub head-falls : (m : ℕ) → x * 2 ^ 65 + length run ≡ m → getD run 0 0 * 2 ^ 65 + 2 ^ 64 < m
+  head-falls m q = omega (arith, before-at x run before 0 (omega arith))
+
+  pub rest-before : allBefore x (take (length run - 1) (drop 1 run)) ≡ true
+  rest-before = before-tail x _ _ (subst (λ (l : List ℕ). allBefore x l ≡ true) (run-split run some) before)
 
 -- its forms are those of its places
 normals-below : (f : ℕ → Normal (List ℕ) ℕ) (d : Normal (List ℕ) ℕ) (x : ℕ) (us : List ℕ) → allBefore x us ≡ true

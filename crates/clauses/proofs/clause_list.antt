@@ -1,2 +1,3 @@
 -- Laws of the whole clause list.
 pub mod Laws
+pub mod Lists

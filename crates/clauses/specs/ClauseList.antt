@@ -1,23 +1,24 @@
 -- What the functions that write the clause list promise each other.
 -- 01, "Normal form and clauses": "an `and` joins lists, an `or` takes products, the first operand slowest."
--- Rests on Built, Clauses, Calls and ClauseWalk, and on the structs `Chosen` and `Digits` of the code.
-use Prim.Native.Nat.{ℕ, _+_, _-_, _/_, _%_, _≤_, _<_, min}
+-- Rests on Built, Clauses, Calls and ClauseWalk, and on the structs `Chosen`, `Digits` and `Filled` of the code.
+use Prim.Native.Nat.{ℕ, _+_, _-_, _/_, _%_, _≤_, _<_}
 use mathlib.Core.Path.{_≡_}
 use mathlib.Core.Bool.{true, cond, _&&_}
 use mathlib.Core.List.{List, [], _∷_}
 use lib.ListN.{length, getD, replicate}
 use lib.Seq.{sets}
 use lib.Dec.{ltb, leb, eqb}
-use Rattle.pool.specs.Answer.{accepted}
-use Rattle.pool.specs.declared.Answer.{Answer}
+use Rattle.answers.specs.Answer.{accepted}
+use Rattle.answers.specs.declared.Answer.{Answer}
 use Rattle.formulas.specs.Formula.{allBefore}
 use Rattle.formulas.specs.Normal.{Normal, Normals}
-use Rattle.formulas.specs.Clauses.{cnf, cnfOr, literalTotal, emptyOr}
+use Rattle.formulas.specs.Clauses.{cnf, cnfAnd, cnfOr, literalTotal, emptyOr}
 use Rattle.formulas.specs.Built.{normalsOf}
 use Rattle.clauses.specs.Lists.{emptyOrReached, tooManyClauses, padded, clausePlaces, literalPlaces, clauseEnds}
-use Rattle.clauses.specs.ClauseWalk.{formAt, Room}
+use Rattle.clauses.specs.ClauseWalk.{formAt, Memo}
 use Rattle.clauses.specs.declared.conjunctive_normal_form.Chosen.{Chosen}
 use Rattle.clauses.specs.declared.conjunctive_normal_form.Digits.{Digits}
+use Rattle.clauses.specs.declared.clause_list.Filled.{Filled}
 
 -- the forms of a run of places
 abbrev pub runOf : List ℕ → List ℕ → List ℕ → Normals (List ℕ) ℕ
@@ -28,9 +29,11 @@ unfoldable pub choose : List ℕ → List ℕ → ℕ → Chosen
 choose counts [] i = record { place = 0; index = 0 }
 choose counts (u ∷ us) i = cond (ltb i (getD counts u 0)) (record { place = u; index = i }) (choose counts us (i - getD counts u 0))
 
--- each place's number of clauses, cut at 8,193
-pub record ClauseCounts (tags values counts : List ℕ) : Type 0 where
-  pub at : (u : ℕ) → u < length tags → getD counts u 0 ≡ min 8193 (length (cnf (formAt tags values u)))
+-- the counts of a right memo, in which every place of the run is counted that the pool has
+pub record ClauseCounts (tags values counts run : List ℕ) : Type 0 where
+  pub sizes : List ℕ
+  pub memo : Memo tags values counts sizes
+  pub all : (i : ℕ) → i < length run → getD run i 0 < length tags → 0 < getD sizes (getD run i 0) 0
 
 -- the number i of a clause of a product of total clauses, whose first list has here: the first list is slowest
 pub record Apart (total here i : ℕ) (d : Digits) : Type 0 where
@@ -38,16 +41,16 @@ pub record Apart (total here i : ℕ) (d : Digits) : Type 0 where
   pub first : d .1 ≡ i / (total / here)
   pub after : d .2 ≡ i % (total / here)
 
--- the clause of number i of a short list is to be written to out, from at on
-pub record Ask (tags values counts : List ℕ) (cs : List (List (Normal (List ℕ) ℕ))) (i : ℕ) (out : List ℕ) (at : ℕ) : Type 0 where
-  pub counted : ClauseCounts tags values counts
+-- the clause of number i of a short list is to be written to out, from at on; the places of the run are counted
+pub record Ask (tags values counts run : List ℕ) (cs : List (List (Normal (List ℕ) ℕ))) (i : ℕ) (out : List ℕ) (at : ℕ) : Type 0 where
+  pub counted : ClauseCounts tags values counts run
   pub small : length cs ≤ 2048
   pub index : i < length cs
   pub room : at + length (getD cs i []) ≤ length out
 
 -- the same of an `or` of the run's places, which stand before x; its list has as many clauses as total
 pub record AskRun (tags values counts : List ℕ) (x : ℕ) (run : List ℕ) (total i : ℕ) (out : List ℕ) (at : ℕ) : Type 0 where
-  pub ask : Ask tags values counts (cnfOr (runOf tags values run)) i out at
+  pub ask : Ask tags values counts run (cnfOr (runOf tags values run)) i out at
   pub before : allBefore x run ≡ true
   pub within : x < length tags
   pub count : total ≡ length (cnfOr (runOf tags values run))
@@ -57,16 +60,26 @@ pub record Written (c : List (Normal (List ℕ) ℕ)) (out : List ℕ) (at : ℕ
   pub end : r ≡ at + length c
   pub array : after ≡ sets out at (clausePlaces c)
 
--- ---- the whole list of the term at x, to arrays of zeroes
-pub record AskList (tags values counts : List ℕ) (x total : ℕ) (literals ends : List ℕ) : Type 0 where
-  pub counted : ClauseCounts tags values counts
-  pub total-is : total ≡ length (cnf (formAt tags values x))
-  pub clauses : length (cnf (formAt tags values x)) ≤ 2048
-  pub clauses-room : length (cnf (formAt tags values x)) ≤ length ends
-  pub literals-small : literalTotal (cnf (formAt tags values x)) ≤ 8192
-  pub literals-room : literalTotal (cnf (formAt tags values x)) ≤ length literals
-  pub literals-zero : literals ≡ replicate (length literals) 0
-  pub ends-zero : ends ≡ replicate (length ends) 0
+-- ---- a list is to be written after the first i ends and the first `at` literals; the places of the run are counted
+pub record AskMore (tags values counts run : List ℕ) (cs : List (List (Normal (List ℕ) ℕ))) (literals ends : List ℕ) (i at : ℕ) : Type 0 where
+  pub counted : ClauseCounts tags values counts run
+  pub clauses : length cs ≤ 2048
+  pub clauses-room : i + length cs ≤ length ends
+  pub literals-small : at + literalTotal cs ≤ 8192
+  pub literals-room : at + literalTotal cs ≤ length literals
+
+-- the same of the joined lists of the run's places, which stand before x
+pub record AskLists (tags values counts : List ℕ) (x : ℕ) (run literals ends : List ℕ) (i at : ℕ) : Type 0 where
+  pub ask : AskMore tags values counts run (cnfAnd (runOf tags values run)) literals ends i at
+  pub before : allBefore x run ≡ true
+  pub within : x < length tags
+
+-- the list is written, up to r
+pub record Adds (cs : List (List (Normal (List ℕ) ℕ))) (literals ends : List ℕ) (i at : ℕ) (literals′ ends′ : List ℕ) (r : Filled) : Type 0 where
+  pub ends-up-to : r .0 ≡ i + length cs
+  pub literals-up-to : r .1 ≡ at + literalTotal cs
+  pub literals-are : literals′ ≡ sets literals at (literalPlaces cs)
+  pub ends-are : ends′ ≡ sets ends i (clauseEnds at cs)
 
 -- arrays of k and m cells that hold the list and zeroes
 pub record Listed (cs : List (List (Normal (List ℕ) ℕ))) (k m : ℕ) (literals ends : List ℕ) : Type 0 where
@@ -99,9 +112,9 @@ pub record Lent (n k m : ℕ) : Type 0 where
   pub literals : 8192 ≤ k
   pub ends : 2048 ≤ m
 
--- the same with the memo's arrays, and zeroes in the others
-pub record Ready (n counts sizes : ℕ) (literals ends : List ℕ) : Type 0 where
-  pub room : Room n counts sizes
-  pub lent : Lent n (length literals) (length ends)
+-- the same with a right memo, and zeroes in the others
+pub record Ready (tags values counts sizes literals ends : List ℕ) : Type 0 where
+  pub memo : Memo tags values counts sizes
+  pub lent : Lent (length tags) (length literals) (length ends)
   pub literals-zero : literals ≡ replicate (length literals) 0
   pub ends-zero : ends ≡ replicate (length ends) 0

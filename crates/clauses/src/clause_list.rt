@@ -1,16 +1,25 @@
 // The whole clause list of a term, as two arrays: the literal places, clause after clause, and each clause's end.
 use crate::clause_totals::list_totals;
+use crate::conjunctive_normal_form::count_at;
 use crate::conjunctive_normal_form::write_clause;
 use crate::empty_or::empty_or;
+use formulas::view::NormalView;
+use formulas::view::normal_view;
 use pool::Answer;
 use pool::TermPlace;
 use pool::description::cut_back;
+use pool::run::operands;
+ghost use mathlib.Core.Path.{_≡_};
+ghost use mathlib.Core.List.{[], _∷_};
 ghost use lib.ListN.{length};
-ghost use Rattle.formulas.specs.Clauses.{cnf};
-ghost use Rattle.clauses.specs.ClauseWalk.{formAt, Room};
-ghost use Rattle.clauses.specs.ClauseList.{AskList, Listed, Lent, Ready, Answered, countAnswer, listAnswer};
+ghost use Rattle.formulas.specs.Clauses.{cnf, cnfAnd};
+ghost use Rattle.clauses.specs.ClauseWalk.{formAt, Memo};
+ghost use Rattle.clauses.specs.ClauseList.{runOf, AskMore, AskLists, Adds, Lent, Ready, Answered, countAnswer, listAnswer};
 
-// Writes the clauses of the term at x, as many as total, to arrays of zeroes.
+// How many cells of the two arrays are filled: the clauses' ends and the literals.
+pub struct Filled(pub usize, pub usize);
+
+// Writes the clauses of the term at x, as many as total, one by one.
 fn write_clauses(
     tags: &[u32],
     values: &[u32],
@@ -19,17 +28,76 @@ fn write_clauses(
     total: u32,
     literals: &mut [u32],
     ends: &mut [u32],
-)
-    requires { ⌜ AskList (now tags) (now values) (now counts) (x .0) total (now literals) (now ends) ⌝ }
-    ensures { λ _. ⌜ Listed (cnf (formAt (now (tags .entry)) (now (values .entry)) (x .0))) (length (now (literals .entry))) (length (now (ends .entry))) (now (literals .exit)) (now (ends .exit)) ⌝ }
+    from: Filled,
+) -> Filled
+    requires { ⌜ AskMore (now tags) (now values) (now counts) (x .0 ∷ []) (cnf (formAt (now tags) (now values) (x .0))) (now literals) (now ends) (from .0) (from .1) ⌝ }
+    requires { ⌜ total ≡ length (cnf (formAt (now tags) (now values) (x .0))) ⌝ }
+    ensures { λ r. ⌜ Adds (cnf (formAt (now (tags .entry)) (now (values .entry)) (x .0))) (now (literals .entry)) (now (ends .entry)) (from .0) (from .1) (now (literals .exit)) (now (ends .exit)) r ⌝ }
 {
-    let mut i: u32 = 0;
-    let mut at: usize = 0;
-    while i < total {
-        at = write_clause(tags, values, counts, x, i, literals, at);
-        ends[i as usize] = at as u32;
+    let mut k: u32 = 0;
+    let mut i = from.0;
+    let mut at = from.1;
+    while k < total {
+        at = write_clause(tags, values, counts, x, k, literals, at);
+        ends[i] = at as u32;
         i += 1;
+        k += 1;
     }
+    Filled(i, at)
+}
+
+// Writes the list of the term at x: the term walker. The lists of an `and` follow one another. A list of no clause is passed over:
+// shared terms are then met no more often than there are clauses.
+fn write_list(
+    tags: &[u32],
+    values: &[u32],
+    counts: &[u32],
+    x: TermPlace,
+    literals: &mut [u32],
+    ends: &mut [u32],
+    from: Filled,
+) -> Filled
+    requires { ⌜ AskMore (now tags) (now values) (now counts) (x .0 ∷ []) (cnf (formAt (now tags) (now values) (x .0))) (now literals) (now ends) (from .0) (from .1) ⌝ }
+    ensures { λ r. ⌜ Adds (cnf (formAt (now (tags .entry)) (now (values .entry)) (x .0))) (now (literals .entry)) (now (ends .entry)) (from .0) (from .1) (now (literals .exit)) (now (ends .exit)) r ⌝ }
+{
+    let view = normal_view(tags, values, x);
+    match view {
+        NormalView::Literal => write_clauses(tags, values, counts, x, 1, literals, ends, from),
+        NormalView::Forall(_) => write_clauses(tags, values, counts, x, 1, literals, ends, from),
+        NormalView::Connective(all) => {
+            let total = count_at(counts, x.0);
+            if total == 0 {
+                return from;
+            }
+            if all {
+                let run = operands(tags, values, x);
+                return write_lists(tags, values, counts, x, run, literals, ends, from);
+            }
+            write_clauses(tags, values, counts, x, total, literals, ends, from)
+        }
+    }
+}
+
+// Writes the lists of the run's places, which stand before x: the run walker.
+fn write_lists(
+    tags: &[u32],
+    values: &[u32],
+    counts: &[u32],
+    x: TermPlace,
+    run: &[u32],
+    literals: &mut [u32],
+    ends: &mut [u32],
+    from: Filled,
+) -> Filled
+    requires { ⌜ AskLists (now tags) (now values) (now counts) (x .0) (now run) (now literals) (now ends) (from .0) (from .1) ⌝ }
+    ensures { λ r. ⌜ Adds (cnfAnd (runOf (now (tags .entry)) (now (values .entry)) (now (run .entry)))) (now (literals .entry)) (now (ends .entry)) (from .0) (from .1) (now (literals .exit)) (now (ends .exit)) r ⌝ }
+{
+    if run.len() == 0 {
+        return from;
+    }
+    let u = TermPlace(run[0]);
+    let next = write_list(tags, values, counts, u, literals, ends, from);
+    write_lists(tags, values, counts, x, &run[1..], literals, ends, next)
 }
 
 // The answer 32, or the two totals with the list, in arrays of zeroes. The memo's arrays are counts and sizes.
@@ -42,32 +110,20 @@ fn list_counted(
     literals: &mut [u32],
     ends: &mut [u32],
 ) -> Answer
-    requires { ⌜ Ready (length (now tags)) (length (now counts)) (length (now sizes)) (now literals) (now ends) ⌝ }
+    requires { ⌜ Ready (now tags) (now values) (now counts) (now sizes) (now literals) (now ends) ⌝ }
     ensures { λ r. ⌜ Answered (countAnswer (cnf (formAt (now (tags .entry)) (now (values .entry)) (x .0)))) (cnf (formAt (now (tags .entry)) (now (values .entry)) (x .0))) (length (now (literals .entry))) (length (now (ends .entry))) r (now (literals .exit)) (now (ends .exit)) ⌝ }
 {
     let t = list_totals(tags, values, counts, sizes, x);
     let clauses = t.clauses;
     let size = t.literals;
     if 2048 < clauses {
-        return Answer {
-            code: 32,
-            first: 0,
-            second: 0,
-        };
+        return Answer::refused(32, 0, 0);
     }
     if 8192 < size {
-        return Answer {
-            code: 32,
-            first: 0,
-            second: 0,
-        };
+        return Answer::refused(32, 0, 0);
     }
-    write_clauses(tags, values, counts, x, clauses, literals, ends);
-    Answer {
-        code: 0,
-        first: clauses,
-        second: size,
-    }
+    write_list(tags, values, counts, x, literals, ends, Filled(0, 0));
+    Answer::accepted(clauses, size)
 }
 
 // The answer 13, 32, or the two totals with the list; refused, both arrays are zeroes.
@@ -80,16 +136,12 @@ fn list_with(
     literals: &mut [u32],
     ends: &mut [u32],
 ) -> Answer
-    requires { ⌜ Room (length (now tags)) (length (now counts)) (length (now sizes)) × Lent (length (now tags)) (length (now literals)) (length (now ends)) ⌝ }
+    requires { ⌜ Memo (now tags) (now values) (now counts) (now sizes) × Lent (length (now tags)) (length (now literals)) (length (now ends)) ⌝ }
     ensures { λ r. ⌜ Answered (listAnswer (formAt (now (tags .entry)) (now (values .entry)) (x .0))) (cnf (formAt (now (tags .entry)) (now (values .entry)) (x .0))) (length (now (literals .entry))) (length (now (ends .entry))) r (now (literals .exit)) (now (ends .exit)) ⌝ }
 {
     cut_back(literals, ends, 0);
     if empty_or(tags, values, x) {
-        return Answer {
-            code: 13,
-            first: 0,
-            second: 0,
-        };
+        return Answer::refused(13, 0, 0);
     }
     list_counted(tags, values, counts, sizes, x, literals, ends)
 }

@@ -1,16 +1,16 @@
 // The totals of a clause list, cut at 8,193: more than 01 allows of clauses or literals, so that 32 is told exactly.
-// Operands stand before their term, so that one pass over the places, from the first on, counts each of them once however
-// terms are shared.
+// A memo keeps the totals of the places that are counted, so that each term that x reaches is counted once however terms are
+// shared: the clauses in `counts`, the literals in `sizes`. A size stands there one up: 0 is a place that is not counted.
 use formulas::view::NormalView;
 use formulas::view::normal_view;
 use pool::TermPlace;
 use pool::run::cell;
 use pool::run::operands;
-ghost use Prim.Native.Nat.{_+_, _*_, _≤_, min};
+ghost use Prim.Native.Nat.{_+_, _*_, _≤_, _<_, min};
 ghost use mathlib.Core.Path.{_≡_};
-ghost use lib.ListN.{length};
-ghost use Rattle.formulas.specs.Totals.{combine, cap, startOf, totals};
-ghost use Rattle.clauses.specs.ClauseWalk.{formAt, asTotals, memoAt, runTotals, Counted, Room, Counts};
+ghost use lib.ListN.{length, getD};
+ghost use Rattle.formulas.specs.Totals.{oneLiteral, combine, cap, startOf};
+ghost use Rattle.clauses.specs.ClauseWalk.{asTotals, memoAt, runTotals, AllCounted, Memo, TotalsNoted, TermCounted, AskOperands, OperandsCounted};
 
 // The clauses and the literals of a list.
 pub struct Totals {
@@ -59,6 +59,16 @@ fn start(all: bool) -> Totals
     }
 }
 
+// The totals of one clause with one literal.
+fn one_literal() -> Totals
+    ensures { λ r. ⌜ asTotals r ≡ oneLiteral ⌝ }
+{
+    Totals {
+        clauses: 1,
+        literals: 1,
+    }
+}
+
 // The totals of two lists under an `and`, which joins them, or an `or`, which takes their product.
 fn combine(all: bool, t: Totals, u: Totals) -> Totals
     ensures { λ r. ⌜ asTotals r ≡ cap 8193 (combine all (asTotals t) (asTotals u)) ⌝ }
@@ -78,19 +88,35 @@ fn combine(all: bool, t: Totals, u: Totals) -> Totals
     }
 }
 
-// The memo's totals of the place u.
+// The memo's totals of the place u, which is counted.
 fn noted(counts: &[u32], sizes: &[u32], u: u32) -> Totals
+    requires { ⌜ 0 < getD (now sizes) u 0 ⌝ }
     ensures { λ r. ⌜ asTotals r ≡ memoAt (now (counts .entry)) (now (sizes .entry)) u ⌝ }
 {
     let at = u as usize;
     Totals {
         clauses: cell(counts, at),
-        literals: cell(sizes, at),
+        literals: cell(sizes, at) - 1,
     }
 }
 
-// The totals of a run, from the last operand to the first.
+// Notes the totals t of the term at x, and hands them back. Past the memo's end nothing is noted.
+fn note(counts: &mut [u32], sizes: &mut [u32], x: TermPlace, t: Totals) -> Totals
+    requires { ⌜ (t .literals ≤ 8193) × (length (now counts) ≡ length (now sizes)) ⌝ }
+    ensures { λ r. ⌜ TotalsNoted (now (counts .entry)) (now (sizes .entry)) (x .0) t (now (counts .exit)) (now (sizes .exit)) r ⌝ }
+{
+    let at = x.0 as usize;
+    if at < sizes.len() {
+        counts[at] = t.clauses;
+        sizes[at] = t.literals + 1;
+        return t;
+    }
+    t
+}
+
+// The totals of a run whose places are counted, from the last operand to the first.
 fn run_totals(all: bool, counts: &[u32], sizes: &[u32], run: &[u32]) -> Totals
+    requires { ⌜ AllCounted (now sizes) (now run) ⌝ }
     ensures { λ r. ⌜ asTotals r ≡ runTotals all (memoAt (now (counts .entry)) (now (sizes .entry))) (now (run .entry)) ⌝ }
 {
     let mut sum = start(all);
@@ -102,40 +128,7 @@ fn run_totals(all: bool, counts: &[u32], sizes: &[u32], run: &[u32]) -> Totals
     sum
 }
 
-// The totals of the term at x, by the memo of the places before it.
-fn totals_at(tags: &[u32], values: &[u32], counts: &[u32], sizes: &[u32], x: TermPlace) -> Totals
-    requires { ⌜ Counted (now tags) (now values) (x .0) (now counts) (now sizes) ⌝ }
-    ensures { λ r. ⌜ asTotals r ≡ cap 8193 (totals (formAt (now (tags .entry)) (now (values .entry)) (x .0))) ⌝ }
-{
-    let view = normal_view(tags, values, x);
-    match view {
-        NormalView::Literal => Totals {
-            clauses: 1,
-            literals: 1,
-        },
-        NormalView::Forall(_) => Totals {
-            clauses: 1,
-            literals: 1,
-        },
-        NormalView::Connective(all) => run_totals(all, counts, sizes, operands(tags, values, x)),
-    }
-}
-
-// Counts the places of the pool, from the first on.
-fn count_places(tags: &[u32], values: &[u32], counts: &mut [u32], sizes: &mut [u32])
-    requires { ⌜ Room (length (now tags)) (length (now counts)) (length (now sizes)) ⌝ }
-    ensures { λ _. ⌜ Counted (now (tags .entry)) (now (values .entry)) (length (now (tags .entry))) (now (counts .exit)) (now (sizes .exit)) ⌝ }
-{
-    let mut p: usize = 0;
-    while p < tags.len() {
-        let t = totals_at(tags, values, counts, sizes, TermPlace(p as u32));
-        counts[p] = t.clauses;
-        sizes[p] = t.literals;
-        p += 1;
-    }
-}
-
-// The totals of the clause list of the term at x. The memo stays: the clauses (`counts`) and literals (`sizes`) of each place.
+// The totals of the clause list of the term at x, which is then counted: the term walker.
 pub(crate) fn list_totals(
     tags: &[u32],
     values: &[u32],
@@ -143,9 +136,42 @@ pub(crate) fn list_totals(
     sizes: &mut [u32],
     x: TermPlace,
 ) -> Totals
-    requires { ⌜ Room (length (now tags)) (length (now counts)) (length (now sizes)) ⌝ }
-    ensures { λ r. ⌜ Counts (now (tags .entry)) (now (values .entry)) (x .0) (now (counts .exit)) (now (sizes .exit)) r ⌝ }
+    requires { ⌜ Memo (now tags) (now values) (now counts) (now sizes) ⌝ }
+    ensures { λ r. ⌜ TermCounted (now (tags .entry)) (now (values .entry)) (x .0) (now (sizes .entry)) (now (counts .exit)) (now (sizes .exit)) r ⌝ }
 {
-    count_places(tags, values, counts, sizes);
-    totals_at(tags, values, counts, sizes, x)
+    let at = x.0 as usize;
+    if cell(sizes, at) != 0 {
+        return noted(counts, sizes, x.0);
+    }
+    let view = normal_view(tags, values, x);
+    match view {
+        NormalView::Literal => note(counts, sizes, x, one_literal()),
+        NormalView::Forall(_) => note(counts, sizes, x, one_literal()),
+        NormalView::Connective(all) => {
+            let run = operands(tags, values, x);
+            count_operands(tags, values, counts, sizes, x, run);
+            let t = run_totals(all, counts, sizes, run);
+            note(counts, sizes, x, t)
+        }
+    }
+}
+
+// Counts the terms of a run, which stand before x: the run walker.
+fn count_operands(
+    tags: &[u32],
+    values: &[u32],
+    counts: &mut [u32],
+    sizes: &mut [u32],
+    x: TermPlace,
+    run: &[u32],
+)
+    requires { ⌜ AskOperands (now tags) (now values) (now counts) (now sizes) (x .0) (now run) ⌝ }
+    ensures { λ _. ⌜ OperandsCounted (now (tags .entry)) (now (values .entry)) (now (run .entry)) (now (sizes .entry)) (now (counts .exit)) (now (sizes .exit)) ⌝ }
+{
+    if run.len() == 0 {
+        return;
+    }
+    let u = run[0];
+    list_totals(tags, values, counts, sizes, TermPlace(u));
+    count_operands(tags, values, counts, sizes, x, &run[1..])
 }

@@ -7,7 +7,7 @@ use pool::run::cell;
 use pool::run::operands;
 ghost use Prim.Native.Nat.{_+_, _/_, _<_};
 ghost use mathlib.Core.Path.{_≡_};
-ghost use mathlib.Core.List.{[]};
+ghost use mathlib.Core.List.{[], _∷_};
 ghost use lib.ListN.{length, getD, set};
 ghost use Rattle.formulas.specs.Clauses.{cnf, cnfOr};
 ghost use Rattle.clauses.specs.ClauseWalk.{formAt};
@@ -20,7 +20,7 @@ pub struct Chosen {
 }
 
 // The number of clauses of the place u.
-fn count_at(counts: &[u32], u: u32) -> u32
+pub(crate) fn count_at(counts: &[u32], u: u32) -> u32
     ensures { λ r. ⌜ r ≡ getD (now (counts .entry)) u 0 ⌝ }
 {
     let at = u as usize;
@@ -80,7 +80,7 @@ pub(crate) fn write_clause(
     out: &mut [u32],
     at: usize,
 ) -> usize
-    requires { ⌜ Ask (now tags) (now values) (now counts) (cnf (formAt (now tags) (now values) (x .0))) i (now out) at ⌝ }
+    requires { ⌜ Ask (now tags) (now values) (now counts) (x .0 ∷ []) (cnf (formAt (now tags) (now values) (x .0))) i (now out) at ⌝ }
     ensures { λ r. ⌜ Written (getD (cnf (formAt (now (tags .entry)) (now (values .entry)) (x .0))) i []) (now (out .entry)) at (now (out .exit)) r ⌝ }
 {
     let view = normal_view(tags, values, x);

@@ -1,78 +1,77 @@
-// Whether an empty `or` is reached, 01's number 13. Operands stand before their term, so that one pass over the places, from
-// the first on, marks each of them once however terms are shared.
+// Whether an empty `or` is reached, 01's number 13. A memo, a byte for each place, keeps the places from which none is reached,
+// so that each term that x reaches is visited once however terms are shared. A place past the memo's end is walked anew.
 use formulas::view::NormalView;
 use formulas::view::normal_view;
 use pool::TermPlace;
 use pool::run::operands;
 ghost use Prim.Native.Nat.{_≤_};
 ghost use mathlib.Core.Path.{_≡_};
-ghost use mathlib.Core.Bool.{cond};
+ghost use mathlib.Core.Bool.{true};
 ghost use lib.ListN.{length, getD};
-ghost use Rattle.free_vars.specs.Free.{anyOf};
-ghost use Rattle.formulas.specs.Clauses.{emptyOr};
-ghost use Rattle.clauses.specs.ClauseWalk.{formAt, marked, Marks};
+ghost use Rattle.formulas.specs.Formula.{allBefore};
+ghost use Rattle.formulas.specs.Clauses.{emptyOr, emptyOrs};
+ghost use Rattle.formulas.specs.Built.{normalsOf};
+ghost use Rattle.clauses.specs.ClauseWalk.{formAt, NoneReached, Reached, Noted};
 
-// The mark of the place u, and 0 past the end.
-fn mark_at(marks: &[u8], u: u32) -> u8
-    ensures { λ r. ⌜ r ≡ getD (now (marks .entry)) u 0 ⌝ }
+// The memo's entry for the place u, and 0 past its end.
+fn noted_at(memo: &[u8], u: u32) -> u8
+    ensures { λ r. ⌜ r ≡ getD (now (memo .entry)) u 0 ⌝ }
 {
     let at = u as usize;
-    if at < marks.len() { marks[at] } else { 0 }
+    if at < memo.len() { memo[at] } else { 0 }
 }
 
-// Whether a place of the run is marked.
-fn any_marked(marks: &[u8], run: &[u32]) -> bool
-    ensures { λ r. ⌜ r ≡ anyOf (marked (now (marks .entry))) (now (run .entry)) ⌝ }
+// Notes the answer s for the term at x, and hands it back. A yes ends the whole walk, so that only a no is noted.
+fn note(memo: &mut [u8], x: TermPlace, s: bool) -> bool
+    ensures { λ r. ⌜ Noted (now (memo .entry)) (x .0) s (now (memo .exit)) r ⌝ }
 {
-    let mut i: usize = 0;
-    while i < run.len() {
-        if mark_at(marks, run[i]) == 1 {
-            return true;
-        }
-        i += 1;
+    let at = x.0 as usize;
+    if s {
+        return true;
+    }
+    if at < memo.len() {
+        memo[at] = 1;
+        return false;
     }
     false
 }
 
-// Whether an empty `or` is reached from the term at x, by the marks of the places before it.
-fn reached_from(tags: &[u32], values: &[u32], marks: &[u8], x: TermPlace) -> bool
-    requires { ⌜ Marks (now tags) (now values) (x .0) (now marks) ⌝ }
-    ensures { λ r. ⌜ r ≡ emptyOr (formAt (now (tags .entry)) (now (values .entry)) (x .0)) ⌝ }
+// Whether an empty `or` is reached from the term at x: the term walker.
+fn from_term(tags: &[u32], values: &[u32], memo: &mut [u8], x: TermPlace) -> bool
+    requires { ⌜ NoneReached (now tags) (now values) (now memo) ⌝ }
+    ensures { λ r. ⌜ Reached (now (tags .entry)) (now (values .entry)) (now (memo .exit)) r (emptyOr (formAt (now (tags .entry)) (now (values .entry)) (x .0))) ⌝ }
 {
+    if noted_at(memo, x.0) == 1 {
+        return false;
+    }
     let view = normal_view(tags, values, x);
     match view {
-        NormalView::Literal => false,
-        NormalView::Forall(_) => false,
+        NormalView::Literal => note(memo, x, false),
+        NormalView::Forall(_) => note(memo, x, false),
         NormalView::Connective(all) => {
             let run = operands(tags, values, x);
             if run.len() == 0 {
                 return !all;
             }
-            any_marked(marks, run)
+            let s = from_run(tags, values, memo, x, run);
+            note(memo, x, s)
         }
     }
 }
 
-// The mark of a term from which an empty `or` is reached.
-fn mark(reached: bool) -> u8
-    ensures { λ r. ⌜ r ≡ cond reached 1 0 ⌝ }
+// The same of the terms of a run, which stand before x: the run walker.
+fn from_run(tags: &[u32], values: &[u32], memo: &mut [u8], x: TermPlace, run: &[u32]) -> bool
+    requires { ⌜ NoneReached (now tags) (now values) (now memo) × (allBefore (x .0) (now run) ≡ true) ⌝ }
+    ensures { λ r. ⌜ Reached (now (tags .entry)) (now (values .entry)) (now (memo .exit)) r (emptyOrs (normalsOf (formAt (now (tags .entry)) (now (values .entry))) (now (run .entry)))) ⌝ }
 {
-    if reached {
-        return 1;
+    if run.len() == 0 {
+        return false;
     }
-    0
-}
-
-// Marks the places of the pool, from the first on.
-fn mark_places(tags: &[u32], values: &[u32], marks: &mut [u8])
-    requires { ⌜ (length (now tags) ≤ 8192) × (length (now tags) ≤ length (now marks)) ⌝ }
-    ensures { λ _. ⌜ Marks (now (tags .entry)) (now (values .entry)) (length (now (tags .entry))) (now (marks .exit)) ⌝ }
-{
-    let mut p: usize = 0;
-    while p < tags.len() {
-        marks[p] = mark(reached_from(tags, values, marks, TermPlace(p as u32)));
-        p += 1;
+    let u = run[0];
+    if from_term(tags, values, memo, TermPlace(u)) {
+        return true;
     }
+    from_run(tags, values, memo, x, &run[1..])
 }
 
 // Whether an empty `or` is reached from the term at x, through `and` and `or`.
@@ -80,7 +79,6 @@ pub(crate) fn empty_or(tags: &[u32], values: &[u32], x: TermPlace) -> bool
     requires { ⌜ length (now tags) ≤ 8192 ⌝ }
     ensures { λ r. ⌜ r ≡ emptyOr (formAt (now (tags .entry)) (now (values .entry)) (x .0)) ⌝ }
 {
-    let mut marks = [0u8; 8192];
-    mark_places(tags, values, &mut marks);
-    reached_from(tags, values, &marks, x)
+    let mut memo = [0u8; 8192];
+    from_term(tags, values, &mut memo, x)
 }

@@ -19,20 +19,20 @@ use Rattle.cells.specs.declared.Found.the-variants.{At, Nothing}
 use Rattle.cells.proofs.Cells.{same-refl}
 use Rattle.cells.proofs.Walks.{first-end, first-below}
 use Rattle.headers.specs.WellFormed.{shapeOf, countFits, kindAt, firstBad}
-use Rattle.headers.specs.Description.{find}
+use Rattle.descriptions.specs.Description.{find}
 use Rattle.headers.specs.declared.well_formed.Shape.the-variants.{Let}
 use Rattle.headers.specs.declared.well_formed.CellKind.the-variants.{OfTerm}
-use Rattle.headers.proofs.description.Fills.{orElse, well-formed-fills}
-use Rattle.headers.proofs.description.Growth.{Same, at-same, find-grown}
+use Rattle.descriptions.proofs.description.Fills.{orElse, well-formed-fills}
+use Rattle.descriptions.proofs.description.Growth.{Same, at-same, find-grown}
 use Rattle.free_vars.specs.Free.{pairIn, boundBy, letBinds, freeStep, isFree}
-use Rattle.pool.proofs.tree.Header.{Header, header, Each, Described, term-cell}
-use Rattle.pool.proofs.tree.Walk.{place-fits, place-described, found-holds}
-use Rattle.pool.proofs.tree.Parts.{pair-second, from-two}
-use Rattle.pool.proofs.tree.Terms.{even-rest}
+use Rattle.term_trees.proofs.Header.{Header, header, Each, Described, term-cell}
+use Rattle.term_trees.proofs.Walk.{place-fits, place-described, found-holds}
+use Rattle.term_trees.proofs.Parts.{pair-second, from-two}
+use Rattle.term_trees.proofs.Terms.{even-rest}
 use Rattle.formulas.proofs.SameTree.{at-true}
 use Rattle.quantifiers.specs.Binding.{Binding, freeAt, bindingFree}
-use Rattle.quantifiers.specs.Form.{quantifier}
-use Rattle.quantifiers.specs.FormAnswer.{pairsOf}
+use Rattle.forms.specs.Form.{quantifier}
+use Rattle.forms.specs.FormAnswer.{pairsOf}
 use Rattle.clausification.specs.QntCnf.{isClause}
 
 module _ (n : ℕ) (tags values tags′ values′ : List ℕ) (s : Same n tags values tags′ values′) (formed : firstBad tags values n ≡ Nothing) where

@@ -5,9 +5,9 @@
 -- Rests on pool's Sort, Term and FreeTree, and on formulas' Normal and Skeleton.
 use mathlib.Core.Path.{_≡_}
 use mathlib.Core.Bool.{true, false}
-use Rattle.pool.specs.Sort.{Sort}
-use Rattle.pool.specs.Term.{Var, Vars, Term, quant, op, tnil, tcons}
-use Rattle.pool.specs.FreeTree.{has, free}
+use Rattle.term_trees.specs.Sort.{Sort}
+use Rattle.term_trees.specs.Term.{Var, Vars, Term, quant, op, tnil, tcons}
+use Rattle.term_trees.specs.FreeTree.{has, free}
 use Rattle.formulas.specs.Normal.{nnf, taken}
 use Rattle.formulas.specs.Skeleton.{skeleton}
 

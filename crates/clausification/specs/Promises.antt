@@ -4,17 +4,17 @@ use Prim.Native.Nat.{ℕ, _<_}
 use mathlib.Core.Path.{_≡_}
 use mathlib.Core.Bool.{true, not, _&&_}
 use mathlib.Core.List.{List, _++_}
-use Rattle.sorts.specs.Table.{builtIn}
-use Rattle.headers.specs.Description.{zeroFrom}
-use Rattle.pool.specs.Check.{checkPool}
-use Rattle.pool.specs.declared.Answer.{Answer}
+use Rattle.sort_rules.specs.Table.{builtIn}
+use Rattle.descriptions.specs.Description.{zeroFrom}
+use Rattle.pool_checks.specs.Check.{checkPool}
+use Rattle.answers.specs.declared.Answer.{Answer}
 use Rattle.formulas.specs.Normal.{taken}
 use Rattle.clauses.specs.ClauseWalk.{formAt}
 use Rattle.building.specs.Walk.{Left}
 use Rattle.quantifiers.specs.Outcome.{Outcome, _>>_, guard, unless, answerOf}
 use Rattle.quantifiers.specs.Binding.{Binding, bindingsOf, has, firstOf, bindingFree}
-use Rattle.quantifiers.specs.Form.{Quantifier}
-use Rattle.quantifiers.specs.FormAnswer.{pairsOf, withList}
+use Rattle.forms.specs.Form.{Quantifier}
+use Rattle.forms.specs.FormAnswer.{pairsOf, withList}
 use Rattle.clausification.specs.QntCnf.{isClause, anyClause, qntCnf}
 
 -- the forall at x, whose body is this

@@ -16,7 +16,7 @@ use Rattle.clauses.specs.Lists.{clausePlaces}
 use Rattle.building.specs.Arrays.{fits, normalIn, clausalIn, clausalFormIn}
 use Rattle.quantifiers.specs.Outcome.{Outcome, _>>=_, _>>_, need, guard, unless}
 use Rattle.quantifiers.specs.Binding.{Binding, bindingsOf, has, firstOf, bindingFree}
-use Rattle.quantifiers.specs.Form.{Quantifier, quantifier, tagOf, operator, oneOf, twoOf, andThen}
+use Rattle.forms.specs.Form.{Quantifier, quantifier, tagOf, operator, oneOf, twoOf, andThen}
 
 -- `(or (not l) r)`: l and r
 unfoldable pub implication : List ℕ → List ℕ → ℕ → Option (ℕ × ℕ)

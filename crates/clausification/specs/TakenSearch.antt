@@ -1,12 +1,13 @@
 -- The search among the variables that are taken out of a term in normal form: what is sought, and what the walk and its memo promise.
 -- The memo is no part of a public contract.
--- Rests on Binding and BindingAnswer, on Normal, Built and ClauseWalk, and on the enums `Sought` and `Step` of the code.
+-- Rests on Names, on Binding and BindingAnswer, on Normal, Built and ClauseWalk, and on the enums `Sought` and `Step` of the code.
 use Prim.Native.Nat.{ℕ, _<_}
 use mathlib.Core.Path.{_≡_}
 use mathlib.Core.Bool.{Bool, true, not, _&&_}
 use mathlib.Core.List.{List}
 use lib.ListN.{getD, set}
 use Rattle.cells.specs.Cell.{operandsOf}
+use Rattle.free_vars.specs.Names.{freeIn, Listed}
 use Rattle.formulas.specs.Formula.{allBefore}
 use Rattle.formulas.specs.Normal.{taken, takens}
 use Rattle.formulas.specs.Built.{normalsOf}
@@ -24,6 +25,11 @@ use Rattle.clausification.specs.declared.taken_variables.Step.the-varian
 unfoldable pub isSought : List ℕ → List ℕ → ℕ → List Binding → Sought → Binding → Bool
 isSought tags values n right (Pair a s) b = same b (pair a s)
 isSought tags values n right (Missing t) b = not (has right b) && bindingFree tags values n t b
+
+-- the table has the names of the term where a missing variable is to be free
+abbrev pub Tabled : List ℕ → List ℕ → List ℕ → Sought → Type 0
+Tabled tags values names (Pair a s) = Unit {0}
+Tabled tags values names (Missing t) = Listed tags values names (freeIn tags values t)
 
 module _ (tags values : List ℕ) (test : Binding → Bool) where
   -- the first of the variables that are taken out of the term at x

@@ -1,32 +1,33 @@
 // Rule 3, `qnt_cnf`. The left body's normal form and its form with foralls taken out are built after the pool, and cut back at
 // the end.
 use crate::clause_search::any_clause;
+use crate::taken_list::first_unbound;
 use crate::taken_variables::Sought;
 use crate::taken_variables::first_taken;
-use crate::taken_variables::first_unbound;
 use building::build::Built;
 use building::negation_normal_form::build_normal_form;
 use building::prenex_forall::build_taken_out;
 use clauses::clause_list::list_clauses;
+use forms::One;
+use forms::Quantified;
+use forms::Two;
+use forms::bindings;
+use forms::one_operand;
+use forms::quantified_at;
+use forms::two_operands;
+use free_lists::first_missing;
 use pool::Answer;
 use pool::TermPlace;
 use pool::description::cut_back;
 use quantifiers::binding::FirstName;
-use quantifiers::binding::first_missing;
-use quantifiers::form::One;
-use quantifiers::form::Quantified;
-use quantifiers::form::Two;
-use quantifiers::form::bindings;
-use quantifiers::form::one_operand;
-use quantifiers::form::quantified_at;
-use quantifiers::form::two_operands;
 use quantifiers::outcome::accept;
 use quantifiers::outcome::refuse;
 ghost use mathlib.Core.Path.{_≡_};
-ghost use Rattle.sorts.specs.Table.{builtIn};
-ghost use Rattle.pool.specs.Check.{checkTerm};
+ghost use Rattle.descriptions.specs.Index.{Index};
+ghost use Rattle.sort_rules.specs.Table.{builtIn};
+ghost use Rattle.pool_checks.specs.Check.{checkTerm};
 ghost use Rattle.quantifiers.specs.Outcome.{answerOf};
-ghost use Rattle.quantifiers.specs.FormAnswer.{twoIn};
+ghost use Rattle.forms.specs.FormAnswer.{twoIn};
 ghost use Rattle.clausification.specs.QntCnf.{implication, clausified, qntCnf};
 ghost use Rattle.clausification.specs.ClauseSearch.{clausesIn};
 ghost use Rattle.clausification.specs.Promises.{forallAt, followsIn, Sides, Leaves, Clausified};
@@ -84,14 +85,24 @@ fn clause_follows(
 }
 
 // The clauses of the left forall's body, and the right forall: 31, 13, 32, 8, 10, 9.
-fn clausified(tags: &mut [u32], values: &mut [u32], n: usize, left: Forall, right: Forall) -> Answer
+fn clausified(
+    tags: &mut [u32],
+    values: &mut [u32],
+    index: &[u32; 12288],
+    n: usize,
+    left: Forall,
+    right: Forall,
+) -> Answer
+    requires { ⌜ Index (now tags) (now values) n (now index) ⌝ }
     requires { ⌜ Sides (now tags) (now values) n (left .place) (left .body) (right .place) (right .body) ⌝ }
     ensures { λ a. ⌜ Leaves n (now (tags .entry)) (now (values .entry)) (clausified (now (tags .entry)) (now (values .entry)) n (forallAt (now (tags .entry)) (now (values .entry)) (left .place) (left .body)) (forallAt (now (tags .entry)) (now (values .entry)) (right .place) (right .body))) a (now (tags .exit)) (now (values .exit)) ⌝ }
 {
-    let Built::At(x, m) = build_normal_form(tags, values, n, TermPlace(left.body), true) else {
+    let mut grown = *index;
+    let Built::At(x, m) = build_normal_form(tags, values, &mut grown, n, TermPlace(left.body), true)
+    else {
         return refuse(31, 0, 0);
     };
-    let Built::At(y, k) = build_taken_out(tags, values, m, x) else {
+    let Built::At(y, k) = build_taken_out(tags, values, &mut grown, m, x) else {
         return refuse(31, 0, 0);
     };
     let mut literals = [0u32; 8192];
@@ -122,7 +133,14 @@ fn clausified(tags: &mut [u32], values: &mut [u32], n: usize, left: Forall, righ
 }
 
 // The checks in 01's order. What was built is left after the pool.
-fn checks(tags: &mut [u32], values: &mut [u32], n: usize, x: TermPlace) -> Answer
+fn checks(
+    tags: &mut [u32],
+    values: &mut [u32],
+    index: &[u32; 12288],
+    n: usize,
+    x: TermPlace,
+) -> Answer
+    requires { ⌜ Index (now tags) (now values) n (now index) ⌝ }
     requires { ⌜ checkTerm (now tags) (now values) builtIn n (x .0) .code ≡ 0 ⌝ }
     ensures { λ a. ⌜ Leaves n (now (tags .entry)) (now (values .entry)) (qntCnf (now (tags .entry)) (now (values .entry)) n (x .0)) a (now (tags .exit)) (now (values .exit)) ⌝ }
 {
@@ -149,15 +167,22 @@ fn checks(tags: &mut [u32], values: &mut [u32], n: usize, x: TermPlace) -> Answe
         place: r,
         body: right_body,
     };
-    clausified(tags, values, n, left, right)
+    clausified(tags, values, index, n, left, right)
 }
 
 // The answer to the conclusion at x, which has passed its checks; the cells past the pool are zeroed.
-pub fn qnt_cnf(tags: &mut [u32], values: &mut [u32], n: usize, x: TermPlace) -> Answer
+pub fn qnt_cnf(
+    tags: &mut [u32],
+    values: &mut [u32],
+    index: &[u32; 12288],
+    n: usize,
+    x: TermPlace,
+) -> Answer
+    requires { ⌜ Index (now tags) (now values) n (now index) ⌝ }
     requires { ⌜ checkTerm (now tags) (now values) builtIn n (x .0) .code ≡ 0 ⌝ }
     ensures { λ a. ⌜ Clausified (now (tags .entry)) (now (values .entry)) n (x .0) a (now (tags .exit)) (now (values .exit)) ⌝ }
 {
-    let answer = checks(tags, values, n, x);
+    let answer = checks(tags, values, index, n, x);
     cut_back(tags, values, n);
     answer
 }

@@ -1,15 +1,16 @@
 // The search among the variables that are taken out of a term in normal form. A memo, a byte for each place, keeps the places
 // from which nothing is found, so that each is visited once however terms are shared. A place past the memo's end is walked
 // anew.
+use forms::bindings;
 use formulas::view::NormalView;
 use formulas::view::normal_view;
+use free_lists::is_free_by;
 use pool::TermPlace;
+use pool::names::mark_names;
 use pool::run::operands;
 use quantifiers::binding::FirstName;
 use quantifiers::binding::has;
-use quantifiers::binding::is_free_in;
 use quantifiers::binding::same_pair;
-use quantifiers::form::bindings;
 ghost use mathlib.Core.Path.{_≡_};
 ghost use mathlib.Core.Bool.{true, not};
 ghost use mathlib.Core.List.{_++_};
@@ -19,7 +20,7 @@ ghost use Rattle.formulas.specs.Normal.{taken};
 ghost use Rattle.clauses.specs.ClauseWalk.{formAt};
 ghost use Rattle.quantifiers.specs.Binding.{bindingsOf, has, firstOf};
 ghost use Rattle.quantifiers.specs.BindingAnswer.{pair, nameOf};
-ghost use Rattle.clausification.specs.TakenSearch.{isSought, foundAt, foundIn, Means, Right, Answered, Noted};
+ghost use Rattle.clausification.specs.TakenSearch.{isSought, Tabled, foundAt, foundIn, Means, Right, Answered, Noted};
 
 // What is sought: a pair of name and sort; or a variable that the right list lacks and that is free in the term at this place.
 pub enum Sought {
@@ -35,16 +36,18 @@ pub enum Step {
     Run,
 }
 
-// Whether this pair is sought.
+// Whether this pair is sought. The table has the names of the term where a missing variable is to be free.
 fn is_sought(
     tags: &[u32],
     values: &[u32],
     n: usize,
     right: &[u32],
     sought: Sought,
+    names: &[u8],
     name: u32,
     sort: u32,
 ) -> bool
+    requires { ⌜ Tabled (now tags) (now values) (now names) sought ⌝ }
     ensures { λ r. ⌜ r ≡ isSought (now (tags .entry)) (now (values .entry)) n (bindingsOf (now (right .entry))) sought (pair name sort) ⌝ }
 {
     match sought {
@@ -53,7 +56,7 @@ fn is_sought(
             if has(right, name, sort) {
                 return false;
             }
-            is_free_in(tags, values, n, name, sort, t)
+            is_free_by(tags, values, n, names, name, sort, t)
         }
     }
 }
@@ -65,13 +68,15 @@ fn first_sought(
     n: usize,
     right: &[u32],
     sought: Sought,
+    names: &[u8],
     list: &[u32],
 ) -> FirstName
+    requires { ⌜ Tabled (now tags) (now values) (now names) sought ⌝ }
     ensures { λ r. ⌜ r ≡ nameOf (firstOf (isSought (now (tags .entry)) (now (values .entry)) n (bindingsOf (now (right .entry))) sought) (bindingsOf (now (list .entry)))) ⌝ }
 {
     let mut i: usize = 0;
     while 2 <= list.len() - i {
-        if is_sought(tags, values, n, right, sought, list[i], list[i + 1]) {
+        if is_sought(tags, values, n, right, sought, names, list[i], list[i + 1]) {
             return FirstName::Name(list[i]);
         }
         i += 2;
@@ -80,7 +85,7 @@ fn first_sought(
 }
 
 // The memo's entry for a place, and 0 past its end.
-fn seen_at(seen: &[u8], i: usize) -> u8
+pub(crate) fn seen_at(seen: &[u8], i: usize) -> u8
     ensures { λ r. ⌜ r ≡ getD (now (seen .entry)) i 0 ⌝ }
 {
     if i < seen.len() { seen[i] } else { 0 }
@@ -93,10 +98,11 @@ fn look(
     n: usize,
     right: &[u32],
     sought: Sought,
+    names: &[u8],
     seen: &[u8],
     x: u32,
 ) -> Step
-    requires { ⌜ Right (now tags) (now values) (isSought (now tags) (now values) n (bindingsOf (now right)) sought) (now seen) ⌝ }
+    requires { ⌜ Tabled (now tags) (now values) (now names) sought × Right (now tags) (now values) (isSought (now tags) (now values) n (bindingsOf (now right)) sought) (now seen) ⌝ }
     ensures { λ r. ⌜ Means (now (tags .entry)) (now (values .entry)) (isSought (now (tags .entry)) (now (values .entry)) n (bindingsOf (now (right .entry))) sought) x r ⌝ }
 {
     let at = x as usize;
@@ -108,7 +114,15 @@ fn look(
         NormalView::Literal => Step::Nothing,
         NormalView::Connective(_) => Step::Run,
         NormalView::Forall(body) => {
-            let own = first_sought(tags, values, n, right, sought, bindings(tags, values, x));
+            let own = first_sought(
+                tags,
+                values,
+                n,
+                right,
+                sought,
+                names,
+                bindings(tags, values, x),
+            );
             match own {
                 FirstName::Name(a) => Step::Found(a),
                 FirstName::Nothing => Step::Body(body),
@@ -141,23 +155,24 @@ fn from_term(
     n: usize,
     right: &[u32],
     sought: Sought,
+    names: &[u8],
     seen: &mut [u8],
     x: u32,
 ) -> FirstName
-    requires { ⌜ Right (now tags) (now values) (isSought (now tags) (now values) n (bindingsOf (now right)) sought) (now seen) ⌝ }
+    requires { ⌜ Tabled (now tags) (now values) (now names) sought × Right (now tags) (now values) (isSought (now tags) (now values) n (bindingsOf (now right)) sought) (now seen) ⌝ }
     ensures { λ r. ⌜ Answered (now (tags .entry)) (now (values .entry)) (isSought (now (tags .entry)) (now (values .entry)) n (bindingsOf (now (right .entry))) sought) (now (seen .exit)) r (foundAt (now (tags .entry)) (now (values .entry)) (isSought (now (tags .entry)) (now (values .entry)) n (bindingsOf (now (right .entry))) sought) x) ⌝ }
 {
-    let step = look(tags, values, n, right, sought, seen, x);
+    let step = look(tags, values, n, right, sought, names, seen, x);
     match step {
         Step::Found(a) => FirstName::Name(a),
         Step::Nothing => note(seen, x, FirstName::Nothing),
         Step::Body(u) => {
-            let f = from_term(tags, values, n, right, sought, seen, u);
+            let f = from_term(tags, values, n, right, sought, names, seen, u);
             note(seen, x, f)
         }
         Step::Run => {
             let run = operands(tags, values, TermPlace(x));
-            let f = from_run(tags, values, n, right, sought, seen, x, run);
+            let f = from_run(tags, values, n, right, sought, names, seen, x, run);
             note(seen, x, f)
         }
     }
@@ -170,20 +185,31 @@ fn from_run(
     n: usize,
     right: &[u32],
     sought: Sought,
+    names: &[u8],
     seen: &mut [u8],
     x: u32,
     run: &[u32],
 ) -> FirstName
-    requires { ⌜ Right (now tags) (now values) (isSought (now tags) (now values) n (bindingsOf (now right)) sought) (now seen) × (allBefore x (now run) ≡ true) ⌝ }
+    requires { ⌜ Tabled (now tags) (now values) (now names) sought × Right (now tags) (now values) (isSought (now tags) (now values) n (bindingsOf (now right)) sought) (now seen) × (allBefore x (now run) ≡ true) ⌝ }
     ensures { λ r. ⌜ Answered (now (tags .entry)) (now (values .entry)) (isSought (now (tags .entry)) (now (values .entry)) n (bindingsOf (now (right .entry))) sought) (now (seen .exit)) r (foundIn (now (tags .entry)) (now (values .entry)) (isSought (now (tags .entry)) (now (values .entry)) n (bindingsOf (now (right .entry))) sought) (now (run .entry))) ⌝ }
 {
     if run.len() == 0 {
         return FirstName::Nothing;
     }
-    let f = from_term(tags, values, n, right, sought, seen, run[0]);
+    let f = from_term(tags, values, n, right, sought, names, seen, run[0]);
     match f {
         FirstName::Name(a) => FirstName::Name(a),
-        FirstName::Nothing => from_run(tags, values, n, right, sought, seen, x, &run[1..]),
+        FirstName::Nothing => from_run(tags, values, n, right, sought, names, seen, x, &run[1..]),
+    }
+}
+
+// Makes the table of the names of the term where a missing variable is to be free.
+fn mark_sought(tags: &[u32], values: &[u32], sought: Sought, names: &mut [u8])
+    ensures { λ _. ⌜ Tabled (now (tags .entry)) (now (values .entry)) (now (names .exit)) sought ⌝ }
+{
+    match sought {
+        Sought::Pair(_, _) => {}
+        Sought::Missing(t) => mark_names(tags, values, TermPlace(t), names),
     }
 }
 
@@ -198,8 +224,10 @@ pub(crate) fn first_taken(
 ) -> FirstName
     ensures { λ r. ⌜ r ≡ nameOf (firstOf (isSought (now (tags .entry)) (now (values .entry)) n (bindingsOf (now (right .entry))) sought) (taken bindingsOf (formAt (now (tags .entry)) (now (values .entry)) x))) ⌝ }
 {
+    let mut names = [0u8; 8192];
+    mark_sought(tags, values, sought, &mut names);
     let mut seen = [0u8; 8192];
-    from_term(tags, values, n, right, sought, &mut seen, x)
+    from_term(tags, values, n, right, sought, &names, &mut seen, x)
 }
 
 // Whether neither the left list nor the variables taken out of the term at x have this pair.
@@ -216,8 +244,9 @@ fn is_unbound(tags: &[u32], values: &[u32], x: u32, left: &[u32], name: u32, sor
     }
 }
 
-// The first pair of the right list that is neither in the left list nor among the variables taken out of the term at x.
-pub(crate) fn first_unbound(
+// The first pair of the right list that is neither in the left list nor among the variables taken out of the term at x, by a walk for
+// each pair.
+pub(crate) fn first_unbound_by_walks(
     tags: &[u32],
     values: &[u32],
     x: u32,

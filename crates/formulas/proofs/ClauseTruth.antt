@@ -8,9 +8,9 @@ use mathlib.Core.Path.{_≡_, refl, sym, ap, ap₂, _∙_}
 use mathlib.Core.Bool.{Bool, true, false, not, _&&_, _||_, or-true, or-false, and-true, and-assoc, or-assoc}
 use mathlib.Core.Bool.{or-and-distrib-left, or-and-distrib-right}
 use mathlib.Core.List.{List, [], _∷_, _++_, map, List·Memᴰ, List·Memᴰ·head, List·Memᴰ·tail}
-use Rattle.pool.specs.Sort.{Sort}
-use Rattle.pool.specs.Term.{Var, Vars, Term, quant}
-use Rattle.pool.specs.FreeTree.{has, free}
+use Rattle.term_trees.specs.Sort.{Sort}
+use Rattle.term_trees.specs.Term.{Var, Vars, Term, quant}
+use Rattle.term_trees.specs.FreeTree.{has, free}
 use Rattle.formulas.specs.Formula.{Form, all}
 use Rattle.formulas.specs.Normal.{Normal, Normals, lit, nmany, nall, nnil, ncons, nnf, prenex, prenexes, taken}
 use Rattle.formulas.specs.Clauses.{Clause, product, cnf, cnfAnd, cnfOr}

@@ -8,8 +8,8 @@ use Prim.Native.Nat.{ℕ}
 use mathlib.Core.Path.{_≡_, refl, sym, ap, ap₂, _∙_}
 use mathlib.Core.Bool.{Bool, true, false, not, _&&_, _||_, cond, Bool·beq, or-false}
 use lib.Dec.{eqb}
-use Rattle.pool.specs.Term.{Var, Vars, Term, Terms, const, bitVector, var, app, quant, bind, letin, op, noTerm, tnil, tcons}
-use Rattle.pool.specs.FreeTree.{has, free, frees}
+use Rattle.term_trees.specs.Term.{Var, Vars, Term, Terms, const, bitVector, var, app, quant, bind, letin, op, noTerm, tnil, tcons}
+use Rattle.term_trees.specs.FreeTree.{has, free, frees}
 use Rattle.formulas.specs.Formula.{Form, Forms, opaque, neg, many, imp, ite, iff, all, fnil, fcons}
 use Rattle.formulas.specs.Skeleton.{skeleton, skeletons, leftBool, notOf, impliesOf, iteOf, iffOf, formOf}
 use Rattle.formulas.specs.Truth.{Assignment, Reading, Local, andOr, over, truth, truths, True}

@@ -17,11 +17,11 @@ use Rattle.headers.specs.declared.well_formed.Shape.{Shape}
 use Rattle.headers.specs.declared.well_formed.Shape.the-variants.{Binder, Operator}
 use Rattle.headers.specs.declared.well_formed.CellKind.{CellKind}
 use Rattle.headers.specs.declared.well_formed.CellKind.the-variants.{Number, OfSort, OfTerm}
-use Rattle.pool.proofs.tree.Header.{Each, Described, sort-cell, term-cell, term-tagged}
-use Rattle.pool.proofs.tree.Walk.{place-described}
-use Rattle.pool.proofs.tree.Tags.{shape-op, by-term-tag}
-use Rattle.pool.proofs.tree.Parts.{from-one, from-two}
-use Rattle.pool.proofs.tree.Terms.{even-rest}
+use Rattle.term_trees.proofs.Header.{Each, Described, sort-cell, term-cell, term-tagged}
+use Rattle.term_trees.proofs.Walk.{place-described}
+use Rattle.term_trees.proofs.Tags.{shape-op, by-term-tag}
+use Rattle.term_trees.proofs.Parts.{from-one, from-two}
+use Rattle.term_trees.proofs.Terms.{even-rest}
 use Rattle.formulas.specs.declared.view.View.{View}
 use Rattle.formulas.specs.declared.view.View.the-variants.{Opaque, Not, Many, Implies, Ite, Iff, Quantifier}
 use Rattle.formulas.specs.Formula.{Form, Forms, opaque, neg, many, imp, ite, iff, all, fnil, fcons, allBefore, equality, connective, quantifier, viewOf, formsOf, formBy, form}

@@ -18,19 +18,19 @@ use Rattle.cells.specs.Headers.{firstHeader}
 use Rattle.cells.specs.declared.Found.the-variants.{Nothing}
 use Rattle.headers.specs.WellFormed.{shapeOf, countFits, kindAt, pairKind, isSortTag, isTermTag, boolFirst, headerFits, firstBad}
 use Rattle.headers.specs.declared.well_formed.Shape.the-variants.{Operator}
-use Rattle.pool.specs.Sort.{Sort-discrete, bool}
-use Rattle.pool.specs.Term.{Vars, Term, stated}
-use Rattle.pool.specs.Tree.{sortFrom, sortTree, varsOf, termsOf, termFrom, tree}
-use Rattle.pool.specs.SortTree.{formOf as formOfSort}
-use Rattle.pool.proofs.tree.Header.{both, Each, Described, term-cell, term-tagged}
-use Rattle.pool.proofs.tree.Walk.{passes, place-described}
-use Rattle.pool.proofs.tree.Tags.{shape-op, by-term-tag}
-use Rattle.pool.proofs.tree.Parts.{from-one, from-two}
-use Rattle.pool.proofs.tree.Sorts.{sort-is}
-use Rattle.pool.proofs.tree.Terms.{term-is, term-op, even-rest}
-use Rattle.pool.proofs.tree.Stated.{sort-place, stated-is}
-use Rattle.pool.proofs.tree.Forms.{tag-of}
-use Rattle.pool.proofs.tree.Passed.{Passed, one-sort}
+use Rattle.term_trees.specs.Sort.{Sort-discrete, bool}
+use Rattle.term_trees.specs.Term.{Vars, Term, stated}
+use Rattle.term_trees.specs.Tree.{sortFrom, sortTree, varsOf, termsOf, termFrom, tree}
+use Rattle.term_trees.specs.SortTree.{formOf as formOfSort}
+use Rattle.term_trees.proofs.Header.{both, Each, Described, term-cell, term-tagged}
+use Rattle.term_trees.proofs.Walk.{passes, place-described}
+use Rattle.term_trees.proofs.Tags.{shape-op, by-term-tag}
+use Rattle.term_trees.proofs.Parts.{from-one, from-two}
+use Rattle.term_trees.proofs.Sorts.{sort-is}
+use Rattle.term_trees.proofs.Terms.{term-is, term-op, even-rest}
+use Rattle.term_trees.proofs.Stated.{sort-place, stated-is}
+use Rattle.term_trees.proofs.Forms.{tag-of}
+use Rattle.term_trees.proofs.Passed.{Passed, one-sort}
 use Rattle.formulas.specs.declared.view.View.{View}
 use Rattle.formulas.specs.declared.view.View.the-variants.{Opaque, Not, Many, Implies, Ite, Iff, Quantifier}
 use Rattle.formulas.specs.Formula.{Form, opaque, neg, many, imp, ite, iff, all, fcons, allBefore, equality, connective, quantifier, viewOf, formsOf, formBy, form}

@@ -6,7 +6,7 @@
 -- Assumes nothing.
 use mathlib.Core.Path.{_≡_, refl, ap, ap₂, _∙_, sym}
 use mathlib.Core.Bool.{Bool, true, false, not, _||_, cond, Bool·beq, or-false, and-true}
-use Rattle.pool.specs.Term.{Vars, Term, Terms, const, bitVector, var, app, quant, bind, letin, op, noTerm, tnil, tcons}
+use Rattle.term_trees.specs.Term.{Vars, Term, Terms, const, bitVector, var, app, quant, bind, letin, op, noTerm, tnil, tcons}
 use Rattle.formulas.specs.Formula.{Form, Forms, opaque, neg, many, imp, ite, iff, all, fnil, fcons}
 use Rattle.formulas.specs.Normal.{Normal, Normals, lit, nmany, nall, nnil, ncons, flip, nnf, nnfs}
 use Rattle.formulas.specs.Skeleton.{skeleton, skeletons, leftBool, formOf, notOf, build, builds}

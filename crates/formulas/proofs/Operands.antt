@@ -9,8 +9,8 @@ use native.Mathlib.Omega.{arith}
 use borrow.Author.Tests.{lt-ltb}
 use Rattle.headers.specs.WellFormed.{kindAt, isTermTag}
 use Rattle.headers.specs.declared.well_formed.Shape.the-variants.{Operator}
-use Rattle.pool.proofs.tree.Header.{Each, term-cell}
-use Rattle.pool.proofs.tree.Parts.{not-first}
+use Rattle.term_trees.proofs.Header.{Each, term-cell}
+use Rattle.term_trees.proofs.Parts.{not-first}
 use Rattle.formulas.specs.Formula.{allBefore}
 
 module _ (tags : List ℕ) (t : ℕ) where

@@ -7,9 +7,9 @@ use mathlib.Core.Path.{_≡_, refl, sym, ap, ap₂, subst, _∙_, fun-ext, subst
 use mathlib.Core.Bool.{Bool, true, false, _||_, cond, or-assoc, true≢false, false≢true}
 use mathlib.Core.HLevel.{hedberg}
 use mathlib.Core.List.{List, [], _∷_, _++_, List·Memᴰ, List·Memᴰ·head, List·Memᴰ·tail}
-use Rattle.pool.specs.Sort.{Sort}
-use Rattle.pool.specs.Term.{Var, Vars, Var-discrete}
-use Rattle.pool.specs.FreeTree.{isYes, same, has}
+use Rattle.term_trees.specs.Sort.{Sort}
+use Rattle.term_trees.specs.Term.{Var, Vars, Var-discrete}
+use Rattle.term_trees.specs.FreeTree.{isYes, same, has}
 use Rattle.formulas.specs.Truth.{Assignment, Reading, valueAt, assign, andOr, among, over}
 
 -- ---- Booleans

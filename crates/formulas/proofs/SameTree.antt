@@ -22,17 +22,17 @@ use Rattle.headers.specs.declared.well_formed.Shape.{Shape}
 use Rattle.headers.specs.declared.well_formed.Shape.the-variants.{Named, Sorts as SortList, Application, Binder, Let, Operator}
 use Rattle.headers.specs.declared.well_formed.CellKind.{CellKind}
 use Rattle.headers.specs.declared.well_formed.CellKind.the-variants.{Number, OfSort, OfTerm}
-use Rattle.headers.proofs.description.Fills.{orElse, header-grown, well-formed-fills}
-use Rattle.headers.proofs.description.Growth.{Same, at-same}
-use Rattle.pool.specs.Sort.{Sort, atom, function, array, set, tuple, noSort, scons}
-use Rattle.pool.specs.Term.{Vars, Term, const, bitVector, var, app, quant, bind, letin, op, noTerm, tcons, lcons}
-use Rattle.pool.specs.Tree.{sortsOf, sortFrom, sortStep, sortTree, varsOf, termsOf, letsOf, termFrom, termStep, tree}
-use Rattle.pool.proofs.tree.Header.{both, Header, header, Each, Described, sort-cell, term-cell, sort-tagged, term-tagged}
-use Rattle.pool.proofs.tree.Walk.{place-fits, place-described}
-use Rattle.pool.proofs.tree.Tags.{shape-op, by-sort-tag, by-term-tag}
-use Rattle.pool.proofs.tree.Parts.{not-first, pair-second, one-cell, two-cells, three-cells, from-one, from-two}
-use Rattle.pool.proofs.tree.Sorts.{sort-is}
-use Rattle.pool.proofs.tree.Terms.{term-is, term-op, even-rest}
+use Rattle.descriptions.proofs.description.Fills.{orElse, header-grown, well-formed-fills}
+use Rattle.descriptions.proofs.description.Growth.{Same, at-same}
+use Rattle.term_trees.specs.Sort.{Sort, atom, function, array, set, tuple, noSort, scons}
+use Rattle.term_trees.specs.Term.{Vars, Term, const, bitVector, var, app, quant, bind, letin, op, noTerm, tcons, lcons}
+use Rattle.term_trees.specs.Tree.{sortsOf, sortFrom, sortStep, sortTree, varsOf, termsOf, letsOf, termFrom, termStep, tree}
+use Rattle.term_trees.proofs.Header.{both, Header, header, Each, Described, sort-cell, term-cell, sort-tagged, term-tagged}
+use Rattle.term_trees.proofs.Walk.{place-fits, place-described}
+use Rattle.term_trees.proofs.Tags.{shape-op, by-sort-tag, by-term-tag}
+use Rattle.term_trees.proofs.Parts.{not-first, pair-second, one-cell, two-cells, three-cells, from-one, from-two}
+use Rattle.term_trees.proofs.Sorts.{sort-is}
+use Rattle.term_trees.proofs.Terms.{term-is, term-op, even-rest}
 
 -- a description that stands at p
 pub at-true : (tags values : List ℕ) (p tag : ℕ) (cells : List ℕ) → isAt tags values p tag cells ≡ true → (getD tags p 0 ≡ tag) × (cellsOf values p ≡ cells)

@@ -9,7 +9,7 @@ use lib.ListN.{length, getD, drop, replicate}
 use lib.Dec.{eqb, ltb}
 use Rattle.cells.specs.Cell.{operandsOf}
 use Rattle.cells.specs.ByPlace.{byPlace}
-use Rattle.headers.specs.Description.{find}
+use Rattle.descriptions.specs.Description.{find}
 use Rattle.cells.specs.declared.Found.{Found}
 use Rattle.cells.specs.declared.Found.the-variants.{At, Nothing}
 use Rattle.formulas.specs.declared.view.NormalView.{NormalView}

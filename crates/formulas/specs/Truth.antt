@@ -9,9 +9,9 @@
 use mathlib.Core.Path.{_≡_, subst}
 use mathlib.Core.Bool.{Bool, true, false, not, _&&_, _||_, Bool·beq, cond}
 use mathlib.Core.List.{List, [], _∷_, List·Memᴰ}
-use Rattle.pool.specs.Sort.{Sort}
-use Rattle.pool.specs.Term.{Var, Vars, Var-discrete, Term}
-use Rattle.pool.specs.FreeTree.{free}
+use Rattle.term_trees.specs.Sort.{Sort}
+use Rattle.term_trees.specs.Term.{Var, Vars, Var-discrete, Term}
+use Rattle.term_trees.specs.FreeTree.{free}
 use Rattle.formulas.specs.Formula.{Form, Forms, opaque, neg, many, imp, ite, iff, all, fnil, fcons}
 use Rattle.formulas.specs.Normal.{Normal, Normals, lit, nmany, nall, nnil, ncons, flip}
 use Rattle.formulas.specs.Clauses.{Clause}

@@ -10,8 +10,8 @@ use mathlib.Core.Path.{_≡_, refl}
 use mathlib.Core.Bool.{Bool, true, false}
 use mathlib.Core.List.{[], _∷_, List·Memᴰ, List·Memᴰ·head, List·Memᴰ·tail}
 use native.Mathlib.Decide.{ℕ-discrete}
-use Rattle.pool.specs.Sort.{Sort, Sort-discrete, bool, int}
-use Rattle.pool.specs.Term.{Var, Var-discrete, Term, const, bitVector, var, app, quant, bind, letin, op, noTerm}
+use Rattle.term_trees.specs.Sort.{Sort, Sort-discrete, bool, int}
+use Rattle.term_trees.specs.Term.{Var, Var-discrete, Term, const, bitVector, var, app, quant, bind, letin, op, noTerm}
 use Rattle.formulas.specs.Skeleton.{skeleton}
 use Rattle.formulas.specs.Truth.{Assignment, Reading, valueAt, assign, over, True}
 

@@ -73,11 +73,11 @@ unfolding isFree freeBelow
 free-is tags values v t = byPlace-is (freeStep tags values v) false t
 
 module _ (tags values : List ℕ) (v t u : ℕ) where
-  below-is : u < t → freeBelow tags values v t u ≡ isFree tags values v u
+  pub below-is : u < t → freeBelow tags values v t u ≡ isFree tags values v u
   unfolding freeBelow
   below-is h = rw (lt-ltb _ _ h)
 
-  below-not : t ≤ u → freeBelow tags values v t u ≡ false
+  pub below-not : t ≤ u → freeBelow tags values v t u ≡ false
   unfolding freeBelow
   below-not h = rw (le-ltb _ _ h)
 
@@ -175,7 +175,7 @@ module _ (tags values : List ℕ) (v t : ℕ) (memo : List ℕ) (s : Bool) (a : 
   }
 
 -- ---- the walk along a run
-any-none : (test : ℕ → Bool) (l : List ℕ) → length l ≡ 0 → false ≡ anyOf test l
+pub any-none : (test : ℕ → Bool) (l : List ℕ) → length l ≡ 0 → false ≡ anyOf test l
 unfolding anyOf
 any-none test [] e = refl
 any-none test (x ∷ l) e = absurd (omega arith)
@@ -185,7 +185,7 @@ module _ (tags values : List ℕ) (v t : ℕ) (run : List ℕ) where
   run-end memo right e = record { is = any-none _ run e; right = right }
 
   module _ (some : length run ≡ 0 → ⊥) where
-    any-is : anyOf (freeBelow tags values v t) run
+    pub any-is : anyOf (freeBelow tags values v t) run
         ≡ freeBelow tags values v t (getD run 0 0) || anyOf (freeBelow tags values v t) (take (length run - 1) (drop 1 run))
     unfolding anyOf
     any-is =
@@ -209,13 +209,13 @@ module _ (tags values : List ℕ) (v t : ℕ) (run : List ℕ) where
 pub ruleset walks = (step-yes, step-no, step-body, step-run, noted, run-end, run-skip, run-found, run-on)
 
 -- ---- a fresh memo
+pub zeros : (k u : ℕ) → getD {A = ℕ} (replicate k 0) u 0 ≡ 0
+zeros zero u = refl
+zeros (suc k) zero = refl
+zeros (suc k) (suc u) = zeros k u
+
 pub fresh : (tags values : List ℕ) (v k : ℕ) → Right tags values v (replicate k 0)
 fresh tags values v k = record { at = λ u e. absurd (omega (arith, zeros k u)) }
-  where
-    zeros : (k u : ℕ) → getD {A = ℕ} (replicate k 0) u 0 ≡ 0
-    zeros zero u = refl
-    zeros (suc k) zero = refl
-    zeros (suc k) (suc u) = zeros k u
 
 -- ---- a variable after t is not free in the term at t
 either-false : (b : Bool) → cond b false false ≡ false

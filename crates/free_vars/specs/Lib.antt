@@ -1,2 +1,4 @@
 pub mod Free
 pub mod FreeMemo
+pub mod Names
+pub mod NamesWalk

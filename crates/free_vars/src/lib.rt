@@ -1,5 +1,7 @@
 // Free variables, after `compute_free_vars`. A memo, a byte for each place, keeps the answers for one variable, so that
 // its walk takes time linear in the pool however terms are shared. A place past the memo's end is walked anew.
+pub mod names;
+
 use cells::TermPlace;
 use cells::run::cell;
 use cells::run::operands;

@@ -1,3 +1,1 @@
 pub mod WellFormed
-pub mod Description
-pub mod Index

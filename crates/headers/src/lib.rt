@@ -1,4 +1,2 @@
-// Headers of a pool: whether they are well formed (check 14), their descriptions (check 15), and adding one.
-pub mod description;
-mod index;
+// Headers of a pool: whether they are well formed (check 14).
 pub mod well_formed;

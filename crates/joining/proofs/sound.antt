@@ -1,3 +1,2 @@
--- Rules 1 and 2 are sound: a step that passes is true in every reading.
+-- Rule 1 is sound: a step that passes is true in every reading.
 pub mod QntJoin
-pub mod QntRmUnused

@@ -1,4 +1,3 @@
 pub mod QntJoin
 pub mod JoinAlong
-pub mod QntRmUnused
 pub mod Cases

@@ -9,7 +9,7 @@ use mathlib.Core.List.{List, [], _∷_, _++_}
 use lib.Dec.{eqb}
 use Rattle.quantifiers.specs.Outcome.{Outcome, _>>=_, _>>_, need, guard}
 use Rattle.quantifiers.specs.Binding.{Binding, same, has, sameAll}
-use Rattle.quantifiers.specs.Form.{quantifier, tagOf, equality}
+use Rattle.forms.specs.Form.{quantifier, tagOf, equality}
 
 -- "adjacent equal pairs dropped": a pair that equals the one before it goes
 unfoldable pub afterPair : Binding → List Binding → List Binding

@@ -1,3 +1,2 @@
-// Rules 1 and 2: joining of quantifiers, and removal of unused variables.
+// Rule 1: joining of quantifiers.
 pub mod qnt_join;
-pub mod qnt_rm_unused;

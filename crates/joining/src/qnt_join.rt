@@ -1,14 +1,14 @@
 // Rule 1, `qnt_join`.
+use forms::Quantified;
+use forms::Two;
+use forms::bindings;
+use forms::equality_at;
+use forms::quantified_at;
+use forms::tag_of;
 use pool::Answer;
 use pool::TermPlace;
 use pool::run::cell;
 use quantifiers::binding::same_pair;
-use quantifiers::form::Quantified;
-use quantifiers::form::Two;
-use quantifiers::form::bindings;
-use quantifiers::form::equality_at;
-use quantifiers::form::quantified_at;
-use quantifiers::form::tag_of;
 use quantifiers::outcome::accept;
 use quantifiers::outcome::refuse;
 ghost use mathlib.Core.Path.{_≡_};

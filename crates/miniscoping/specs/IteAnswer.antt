@@ -5,8 +5,8 @@ use mathlib.Core.List.{List}
 use mathlib.Core.Option.{Option, some, none}
 use lib.Dec.{eqb}
 use Rattle.quantifiers.specs.Binding.{bindingsOf}
-use Rattle.quantifiers.specs.Form.{Quantifier, quantifier, andThen}
-use Rattle.quantifiers.specs.FormAnswer.{pairsOf}
+use Rattle.forms.specs.Form.{Quantifier, quantifier, andThen}
+use Rattle.forms.specs.FormAnswer.{pairsOf}
 use Rattle.miniscoping.specs.MiniscopeDistribute.{ofKind}
 use Rattle.miniscoping.specs.MiniscopeIte.{IteSides}
 use Rattle.miniscoping.specs.declared.miniscope_ite.ItePlaces.{ItePlaces}

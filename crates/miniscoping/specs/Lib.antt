@@ -3,4 +3,4 @@ pub mod MiniscopeSplit
 pub mod MiniscopeIte
 pub mod SidesAnswer
 pub mod IteAnswer
-pub mod Used
+pub mod LeftFits

@@ -9,7 +9,7 @@ use lib.ListN.{length}
 use lib.Dec.{eqb}
 use Rattle.quantifiers.specs.Outcome.{Outcome, pass, _>>=_, _>>_, need, guard}
 use Rattle.quantifiers.specs.Binding.{Binding, sameAll}
-use Rattle.quantifiers.specs.Form.{Quantifier, quantifier, operator, equality, andThen}
+use Rattle.forms.specs.Form.{Quantifier, quantifier, operator, equality, andThen}
 
 -- a quantified `and` or `or` on the left, one of the same operator on the right
 pub record Sides : Type 0 where

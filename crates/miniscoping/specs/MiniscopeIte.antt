@@ -8,7 +8,7 @@ use mathlib.Core.Option.{Option, some, none}
 use lib.Dec.{eqb}
 use Rattle.quantifiers.specs.Outcome.{Outcome, _>>=_, _>>_, need, guard, unless}
 use Rattle.quantifiers.specs.Binding.{Binding, sameAll, firstOf, bindingFree}
-use Rattle.quantifiers.specs.Form.{Quantifier, quantifier, operator, threeOf, equality, andThen}
+use Rattle.forms.specs.Form.{Quantifier, quantifier, operator, threeOf, equality, andThen}
 
 pub record IteSides : Type 0 where
   pub left : ℕ  -- the left quantifier's place

@@ -1,28 +1,17 @@
 -- Rule 5, `miniscope_split`: `(= (forall L (or ..)) (or ..))`, or with exists and `and`; each operand on the right is the left one, or the left one
 -- under a quantifier over some of the pairs of L.
 -- 01: "2, 11, then by operand: equal passes, else 2, 5, 8, each outer pair used at most once, also where the outer list repeats it; then 12."
--- Rests on Outcome, Binding, Form and MiniscopeDistribute.
+-- Rests on Outcome, Binding, Form, Used and MiniscopeDistribute.
 use Prim.Native.Nat.{ℕ}
 use mathlib.Core.Bool.{Bool, true, false, cond}
 use mathlib.Core.List.{List, [], _∷_}
 use lib.ListN.{length}
 use lib.Dec.{eqb}
 use Rattle.quantifiers.specs.Outcome.{Outcome, pass, _>>=_, _>>_, need, guard, unless}
-use Rattle.quantifiers.specs.Binding.{Binding, same, has, firstOf, bindingFree}
-use Rattle.quantifiers.specs.Form.{quantifier, andThen}
+use Rattle.quantifiers.specs.Binding.{Binding, firstOf, bindingFree}
+use Rattle.forms.specs.Form.{quantifier, andThen}
+use Rattle.used_pairs.specs.Used.{useAll}
 use Rattle.miniscoping.specs.MiniscopeDistribute.{Sides, sidesOf, orElse, ofKind}
-
--- a list without a pair
-unfoldable pub without : Binding → List Binding → List Binding
-without a [] = []
-without a (b ∷ bs) = cond (same b a) (without a bs) (b ∷ without a bs)
-
--- what is left of the outer pairs once a list has used its own: "8 new variable (name)" for one that is not left
-unfoldable pub useAll : List Binding → List Binding → Outcome (List Binding)
-useAll [] rest = pass rest
-useAll (a ∷ as′) rest = do
-  guard 8 (a .name) 0 (has rest a)
-  useAll as′ (without a rest)
 
 module _ (tags values : List ℕ) where
   -- what the right operand at u, for the left operand at t, leaves of the outer pairs

@@ -4,7 +4,7 @@ use mathlib.Core.List.{List}
 use mathlib.Core.Option.{Option, some, none}
 use Rattle.cells.specs.Cell.{operandsOf}
 use Rattle.quantifiers.specs.Binding.{bindingsOf}
-use Rattle.quantifiers.specs.FormAnswer.{pairsOf}
+use Rattle.forms.specs.FormAnswer.{pairsOf}
 use Rattle.miniscoping.specs.MiniscopeDistribute.{Sides}
 use Rattle.miniscoping.specs.declared.sides.Places.{Places}
 use Rattle.miniscoping.specs.declared.sides.Matched.{Matched}

@@ -3,4 +3,3 @@ pub mod miniscope_distribute;
 pub mod miniscope_ite;
 pub mod miniscope_split;
 pub mod sides;
-mod used;

@@ -1,16 +1,16 @@
 // Rule 6, `miniscope_ite`: 2, 6, 6, 12.
 use crate::sides::of_kind;
+use forms::Quantified;
+use forms::Three;
+use forms::Two;
+use forms::bindings;
+use forms::equality_at;
+use forms::three_operands;
+use free_lists::first_free;
 use pool::Answer;
 use pool::TermPlace;
 use quantifiers::binding::FirstName;
-use quantifiers::binding::first_free;
 use quantifiers::binding::same_lists;
-use quantifiers::form::Quantified;
-use quantifiers::form::Three;
-use quantifiers::form::Two;
-use quantifiers::form::bindings;
-use quantifiers::form::equality_at;
-use quantifiers::form::three_operands;
 use quantifiers::outcome::accept;
 use quantifiers::outcome::refuse;
 ghost use mathlib.Core.Path.{_≡_};

@@ -4,27 +4,28 @@ use crate::sides::Places;
 use crate::sides::either_sides;
 use crate::sides::of_kind;
 use crate::sides::operand_count;
-use crate::used::use_all;
+use forms::Quantified;
+use forms::bindings;
+use free_lists::first_free;
 use pool::Answer;
 use pool::TermPlace;
 use pool::run::operands;
 use quantifiers::binding::FirstName;
-use quantifiers::binding::first_free;
 use quantifiers::checked::Checked;
-use quantifiers::form::Quantified;
-use quantifiers::form::bindings;
 use quantifiers::outcome::accept;
 use quantifiers::outcome::refuse;
+use used_pairs::use_all;
 ghost use mathlib.Core.Path.{_≡_};
 ghost use Prim.Native.Nat.{_≤_};
 ghost use lib.ListN.{length};
 ghost use Rattle.quantifiers.specs.Outcome.{answerOf};
 ghost use Rattle.quantifiers.specs.Binding.{bindingsOf};
 ghost use Rattle.quantifiers.specs.Checked.{outcomeOf};
-ghost use Rattle.quantifiers.specs.FormAnswer.{pairsOf};
+ghost use Rattle.forms.specs.FormAnswer.{pairsOf};
 ghost use Rattle.miniscoping.specs.MiniscopeSplit.{splitOne, splitAll, splitSides, miniscopeSplit};
 ghost use Rattle.miniscoping.specs.SidesAnswer.{sidesAt};
-ghost use Rattle.miniscoping.specs.Used.{leftOf, LeftFits};
+ghost use Rattle.used_pairs.specs.Used.{leftOf};
+ghost use Rattle.miniscoping.specs.LeftFits.{LeftFits};
 
 // One operand: the right one at u is the left one at t, or t under a quantifier over outer pairs that are left, which it uses.
 fn split_one(

@@ -1,18 +1,18 @@
 // The two sides that rules 4 and 5 match: on the left a quantifier over the operands of `and` or `or`, on the right the same operator.
+use forms::Quantified;
+use forms::Two;
+use forms::equality_at;
+use forms::quantified_at;
 use pool::TermPlace;
 use pool::run::cell;
 use pool::run::operands;
-use quantifiers::form::Quantified;
-use quantifiers::form::Two;
-use quantifiers::form::equality_at;
-use quantifiers::form::quantified_at;
 ghost use mathlib.Core.Path.{_≡_};
 ghost use mathlib.Core.Bool.{true, false};
 ghost use lib.ListN.{length};
 ghost use Rattle.cells.specs.Cell.{operandsOf};
 ghost use Rattle.quantifiers.specs.Binding.{bindingsOf};
-ghost use Rattle.quantifiers.specs.Form.{quantifier, andThen};
-ghost use Rattle.quantifiers.specs.FormAnswer.{pairsOf, quantifierIn};
+ghost use Rattle.forms.specs.Form.{quantifier, andThen};
+ghost use Rattle.forms.specs.FormAnswer.{pairsOf, quantifierIn};
 ghost use Rattle.miniscoping.specs.MiniscopeDistribute.{sidesOf, orElse, ofKind};
 ghost use Rattle.miniscoping.specs.SidesAnswer.{sidesIn};
 

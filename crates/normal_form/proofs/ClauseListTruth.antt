@@ -16,9 +16,9 @@ use lib.ListN.{getD}
 use lib.Seq.{getD-take}
 use native.Mathlib.Omega.{arith}
 use Rattle.headers.specs.WellFormed.{isSortTag, isTermTag}
-use Rattle.pool.specs.Term.{Vars, Term}
-use Rattle.pool.specs.Tree.{sortTree, tree}
-use Rattle.pool.proofs.tree.Passed.{Passed}
+use Rattle.term_trees.specs.Term.{Vars, Term}
+use Rattle.term_trees.specs.Tree.{sortTree, tree}
+use Rattle.term_trees.proofs.Passed.{Passed}
 use Rattle.formulas.specs.Normal.{lit, nmany, nall, nnf, prenex, taken}
 use Rattle.formulas.specs.Clauses.{Clause, cnf}
 use Rattle.formulas.specs.Built.{Pool, count, takenOut, normalAt}

@@ -14,13 +14,13 @@ use Rattle.headers.specs.WellFormed.{shapeOf, countFits, kindAt, pairKind, isSo
 use Rattle.headers.specs.declared.well_formed.Shape.{Shape}
 use Rattle.headers.specs.declared.well_formed.Shape.the-variants.{Binder, Operator}
 use Rattle.headers.specs.declared.well_formed.CellKind.the-variants.{OfSort, OfTerm}
-use Rattle.pool.specs.Sort.{Sort, bool}
-use Rattle.pool.specs.Term.{Vars, Term, Terms, quant, op, tnil, tcons}
-use Rattle.pool.specs.Tree.{sortTree, varsOf, termsOf, termFrom, tree}
-use Rattle.pool.proofs.tree.Header.{Each}
-use Rattle.pool.proofs.tree.Tags.{shape-op}
-use Rattle.pool.proofs.tree.Parts.{not-first}
-use Rattle.pool.proofs.tree.Terms.{term-op}
+use Rattle.term_trees.specs.Sort.{Sort, bool}
+use Rattle.term_trees.specs.Term.{Vars, Term, Terms, quant, op, tnil, tcons}
+use Rattle.term_trees.specs.Tree.{sortTree, varsOf, termsOf, termFrom, tree}
+use Rattle.term_trees.proofs.Header.{Each}
+use Rattle.term_trees.proofs.Tags.{shape-op}
+use Rattle.term_trees.proofs.Parts.{not-first}
+use Rattle.term_trees.proofs.Terms.{term-op}
 use Rattle.formulas.specs.Formula.{form}
 use Rattle.formulas.specs.Normal.{Normal, Normals, lit, nmany, nall, nnil, ncons, nnf}
 use Rattle.formulas.specs.Built.{Pool, Placed, PlacedAll, count, put, tagOfMany, tagOfQuantifier, intern, interns, normalForm}

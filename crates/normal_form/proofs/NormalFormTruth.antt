@@ -12,11 +12,11 @@ use native.Mathlib.Omega.{arith}
 use Rattle.cells.specs.declared.Found.the-variants.{Nothing}
 use Rattle.cells.proofs.Walks.{first-end}
 use Rattle.headers.specs.WellFormed.{isTermTag, headerFits, firstBad}
-use Rattle.headers.proofs.description.Fills.{well-formed-fills}
-use Rattle.headers.proofs.description.Growth.{Same}
-use Rattle.pool.specs.Term.{Term}
-use Rattle.pool.specs.Tree.{tree}
-use Rattle.pool.proofs.tree.Passed.{Passed}
+use Rattle.descriptions.proofs.description.Fills.{well-formed-fills}
+use Rattle.descriptions.proofs.description.Growth.{Same}
+use Rattle.term_trees.specs.Term.{Term}
+use Rattle.term_trees.specs.Tree.{tree}
+use Rattle.term_trees.proofs.Passed.{Passed}
 use Rattle.formulas.specs.Normal.{flip, nnf}
 use Rattle.formulas.specs.Built.{count, normalForm}
 use Rattle.formulas.specs.Skeleton.{skeleton, build}

@@ -14,7 +14,7 @@ use mathlib.Core.List.{List, _++_, map, map-append}
 use lib.Dec.{eqb}
 use native.Mathlib.Omega.{arith}
 use Rattle.cells.specs.ByPlace.{by-test}
-use Rattle.pool.specs.Term.{Vars, Term, Terms, const, bitVector, var, app, quant, bind, letin, op, noTerm, tnil, tcons}
+use Rattle.term_trees.specs.Term.{Vars, Term, Terms, const, bitVector, var, app, quant, bind, letin, op, noTerm, tnil, tcons}
 use Rattle.formulas.specs.Normal.{Normal, Normals, lit, nmany, nall, nnil, ncons, nnf, prenex, prenexes, taken, takens}
 use Rattle.formulas.specs.Clauses.{product, cnf, cnfAnd, cnfOr}
 use Rattle.formulas.specs.Skeleton.{skeleton, formOf, build, builds}

@@ -15,13 +15,13 @@ use Rattle.cells.specs.ByPlace.{byPlace-is}
 use Rattle.cells.specs.Cell.{cellsOf, operandsOf}
 use Rattle.headers.specs.WellFormed.{shapeOf, countFits, kindAt, pairKind, isTermTag}
 use Rattle.headers.specs.declared.well_formed.Shape.the-variants.{Binder, Operator}
-use Rattle.pool.specs.Term.{Vars, Term}
-use Rattle.pool.specs.Tree.{sortTree, termsOf, termFrom}
-use Rattle.pool.proofs.tree.Header.{Each, Described, term-cell, term-tagged}
-use Rattle.pool.proofs.tree.Walk.{place-described}
-use Rattle.pool.proofs.tree.Tags.{shape-op, by-term-tag}
-use Rattle.pool.proofs.tree.Parts.{from-one, from-two}
-use Rattle.pool.proofs.tree.Terms.{term-is, term-op, even-rest}
+use Rattle.term_trees.specs.Term.{Vars, Term}
+use Rattle.term_trees.specs.Tree.{sortTree, termsOf, termFrom}
+use Rattle.term_trees.proofs.Header.{Each, Described, term-cell, term-tagged}
+use Rattle.term_trees.proofs.Walk.{place-described}
+use Rattle.term_trees.proofs.Tags.{shape-op, by-term-tag}
+use Rattle.term_trees.proofs.Parts.{from-one, from-two}
+use Rattle.term_trees.proofs.Terms.{term-is, term-op, even-rest}
 use Rattle.formulas.specs.declared.view.NormalView.{NormalView}
 use Rattle.formulas.specs.declared.view.NormalView.the-variants.{Literal, Connective, Forall}
 use Rattle.formulas.specs.Formula.{allBefore}

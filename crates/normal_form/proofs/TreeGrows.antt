@@ -18,13 +18,13 @@ use Rattle.cells.specs.Headers.{firstIn, firstFrom, firstHeader}
 use Rattle.cells.specs.declared.Found.{Found}
 use Rattle.cells.specs.declared.Found.the-variants.{At, Nothing}
 use Rattle.cells.proofs.Walks.{first-end, first-next}
-use Rattle.headers.specs.Description.{find}
+use Rattle.descriptions.specs.Description.{find}
 use Rattle.headers.specs.WellFormed.{shapeOf, countFits, kindAt, isSortTag, isTermTag, valueFits, cellFits, boolFirst, headerFits, firstBad}
 use Rattle.headers.specs.declared.well_formed.Shape.{Shape}
-use Rattle.headers.proofs.description.Growth.{Same}
-use Rattle.pool.specs.Tree.{sortTree, termFrom, tree}
-use Rattle.pool.proofs.tree.Header.{Each}
-use Rattle.pool.proofs.tree.Terms.{term-is}
+use Rattle.descriptions.proofs.description.Growth.{Same}
+use Rattle.term_trees.specs.Tree.{sortTree, termFrom, tree}
+use Rattle.term_trees.proofs.Header.{Each}
+use Rattle.term_trees.proofs.Terms.{term-is}
 use Rattle.formulas.specs.Built.{Pool, Placed, count, extend, placeAt, put}
 use Rattle.formulas.proofs.Operands.{IsTerm}
 use Rattle.formulas.proofs.SameTree.{at-true, made-same, value-kept, formed-kept, sort-kept, tree-kept}

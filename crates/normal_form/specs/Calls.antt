@@ -7,10 +7,10 @@ use mathlib.Core.Bool.{Bool, _&&_, cond}
 use mathlib.Core.List.{List}
 use lib.ListN.{length, replicate}
 use lib.Dec.{leb, eqb}
-use Rattle.pool.specs.Answer.{accepted, badArrays}
-use Rattle.pool.specs.Check.{andThen, checkTerm}
-use Rattle.headers.specs.Description.{zeroFrom}
-use Rattle.pool.specs.declared.Answer.{Answer}
+use Rattle.answers.specs.Answer.{accepted, badArrays}
+use Rattle.pool_checks.specs.Check.{andThen, checkTerm}
+use Rattle.descriptions.specs.Description.{zeroFrom}
+use Rattle.answers.specs.declared.Answer.{Answer}
 use Rattle.formulas.specs.Normal.{Normal}
 use Rattle.clauses.specs.Lists.{emptyOrReached, tooManyClauses, padded, literalPlaces, clauseEnds}
 use Rattle.formulas.specs.Clauses.{cnf, emptyOr, literalTotal}

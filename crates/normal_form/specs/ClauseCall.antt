@@ -3,8 +3,8 @@
 use Prim.Native.Nat.{ℕ, _≤_}
 use mathlib.Core.Path.{_≡_}
 use mathlib.Core.List.{List}
-use Rattle.pool.specs.Check.{checkTerm}
-use Rattle.pool.specs.declared.Answer.{Answer}
+use Rattle.pool_checks.specs.Check.{checkTerm}
+use Rattle.answers.specs.declared.Answer.{Answer}
 use Rattle.normal_form.specs.declared.call.Listed.{Listed}
 
 -- the term at t has passed its checks, and the lent arrays, of l and e elements, are long enough

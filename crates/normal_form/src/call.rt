@@ -5,13 +5,14 @@ use building::prenex_forall::build_taken_out;
 use clauses::clause_list::list_clauses;
 use pool::Answer;
 use pool::TermPlace;
-use pool::call::check_term;
+use pool::call::index_term;
 use pool::description::cut_back;
 ghost use Prim.Native.Nat.{_<_};
 ghost use mathlib.Core.Path.{_≡_};
 ghost use lib.ListN.{length};
-ghost use Rattle.sorts.specs.Table.{builtIn};
+ghost use Rattle.sort_rules.specs.Table.{builtIn};
 ghost use Rattle.normal_form.specs.Calls.{NormalForm, ClauseList, clausal};
+ghost use Rattle.descriptions.specs.Index.{Index};
 ghost use Rattle.building.specs.Walk.{State, NormalBuilt};
 ghost use Rattle.normal_form.specs.ClauseCall.{Checked, unlisted};
 
@@ -25,7 +26,8 @@ pub fn normal_form(
 ) -> Answer
     ensures { λ r. ⌜ NormalForm (now (tags .entry)) (now (values .entry)) builtIn n (t .0) polarity r (now (tags .exit)) (now (values .exit)) ⌝ }
 {
-    let checked = check_term(tags, values, n, t);
+    let mut index = [0u32; 12288];
+    let checked = index_term(tags, values, n, t, &mut index);
     if checked.code == 30 {
         return checked;
     }
@@ -33,7 +35,7 @@ pub fn normal_form(
         cut_back(tags, values, n);
         return checked;
     }
-    let Built::At(p, m) = build_normal_form(tags, values, n, t, polarity) else {
+    let Built::At(p, m) = build_normal_form(tags, values, &mut index, n, t, polarity) else {
         cut_back(tags, values, n);
         return Answer::refused(31, 0, 0);
     };
@@ -48,15 +50,22 @@ pub struct Listed {
 }
 
 // The taken-out normal form of the term at t at true polarity.
-fn build_clausal(tags: &mut [u32], values: &mut [u32], n: usize, t: TermPlace) -> Built
+fn build_clausal(
+    tags: &mut [u32],
+    values: &mut [u32],
+    index: &mut [u32; 12288],
+    n: usize,
+    t: TermPlace,
+) -> Built
     requires { ⌜ State n n (now tags) (now values) ⌝ }
     requires { ⌜ t .0 < n ⌝ }
+    requires { ⌜ Index (now tags) (now values) n (now index) ⌝ }
     ensures { λ r. ⌜ NormalBuilt n (now (tags .entry)) (now (values .entry)) (clausal (now (tags .entry)) (now (values .entry)) builtIn n (t .0)) r (now (tags .exit)) (now (values .exit)) ⌝ }
 {
-    let Built::At(x, m) = build_normal_form(tags, values, n, t, true) else {
+    let Built::At(x, m) = build_normal_form(tags, values, index, n, t, true) else {
         return Built::Full;
     };
-    build_taken_out(tags, values, m, x)
+    build_taken_out(tags, values, index, m, x)
 }
 
 fn refused(answer: Answer) -> Listed
@@ -72,15 +81,17 @@ fn refused(answer: Answer) -> Listed
 fn list_checked(
     tags: &mut [u32],
     values: &mut [u32],
+    index: &mut [u32; 12288],
     n: usize,
     t: TermPlace,
     literals: &mut [u32],
     ends: &mut [u32],
 ) -> Listed
+    requires { ⌜ Index (now tags) (now values) n (now index) ⌝ }
     requires { ⌜ Checked (now tags) (now values) builtIn n (t .0) (length (now literals)) (length (now ends)) ⌝ }
     ensures { λ r. ⌜ ClauseList (now (tags .entry)) (now (values .entry)) builtIn n (t .0) (now (literals .entry)) (now (ends .entry)) (r .answer) (r .count) (now (tags .exit)) (now (values .exit)) (now (literals .exit)) (now (ends .exit)) ⌝ }
 {
-    let Built::At(x, m) = build_clausal(tags, values, n, t) else {
+    let Built::At(x, m) = build_clausal(tags, values, index, n, t) else {
         cut_back(tags, values, n);
         cut_back(literals, ends, 0);
         return refused(Answer::refused(31, 0, 0));
@@ -114,7 +125,8 @@ pub fn clause_list(
     if ends.len() < 2048 {
         return refused(Answer::refused(30, 0, 0));
     }
-    let checked = check_term(tags, values, n, t);
+    let mut index = [0u32; 12288];
+    let checked = index_term(tags, values, n, t, &mut index);
     if checked.code == 30 {
         return refused(checked);
     }
@@ -123,5 +135,5 @@ pub fn clause_list(
         cut_back(literals, ends, 0);
         return refused(checked);
     }
-    list_checked(tags, values, n, t, literals, ends)
+    list_checked(tags, values, &mut index, n, t, literals, ends)
 }

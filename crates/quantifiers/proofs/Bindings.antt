@@ -13,10 +13,10 @@ use lib.Dec.{eqb}
 use native.Mathlib.Omega.{arith}
 use borrow.Author.Tests.{eqb-true, eq-eqb}
 use Rattle.cells.specs.ByPlace.{by-test}
-use Rattle.pool.specs.Term.{Var, Vars}
-use Rattle.pool.specs.Tree.{sortTree, varsOf}
-use Rattle.pool.specs.FreeTree.{has as hasVar, same as sameVar}
-use Rattle.pool.proofs.tree.Header.{both}
+use Rattle.term_trees.specs.Term.{Var, Vars}
+use Rattle.term_trees.specs.Tree.{sortTree, varsOf}
+use Rattle.term_trees.specs.FreeTree.{has as hasVar, same as sameVar}
+use Rattle.term_trees.proofs.Header.{both}
 use Rattle.formulas.proofs.Over.{same-eq, same-refl, or-left, or-right, or-cases}
 use Rattle.quantifiers.specs.Binding.{Binding, bindingsOf, same, has, sameAll, firstOf}
 

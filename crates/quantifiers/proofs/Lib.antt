@@ -1,4 +1,2 @@
-pub mod Passes
 pub mod Bindings
 pub mod Sound
-pub mod Trees

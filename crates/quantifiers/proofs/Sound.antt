@@ -8,9 +8,9 @@
 use mathlib.Core.Path.{_≡_, refl, sym, _∙_}
 use mathlib.Core.Bool.{Bool, true, false, Bool·beq, decide-iff}
 use mathlib.Core.List.{[], _∷_, _++_}
-use Rattle.pool.specs.Sort.{Sort, Sort-discrete, bool}
-use Rattle.pool.specs.Term.{Var, Vars, Term, Terms, op, tnil, tcons, stated}
-use Rattle.pool.specs.FreeTree.{has, free, frees}
+use Rattle.term_trees.specs.Sort.{Sort, Sort-discrete, bool}
+use Rattle.term_trees.specs.Term.{Var, Vars, Term, Terms, op, tnil, tcons, stated}
+use Rattle.term_trees.specs.FreeTree.{has, free, frees}
 use Rattle.formulas.specs.Skeleton.{skeleton, skeletons, leftBool, iffOf, formOf}
 use Rattle.formulas.specs.Truth.{Assignment, Reading, Local, assign, among, over, truths, True}
 use Rattle.formulas.proofs.Over.{bool-cases, not-both, same-at, Subset, outside, Within, mix, mix-in, mix-out, over-elim, over-intro}

@@ -1,6 +1,4 @@
 pub mod Outcome
 pub mod Binding
 pub mod BindingAnswer
-pub mod Form
-pub mod FormAnswer
 pub mod Checked

@@ -4,8 +4,8 @@
 use Prim.Native.Nat.{ℕ}
 use mathlib.Core.Bool.{Bool, true, false}
 use mathlib.Core.Option.{Option, some, none}
-use Rattle.pool.specs.Answer.{accepted}
-use Rattle.pool.specs.declared.Answer.{Answer}
+use Rattle.answers.specs.Answer.{accepted}
+use Rattle.answers.specs.declared.Answer.{Answer}
 
 pub data Outcome (A : Type 0) : Type 0 where
   pass : A → Outcome A

@@ -1,11 +1,7 @@
 // Binding lists of quantifiers, as runs of cells: pairs of name and sort. A last cell without its partner is no pair.
-use pool::Found;
-use pool::TermPlace;
-use pool::description::find;
-use pool::is_free;
 ghost use mathlib.Core.Path.{_≡_};
-ghost use mathlib.Core.Bool.{not, _&&_};
-ghost use Rattle.quantifiers.specs.Binding.{bindingsOf, same, has, sameAll, firstOf, bindingFree};
+ghost use mathlib.Core.Bool.{not};
+ghost use Rattle.quantifiers.specs.Binding.{bindingsOf, same, has, sameAll, firstOf};
 ghost use Rattle.quantifiers.specs.BindingAnswer.{pair, nameOf};
 
 // The name of the first pair that passes a test.
@@ -62,52 +58,6 @@ fn lacks(list: &[u32], name: u32, sort: u32) -> bool
     !has(list, name, sort)
 }
 
-// Whether the variable of a pair is free in the term at t. A variable after t is not: up to t, its place fits u32.
-pub fn is_free_in(tags: &[u32], values: &[u32], n: usize, name: u32, sort: u32, t: u32) -> bool
-    ensures { λ r. ⌜ r ≡ bindingFree (now (tags .entry)) (now (values .entry)) n t (pair name sort) ⌝ }
-{
-    let cells = [sort, name];
-    let Found::At(v) = find(tags, values, n, 21, &cells) else {
-        return false;
-    };
-    if (t as usize) < v {
-        return false;
-    }
-    is_free(tags, values, TermPlace(v as u32), TermPlace(t))
-}
-
-// Whether a list lacks this pair and its variable is free in the term at t.
-fn is_missing(
-    tags: &[u32],
-    values: &[u32],
-    n: usize,
-    t: u32,
-    list: &[u32],
-    name: u32,
-    sort: u32,
-) -> bool
-    ensures { λ r. ⌜ r ≡ (not (has (bindingsOf (now (list .entry))) (pair name sort)) && bindingFree (now (tags .entry)) (now (values .entry)) n t (pair name sort)) ⌝ }
-{
-    if lacks(list, name, sort) {
-        return is_free_in(tags, values, n, name, sort, t);
-    }
-    false
-}
-
-// The first pair of a list whose variable is free in the term at t.
-pub fn first_free(tags: &[u32], values: &[u32], n: usize, t: u32, list: &[u32]) -> FirstName
-    ensures { λ r. ⌜ r ≡ nameOf (firstOf (bindingFree (now (tags .entry)) (now (values .entry)) n t) (bindingsOf (now (list .entry)))) ⌝ }
-{
-    let mut i: usize = 0;
-    while 2 <= list.len() - i {
-        if is_free_in(tags, values, n, list[i], list[i + 1], t) {
-            return FirstName::Name(list[i]);
-        }
-        i += 2;
-    }
-    FirstName::Nothing
-}
-
 // The first pair of a list that another lacks.
 pub fn first_new(list: &[u32], other: &[u32]) -> FirstName
     ensures { λ r. ⌜ r ≡ nameOf (firstOf (λ a. not (has (bindingsOf (now (other .entry))) a)) (bindingsOf (now (list .entry)))) ⌝ }
@@ -115,27 +65,6 @@ pub fn first_new(list: &[u32], other: &[u32]) -> FirstName
     let mut i: usize = 0;
     while 2 <= list.len() - i {
         if lacks(other, list[i], list[i + 1]) {
-            return FirstName::Name(list[i]);
-        }
-        i += 2;
-    }
-    FirstName::Nothing
-}
-
-// The first pair of a list that another lacks and whose variable is free in the term at t.
-pub fn first_missing(
-    tags: &[u32],
-    values: &[u32],
-    n: usize,
-    t: u32,
-    list: &[u32],
-    other: &[u32],
-) -> FirstName
-    ensures { λ r. ⌜ r ≡ nameOf (firstOf (λ a. not (has (bindingsOf (now (other .entry))) a) && bindingFree (now (tags .entry)) (now (values .entry)) n t a) (bindingsOf (now (list .entry)))) ⌝ }
-{
-    let mut i: usize = 0;
-    while 2 <= list.len() - i {
-        if is_missing(tags, values, n, t, other, list[i], list[i + 1]) {
             return FirstName::Name(list[i]);
         }
         i += 2;

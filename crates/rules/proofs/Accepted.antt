@@ -12,14 +12,14 @@ use native.Mathlib.Omega.{arith}
 use borrow.Author.Tests.{eqb-true, eqb-false}
 use Rattle.cells.specs.ByPlace.{by-test}
 use Rattle.headers.specs.WellFormed.{isTerm}
-use Rattle.pool.specs.Check.{andThen, checkPool}
-use Rattle.pool.specs.Tree.{tree}
-use Rattle.pool.specs.declared.Answer.{Answer}
-use Rattle.pool.proofs.tree.Passed.{Passed, pool-passes, pool-accepts}
+use Rattle.pool_checks.specs.Check.{andThen, checkPool}
+use Rattle.term_trees.specs.Tree.{tree}
+use Rattle.answers.specs.declared.Answer.{Answer}
+use Rattle.term_trees.proofs.Passed.{Passed, pool-passes, pool-accepts}
 use Rattle.formulas.specs.Truth.{Assignment, Reading, Local, True}
 use Rattle.quantifiers.specs.Outcome.{pass, answerOf}
 use Rattle.joining.proofs.sound.QntJoin.{qnt-join-sound}
-use Rattle.joining.proofs.sound.QntRmUnused.{qnt-rm-unused-sound}
+use Rattle.removing.proofs.sound.QntRmUnused.{qnt-rm-unused-sound}
 use Rattle.clausification.proofs.sound.QntCnf.{qnt-cnf-sound}
 use Rattle.miniscoping.proofs.sound.MiniscopeDistribute.{miniscope-distribute-sound}
 use Rattle.miniscoping.proofs.sound.MiniscopeSplit.{miniscope-split-sound}

@@ -12,12 +12,13 @@ use native.Mathlib.Omega.{arith}
 use borrow.Author.Tests.{eqb-false}
 use Rattle.quantifiers.specs.Outcome.{Outcome, pass, refuse, _>>=_, _>>_, need, guard, unless, answerOf}
 use Rattle.quantifiers.specs.Binding.{Binding, has}
-use Rattle.quantifiers.specs.Form.{Quantifier}
+use Rattle.forms.specs.Form.{Quantifier}
 use Rattle.joining.specs.QntJoin.{qntJoin}
-use Rattle.joining.specs.QntRmUnused.{removes, unused, bodyOr, qntRmUnused}
+use Rattle.removing.specs.QntRmUnused.{removes, unused, bodyOr, qntRmUnused}
 use Rattle.clausification.specs.QntCnf.{clauseFollows, clausified, qntCnf}
 use Rattle.miniscoping.specs.MiniscopeDistribute.{Sides, distributed, distributedAll, miniscopeDistribute}
-use Rattle.miniscoping.specs.MiniscopeSplit.{without, useAll, splitOff, splitOne, splitAll, splitSides, miniscopeSplit}
+use Rattle.used_pairs.specs.Used.{without, useAll}
+use Rattle.miniscoping.specs.MiniscopeSplit.{splitOff, splitOne, splitAll, splitSides, miniscopeSplit}
 use Rattle.miniscoping.specs.MiniscopeIte.{miniscopeIte}
 use Rattle.rules.specs.Step.{ruleOutcome}
 

@@ -8,9 +8,9 @@ use mathlib.Core.Bool.{Bool, true}
 use mathlib.Core.List.{List, [], _∷_, List·Memᴰ, List·Memᴰ·head, List·Memᴰ·tail}
 use native.Mathlib.Decide.{Fin·succ}
 use lib.ListN.{length, getD}
-use Rattle.pool.specs.Sort.{Sort}
-use Rattle.pool.specs.Term.{Var, Vars, Term}
-use Rattle.pool.specs.FreeTree.{has}
+use Rattle.term_trees.specs.Sort.{Sort}
+use Rattle.term_trees.specs.Term.{Var, Vars, Term}
+use Rattle.term_trees.specs.FreeTree.{has}
 use Rattle.formulas.specs.Skeleton.{skeleton}
 use Rattle.formulas.specs.Truth.{Assignment, Reading, over, True}
 use Rattle.formulas.proofs.Over.{bool-cases, same-at, Within, mix, mix-in, mix-out, over-elim, over-intro}

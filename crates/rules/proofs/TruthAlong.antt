@@ -2,7 +2,7 @@
 -- Assumes nothing.
 use mathlib.Core.Path.{_≡_, refl, ap, ap₂, _∙_}
 use mathlib.Core.Bool.{Bool, not, _||_, cond, Bool·beq}
-use Rattle.pool.specs.Term.{Vars, Term}
+use Rattle.term_trees.specs.Term.{Vars, Term}
 use Rattle.formulas.specs.Formula.{Form, Forms, opaque, neg, many, imp, ite, iff, all, fnil, fcons}
 use Rattle.formulas.specs.Truth.{Assignment, Reading, andOr, over, truth, truths}
 use Rattle.formulas.proofs.Leaves.{Each, EachOf}

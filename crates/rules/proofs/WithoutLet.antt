@@ -6,7 +6,7 @@
 use mathlib.Core.Path.{_≡_, refl, sym, _∙_}
 use mathlib.Core.Bool.{Bool, true, false, cond}
 use mathlib.Core.List.{[], _∷_}
-use Rattle.pool.specs.Term.{Vars, Term, Terms, const, bitVector, var, app, quant, bind, letin, op, noTerm, tnil, tcons}
+use Rattle.term_trees.specs.Term.{Vars, Term, Terms, const, bitVector, var, app, quant, bind, letin, op, noTerm, tnil, tcons}
 use Rattle.formulas.specs.Skeleton.{skeleton, skeletons, leftBool}
 use Rattle.formulas.specs.Truth.{Assignment, Reading, Local, assign, among, over, True}
 use Rattle.formulas.proofs.Over.{bool-cases, andOr-left, andOr-right}

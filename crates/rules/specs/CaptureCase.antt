@@ -21,12 +21,12 @@ use native.Mathlib.Decide.{ℕ-discrete}
 use Rattle.cells.specs.Cell.{cellsOf, sortOf, operandsOf, sameCells, isAt}
 use Rattle.cells.specs.Headers.{firstHeader, firstFrom, firstIn}
 use Rattle.cells.specs.ByPlace.{downTo, byPlace}
-use Rattle.headers.specs.Description.{find}
+use Rattle.descriptions.specs.Description.{find}
 use Rattle.free_vars.specs.Free.{pairIn, boundBy, anyOf, underPairs, freeStep, isFree}
-use Rattle.pool.specs.Sort.{Sort, Sort-discrete, bool}
-use Rattle.pool.specs.Term.{Var, Var-discrete, Term, var, quant, op, tnil, tcons, stated}
-use Rattle.pool.specs.FreeTree.{isYes, same as sameVar}
-use Rattle.pool.specs.Tree.{sortFrom, sortStep, sortTree, varsOf, termsOf, termFrom, termStep, tree}
+use Rattle.term_trees.specs.Sort.{Sort, Sort-discrete, bool}
+use Rattle.term_trees.specs.Term.{Var, Var-discrete, Term, var, quant, op, tnil, tcons, stated}
+use Rattle.term_trees.specs.FreeTree.{isYes, same as sameVar}
+use Rattle.term_trees.specs.Tree.{sortFrom, sortStep, sortTree, varsOf, termsOf, termFrom, termStep, tree}
 use Rattle.formulas.specs.Formula.{allBefore, connective, quantifier as quantifierView, viewOf, formBy, form}
 use Rattle.formulas.specs.Built.{put, intern, interns, normalForm, normalView, normalBy, normalAt, takenOut}
 use Rattle.formulas.specs.Skeleton.{skeleton, leftBool, formOf, notOf}
@@ -35,7 +35,7 @@ use Rattle.formulas.specs.TruthCases.{twoValues, x}
 use Rattle.building.specs.Arrays.{fits}
 use Rattle.quantifiers.specs.Outcome.{pass, _>>=_, _>>_, need, guard, unless}
 use Rattle.quantifiers.specs.Binding.{bindingsOf, same, has, firstOf, bindingFree}
-use Rattle.quantifiers.specs.Form.{quantifier, operator}
+use Rattle.forms.specs.Form.{quantifier, operator}
 use Rattle.clausification.specs.QntCnf.{implication, withinLimits, isClause, anyClause, takenFrom, clausesFrom, leftAndTaken, clauseFollows, clausified, qntCnf}
 
 abbrev tags : List ℕ

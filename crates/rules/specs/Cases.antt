@@ -21,8 +21,8 @@ use mathlib.Core.Path.{_≡_, refl}
 use Prim.Native.Nat.{ℕ}
 use mathlib.Core.Bool.{Bool, true, false}
 use mathlib.Core.List.{List, [], _∷_, _++_}
-use Rattle.pool.specs.Sort.{Sort-discrete, bool}
-use Rattle.pool.specs.Term.{Vars, Term, Terms, var, op, tnil, tcons, stated}
+use Rattle.term_trees.specs.Sort.{Sort-discrete, bool}
+use Rattle.term_trees.specs.Term.{Vars, Term, Terms, var, op, tnil, tcons, stated}
 use Rattle.formulas.specs.Normal.{Normal, lit, nnf, prenex}
 use Rattle.formulas.specs.Clauses.{Clause, cnf, emptyOr}
 use Rattle.formulas.specs.Skeleton.{skeleton, leftBool, formOf, notOf, iteOf, iffOf}
@@ -30,7 +30,7 @@ use lib.ListN.{length, replicate}
 use Rattle.cells.specs.Cell.{cellsOf, operandsOf}
 use Rattle.quantifiers.specs.Outcome.{Outcome, pass, refuse, _>>=_, _>>_, need, guard}
 use Rattle.quantifiers.specs.Binding.{bindingsOf, same, sameAll}
-use Rattle.quantifiers.specs.Form.{quantifier, operator, equality as equalityAt}
+use Rattle.forms.specs.Form.{quantifier, operator, equality as equalityAt}
 use Rattle.joining.specs.QntJoin.{afterPair, withoutAdjacent, joined, qntJoin}
 
 -- ---- joins: Bool at 0, p at 1, the inner forall at 4, the outer one after it, then the right one and the equality

@@ -13,9 +13,9 @@ use mathlib.Core.Path.{_≡_, refl, ap}
 use mathlib.Core.Bool.{Bool, true, false, _||_}
 use mathlib.Core.List.{List, [], _∷_, map, List·Memᴰ, List·Memᴰ·head, List·Memᴰ·tail}
 use native.Mathlib.Decide.{Fin·succ, Fin·val-path}
-use Rattle.pool.specs.Sort.{Sort}
-use Rattle.pool.specs.Term.{Var, Term, Terms, const, bitVector, var, app, quant, bind, letin, op, noTerm, tnil, tcons}
-use Rattle.pool.specs.FreeTree.{free}
+use Rattle.term_trees.specs.Sort.{Sort}
+use Rattle.term_trees.specs.Term.{Var, Term, Terms, const, bitVector, var, app, quant, bind, letin, op, noTerm, tnil, tcons}
+use Rattle.term_trees.specs.FreeTree.{free}
 use Rattle.formulas.specs.Truth.{Assignment, Reading, True}
 
 -- ---- 01, "Truth in a reading": "A step holds a let if its conclusion is one or reaches one through operands, bodies, functions, arguments

@@ -10,9 +10,9 @@ use mathlib.Core.Path.{_≡_, refl}
 use mathlib.Core.Bool.{Bool, true, false, true≢false}
 use mathlib.Core.List.{[], _∷_}
 use native.Mathlib.Decide.{ℕ-discrete}
-use Rattle.pool.specs.Sort.{Sort, Sort-discrete, bool}
-use Rattle.pool.specs.Term.{Var, Var-discrete, Term, const, bitVector, var, app, quant, bind, letin, op, noTerm, tnil, tcons, lnil, lcons, stated}
-use Rattle.pool.specs.FreeTree.{isYes, same, has, letVars, free}
+use Rattle.term_trees.specs.Sort.{Sort, Sort-discrete, bool}
+use Rattle.term_trees.specs.Term.{Var, Var-discrete, Term, const, bitVector, var, app, quant, bind, letin, op, noTerm, tnil, tcons, lnil, lcons, stated}
+use Rattle.term_trees.specs.FreeTree.{isYes, same, has, letVars, free}
 use Rattle.formulas.specs.Skeleton.{skeleton, leftBool, iffOf, formOf}
 use Rattle.formulas.specs.Truth.{Assignment, Reading, valueAt, assign, over, True}
 use Rattle.formulas.specs.TruthCases.{either}

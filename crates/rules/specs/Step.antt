@@ -8,15 +8,15 @@ use mathlib.Core.List.{List}
 use lib.ListN.{length, getD}
 use lib.Dec.{leb, eqb}
 use Rattle.headers.specs.WellFormed.{isTerm}
-use Rattle.headers.specs.Description.{zeroFrom}
-use Rattle.pool.specs.Answer.{refused, notATerm}
-use Rattle.pool.specs.Check.{andThen, checkPool}
-use Rattle.pool.specs.Term.{Term}
-use Rattle.pool.specs.Tree.{tree}
-use Rattle.pool.specs.declared.Answer.{Answer}
+use Rattle.descriptions.specs.Description.{zeroFrom}
+use Rattle.answers.specs.Answer.{refused, notATerm}
+use Rattle.pool_checks.specs.Check.{andThen, checkPool}
+use Rattle.term_trees.specs.Term.{Term}
+use Rattle.term_trees.specs.Tree.{tree}
+use Rattle.answers.specs.declared.Answer.{Answer}
 use Rattle.quantifiers.specs.Outcome.{Outcome, answerOf}
 use Rattle.joining.specs.QntJoin.{qntJoin}
-use Rattle.joining.specs.QntRmUnused.{qntRmUnused}
+use Rattle.removing.specs.QntRmUnused.{qntRmUnused}
 use Rattle.clausification.specs.QntCnf.{qntCnf}
 use Rattle.miniscoping.specs.MiniscopeDistribute.{miniscopeDistribute}
 use Rattle.miniscoping.specs.MiniscopeSplit.{miniscopeSplit}

@@ -3,8 +3,8 @@
 use Prim.Native.Nat.{ℕ}
 use mathlib.Core.Path.{_≡_}
 use mathlib.Core.List.{List}
-use Rattle.headers.specs.Description.{zeroFrom}
-use Rattle.pool.specs.declared.Answer.{Answer}
+use Rattle.descriptions.specs.Description.{zeroFrom}
+use Rattle.answers.specs.declared.Answer.{Answer}
 
 -- arrays after a rule: only rule 3 changes cells, with an answer other than 30, and only those past n
 pub record Kept (n rule : ℕ) (r : Answer) (tags values tags′ values′ : List ℕ) : Type 0 where

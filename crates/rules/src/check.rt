@@ -1,19 +1,20 @@
 // The check of a step: 30, 14, 15, 16, 18, 1, 17, and then its rule.
 use clausification::qnt_cnf::qnt_cnf;
 use joining::qnt_join::qnt_join;
-use joining::qnt_rm_unused::qnt_rm_unused;
 use miniscoping::miniscope_distribute::miniscope_distribute;
 use miniscoping::miniscope_ite::miniscope_ite;
 use miniscoping::miniscope_split::miniscope_split;
 use pool::Answer;
 use pool::TermPlace;
-use pool::call::check_pool;
+use pool::call::index_pool;
 use pool::description::cut_back;
 use pool::well_formed::is_term;
+use removing::qnt_rm_unused::qnt_rm_unused;
 ghost use Prim.Native.Nat.{min};
 ghost use mathlib.Core.Path.{_≡_};
-ghost use Rattle.sorts.specs.Table.{builtIn};
-ghost use Rattle.pool.specs.Check.{checkPool, checkTerm};
+ghost use Rattle.sort_rules.specs.Table.{builtIn};
+ghost use Rattle.descriptions.specs.Index.{Index};
+ghost use Rattle.pool_checks.specs.Check.{checkPool, Indexed, checkTerm};
 ghost use Rattle.quantifiers.specs.Outcome.{answerOf};
 ghost use Rattle.rules.specs.Step.{isRule, ruleOutcome, stepAnswer, Step};
 ghost use Rattle.rules.specs.StepWalk.{Judged};
@@ -38,7 +39,15 @@ fn carried(k: usize) -> u32
 }
 
 // The rule of a code on the conclusion at x, which has passed its checks.
-fn apply(tags: &mut [u32], values: &mut [u32], n: usize, rule: u32, x: TermPlace) -> Answer
+fn apply(
+    tags: &mut [u32],
+    values: &mut [u32],
+    index: &[u32; 12288],
+    n: usize,
+    rule: u32,
+    x: TermPlace,
+) -> Answer
+    requires { ⌜ Index (now tags) (now values) n (now index) ⌝ }
     requires { ⌜ checkTerm (now tags) (now values) builtIn n (x .0) .code ≡ 0 ⌝ }
     ensures { λ r. ⌜ Judged n rule (answerOf (ruleOutcome (now (tags .entry)) (now (values .entry)) n rule (x .0))) r (now (tags .entry)) (now (values .entry)) (now (tags .exit)) (now (values .exit)) ⌝ }
 {
@@ -49,7 +58,7 @@ fn apply(tags: &mut [u32], values: &mut [u32], n: usize, rule: u32, x: TermPlace
         return qnt_rm_unused(tags, values, n, x);
     }
     if rule == 3 {
-        return qnt_cnf(tags, values, n, x);
+        return qnt_cnf(tags, values, index, n, x);
     }
     if rule == 4 {
         return miniscope_distribute(tags, values, x);
@@ -65,11 +74,13 @@ fn judge(
     checked: Answer,
     tags: &mut [u32],
     values: &mut [u32],
+    index: &[u32; 12288],
     n: usize,
     rule: u32,
     conclusion: &[u32],
 ) -> Answer
     requires { ⌜ checked ≡ checkPool (now tags) (now values) builtIn n ⌝ }
+    requires { ⌜ Indexed (now tags) (now values) n checked (now index) ⌝ }
     ensures { λ r. ⌜ Judged n rule (stepAnswer (now (tags .entry)) (now (values .entry)) builtIn n rule (now (conclusion .entry))) r (now (tags .entry)) (now (values .entry)) (now (tags .exit)) (now (values .exit)) ⌝ }
 {
     if checked.code != 0 {
@@ -85,22 +96,25 @@ fn judge(
     if !is_term(tags, n, x) {
         return Answer::refused(17, x.0, 0);
     }
-    apply(tags, values, n, rule, x)
+    apply(tags, values, index, n, rule, x)
 }
 
-// The check of a step in a pool whose own check has answered `checked`: many steps over one pool ask for that once.
+// The check of a step in a pool whose own check has answered `checked` and left the index: many steps over one pool ask for that
+// once.
 pub fn check_after(
     checked: Answer,
     tags: &mut [u32],
     values: &mut [u32],
+    index: &[u32; 12288],
     count: usize,
     rule: u32,
     conclusion: &[u32],
 ) -> Answer
     requires { ⌜ checked ≡ checkPool (now tags) (now values) builtIn count ⌝ }
+    requires { ⌜ Indexed (now tags) (now values) count checked (now index) ⌝ }
     ensures { λ r. ⌜ Step (now (tags .entry)) (now (values .entry)) builtIn count rule (now (conclusion .entry)) r (now (tags .exit)) (now (values .exit)) ⌝ }
 {
-    let answer = judge(checked, tags, values, count, rule, conclusion);
+    let answer = judge(checked, tags, values, index, count, rule, conclusion);
     if rule != 3 {
         return answer;
     }
@@ -121,6 +135,7 @@ pub fn check(
 ) -> Answer
     ensures { λ r. ⌜ Step (now (tags .entry)) (now (values .entry)) builtIn count rule (now (conclusion .entry)) r (now (tags .exit)) (now (values .exit)) ⌝ }
 {
-    let checked = check_pool(tags, values, count);
-    check_after(checked, tags, values, count, rule, conclusion)
+    let mut index = [0u32; 12288];
+    let checked = index_pool(tags, values, count, &mut index);
+    check_after(checked, tags, values, &index, count, rule, conclusion)
 }

@@ -3,7 +3,7 @@ pub mod check;
 
 pub use clausification::qnt_cnf;
 pub use joining::qnt_join;
-pub use joining::qnt_rm_unused;
 pub use miniscoping::miniscope_distribute;
 pub use miniscoping::miniscope_ite;
 pub use miniscoping::miniscope_split;
+pub use removing::qnt_rm_unused;

@@ -1,39 +1,20 @@
 // Check 16: the sort that `compute_sort` gives a term, and whether the term states it.
-use crate::list_sorts;
-use crate::plain_sorts;
-use crate::table;
 use cells::Found;
 use cells::SortPlace;
 use cells::TermPlace;
 use cells::run;
+use list_sorts::ListRule;
+use list_sorts::by_list;
+use sort_rules::Special;
+use sort_rules::plain::is_plain;
+use sort_rules::plain::is_single;
+use special_sorts::by_special;
 ghost use mathlib.Core.Path.{_≡_};
 ghost use mathlib.Core.Bool.{not, _&&_};
-ghost use mathlib.Core.List.{[], _∷_};
 ghost use Prim.Native.Nat.{_-_, _≤_};
-ghost use lib.ListN.{length, getD};
-ghost use Rattle.cells.specs.Cell.{isAt};
+ghost use lib.ListN.{getD};
 ghost use Rattle.headers.specs.WellFormed.{isTermTag};
-ghost use Rattle.sorts.specs.SortRule.{isSort, specialOf, bySpecial, byRule, statesSort, firstWrongSort};
-
-// The operators with a sort rule of their own.
-pub enum Special {
-    Arithmetic,
-    Select,
-    BitVectors,
-    Concat,
-    OneBit,
-    BitCount,
-    BvConst,
-    RareList,
-    Singleton,
-    Insert,
-    TupleOf,
-    TupleUnit,
-    Transpose,
-    Join,
-    Product,
-    NoRule,
-}
+ghost use Rattle.sort_rules.specs.SortRule.{isSort, specialOf, firstSort, byRule, choice, statesSort, firstWrongSort};
 
 // The special rule of an operator code. 01: "special sort rules are decided by operator code".
 fn special_of(op: u32) -> Special
@@ -59,45 +40,15 @@ fn special_of(op: u32) -> Special
     }
 }
 
-// Whether the sort at s is BitVec with as many bits as there are operands. The width is compared as an index, since a count of
-// operands may not fit a cell.
-fn bit_count(tags: &[u32], values: &[u32], s: SortPlace, os: &[u32]) -> bool
-    ensures { λ r. ⌜ r ≡ isAt (now (tags .entry)) (now (values .entry)) (s .0) 7 (length (now (os .entry)) ∷ []) ⌝ }
+// The first operand's sort.
+fn first_sort(tags: &[u32], values: &[u32], s: SortPlace, os: &[u32]) -> bool
+    ensures { λ r. ⌜ r ≡ isSort (now (tags .entry)) (now (values .entry)) (s .0) (firstSort (now (values .entry)) (now (os .entry))) ⌝ }
 {
-    let at = s.0 as usize;
-    if run::cell(tags, at) != 7 {
+    if os.len() == 0 {
         return false;
     }
-    let parts = run::cells(values, at);
-    if parts.len() != 1 {
-        return false;
-    }
-    run::wide(parts[0]) == os.len()
-}
-
-// Whether the sort at s is the one that a special rule gives.
-fn by_special(tags: &[u32], values: &[u32], s: SortPlace, special: Special, os: &[u32]) -> bool
-    ensures { λ r. ⌜ r ≡ isSort (now (tags .entry)) (now (values .entry)) (s .0)
-        (bySpecial (now (tags .entry)) (now (values .entry)) special (now (os .entry))) ⌝ }
-{
-    match special {
-        Special::Arithmetic => plain_sorts::arithmetic(tags, values, s, os),
-        Special::Select => plain_sorts::selected(tags, values, s, os),
-        Special::BitVectors => plain_sorts::bit_vector(tags, values, s, os),
-        Special::Concat => plain_sorts::concat(tags, values, s, os),
-        Special::OneBit => plain_sorts::is_single(tags, values, s, 7, 1),
-        Special::BitCount => bit_count(tags, values, s, os),
-        Special::BvConst => plain_sorts::bv_const(tags, values, s, os),
-        Special::RareList => plain_sorts::rare_list(tags, values, s, os),
-        Special::Singleton => plain_sorts::singleton(tags, values, s, os),
-        Special::Insert => plain_sorts::last_sort(tags, values, s, os),
-        Special::TupleOf => list_sorts::tuple_of(tags, values, s, os),
-        Special::TupleUnit => plain_sorts::is_plain(tags, values, s, 13),
-        Special::Transpose => list_sorts::transpose(tags, values, s, os),
-        Special::Join => list_sorts::join(tags, values, s, os),
-        Special::Product => list_sorts::product(tags, values, s, os),
-        Special::NoRule => false,
-    }
+    let sort = run::sort_of(values, TermPlace(os[0]));
+    s.0 == sort.0
 }
 
 // Whether the sort at s is the one that a rule of the table gives the operands of an operator. Rules 0 to 4 are the sorts with tags
@@ -107,18 +58,36 @@ fn by_rule(tags: &[u32], values: &[u32], s: SortPlace, rule: u32, op: u32, os: &
         (byRule (now (tags .entry)) (now (values .entry)) rule op (now (os .entry))) ⌝ }
 {
     if rule < 5 {
-        return plain_sorts::is_plain(tags, values, s, rule + 1);
+        return is_plain(tags, values, s, rule + 1);
     }
     if rule == 5 {
-        return plain_sorts::first_sort(tags, values, s, os);
+        return first_sort(tags, values, s, os);
     }
     if rule == 6 {
         if os.len() == 0 {
             return false;
         }
-        return plain_sorts::first_sort(tags, values, s, &os[1..]);
+        return first_sort(tags, values, s, &os[1..]);
     }
     by_special(tags, values, s, special_of(op), os)
+}
+
+// The rule of an operator, and 7 past the end of the table.
+fn rule_of(rules: &[u32], op: u32) -> u32
+    ensures { λ r. ⌜ r ≡ getD (now (rules .entry)) op 7 ⌝ }
+{
+    let at = op as usize;
+    if at < rules.len() { rules[at] } else { 7 }
+}
+
+// choice: its first variable's sort. `os` is the binder's run: the body, and then the pairs.
+fn choice(tags: &[u32], values: &[u32], s: SortPlace, os: &[u32]) -> bool
+    ensures { λ r. ⌜ r ≡ isSort (now (tags .entry)) (now (values .entry)) (s .0) (choice (now (os .entry))) ⌝ }
+{
+    if os.len() < 3 {
+        return false;
+    }
+    s.0 == os[2]
 }
 
 // How far a tag stands after another, and 0 before it.
@@ -137,32 +106,32 @@ pub fn states_sort(tags: &[u32], values: &[u32], rules: &[u32], t: TermPlace) ->
     let tag = run::cell(tags, at);
     let s = run::sort_of(values, TermPlace(t.0));
     if tag < 20 {
-        return plain_sorts::is_plain(tags, values, s, after(tag, 14));
+        return is_plain(tags, values, s, after(tag, 14));
     }
     if tag < 21 {
-        return plain_sorts::is_single(tags, values, s, 7, run::cell(values, at + 2));
+        return is_single(tags, values, s, 7, run::cell(values, at + 2));
     }
     if tag < 22 {
         return true;
     }
     let os = run::operands(tags, values, t);
     if tag < 23 {
-        return list_sorts::application(tags, values, s, os);
+        return by_list(tags, values, s, ListRule::Application, os);
     }
     if tag < 25 {
-        return plain_sorts::is_plain(tags, values, s, 1);
+        return is_plain(tags, values, s, 1);
     }
     if tag < 26 {
-        return plain_sorts::choice(tags, values, s, os);
+        return choice(tags, values, s, os);
     }
     if tag < 27 {
-        return list_sorts::lambda(tags, values, s, os);
+        return by_list(tags, values, s, ListRule::Lambda, os);
     }
     if tag < 28 {
-        return plain_sorts::first_sort(tags, values, s, os);
+        return first_sort(tags, values, s, os);
     }
     let op = after(tag, 32);
-    by_rule(tags, values, s, table::rule_of(rules, op), op, os)
+    by_rule(tags, values, s, rule_of(rules, op), op, os)
 }
 
 // Whether the header at t is a term's with the wrong sort.

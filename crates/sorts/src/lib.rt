@@ -1,5 +1,2 @@
-// Sorts of terms, after `compute_sort`: the table of sort rules and check 16.
+// Check 16: sorts of terms, after `compute_sort`.
 pub mod compute_sort;
-mod list_sorts;
-mod plain_sorts;
-pub mod table;

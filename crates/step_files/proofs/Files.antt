@@ -10,10 +10,10 @@ use lib.Dec.{ltb}
 use native.Mathlib.Omega.{arith}
 use borrow.Author.Tests.{lt-ltb, le-ltb, eq-eqb, ne-eqb}
 use Rattle.words.specs.Words.{wordAt}
-use Rattle.pool.specs.Answer.{illFormed, badArrays}
-use Rattle.pool.specs.declared.Answer.{Answer}
+use Rattle.answers.specs.Answer.{illFormed, badArrays}
+use Rattle.answers.specs.declared.Answer.{Answer}
 use Rattle.step_files.specs.StepFile.{fileText, lines, written, Answered}
-use Rattle.step_files.specs.Text.{line, Put}
+use Rattle.answer_lines.specs.Text.{line, Put}
 
 module _ (bytes out : List ℕ) where
   pub file-unwritten : length out < 11264 → Answered bytes out 0 out

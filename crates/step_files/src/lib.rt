@@ -1,12 +1,11 @@
 // A step file from its bytes to the lines that answer it.
 mod lines;
-mod text;
 
 ghost use Rattle.step_files.specs.StepFile.{Answered};
+use answer_lines::put_line;
 use lines::answer_steps;
 use lines::wide;
 use pool::Answer;
-use text::put_line;
 use words::word;
 
 // Writes the text that answers the file to the front of out, and says how many bytes that is. Nothing is written where out

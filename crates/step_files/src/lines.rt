@@ -2,12 +2,13 @@
 ghost use Prim.Native.Nat.{_≤_};
 ghost use mathlib.Core.Path.{_≡_};
 ghost use lib.ListN.{length};
+ghost use Rattle.pool_checks.specs.Check.{Indexed};
 ghost use Rattle.step_files.specs.StepFile.{cellsFrom, lines};
 ghost use Rattle.step_files.specs.Steps.{noCells, Sized, Ready};
-ghost use Rattle.step_files.specs.Text.{Put};
-use crate::text::put_line;
+ghost use Rattle.answer_lines.specs.Text.{Put};
+use answer_lines::put_line;
 use pool::Answer;
-use pool::call::check_pool;
+use pool::call::index_pool;
 use rules::check::check_after;
 use words::read_words;
 use words::word;
@@ -40,11 +41,13 @@ fn put_lines(
     checked: Answer,
     tags: &mut [u32],
     values: &mut [u32],
+    index: &[u32; 12288],
     n: usize,
     steps: u32,
     out: &mut [u8],
 ) -> usize
     requires { ⌜ Ready (now input) n steps (length (now out)) checked (now tags) (now values) ⌝ }
+    requires { ⌜ Indexed (now tags) (now values) n checked (now index) ⌝ }
     ensures { λ r. ⌜ Put (lines (now (input .entry)) steps) 11264 0 (now (out .entry)) r (now (out .exit)) ⌝ }
     ensures { λ _. ⌜ (now (tags .exit) ≡ now (tags .entry)) × (now (values .exit) ≡ now (values .entry)) ⌝ }
 {
@@ -56,7 +59,7 @@ fn put_lines(
         let i = wide(k);
         let rule = word(input, rules + i);
         let conclusion = [word(input, places + i)];
-        let answer = check_after(checked, tags, values, n, rule, &conclusion);
+        let answer = check_after(checked, tags, values, index, n, rule, &conclusion);
         let number = k + 1;
         at = put_line(out, at, number, answer);
         k = number;
@@ -71,6 +74,16 @@ pub(crate) fn answer_steps(input: &[u8], n: usize, steps: u32, out: &mut [u8]) -
 {
     let mut tags = cells_from(input, 2, n);
     let mut values = cells_from(input, 2 + n, n);
-    let checked = check_pool(&tags, &values, n);
-    put_lines(input, checked, &mut tags, &mut values, n, steps, out)
+    let mut index = [0u32; 12288];
+    let checked = index_pool(&tags, &values, n, &mut index);
+    put_lines(
+        input,
+        checked,
+        &mut tags,
+        &mut values,
+        &index,
+        n,
+        steps,
+        out,
+    )
 }

@@ -12,14 +12,14 @@ use borrow.Author.Tests.{le-ltb, le-leb, lt-leb, leb-true, leb-false, ltb-false}
 use Rattle.cells.specs.ByPlace.{by-test}
 use Rattle.cells.specs.Cell.{isAt}
 use Rattle.cells.specs.Headers.{firstFrom}
-use Rattle.headers.specs.Description.{find, isFull, append, foundOr, adding, Added-is}
+use Rattle.descriptions.specs.Description.{find, isFull, append, foundOr, adding, Added-is}
 use Rattle.cells.specs.declared.Found.{Found}
 use Rattle.cells.specs.declared.Found.the-variants.{At as FoundAt, Nothing}
-use Rattle.headers.specs.declared.description.Added.{Added}
-use Rattle.headers.specs.declared.description.Added.the-variants.{There, New, Full as NoRoom}
+use Rattle.descriptions.specs.declared.description.Added.{Added}
+use Rattle.descriptions.specs.declared.description.Added.the-variants.{There, New, Full as NoRoom}
 use Rattle.cells.proofs.Walks.{first-end, first-below}
-use Rattle.headers.proofs.description.Fills.{Fills, filled, orElse, fills-grown}
-use Rattle.headers.proofs.description.Growth.{Same, find-grown, new-grown}
+use Rattle.descriptions.proofs.description.Fills.{Fills, filled, orElse, fills-grown}
+use Rattle.descriptions.proofs.description.Growth.{Same, find-grown, new-grown}
 use Rattle.building.specs.declared.build.Built.{Built}
 use Rattle.building.specs.declared.build.Built.the-variants.{At, Full}
 use Rattle.formulas.specs.Built.{Pool, Placed, count, extend, placeAt, put}

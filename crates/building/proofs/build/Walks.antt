@@ -42,6 +42,11 @@ module _ (w : Walk) (lim n : ℕ) (tags values memo : List ℕ) (ready : Ready w
   unfolding slotOf
   slot-first h i e = omega (arith, place-within h)
 
+pub own-ready : (w : Walk) (lim n : ℕ) (tags values memo : List ℕ) → Ready w lim n tags values memo → State n n tags values
+own-ready w lim n tags values memo ready =
+    let s = ready .state in
+    record { size = s .size; within = s .within; small = s .small; fills = s .fills; source = omega arith }
+
 -- ---- the source cells stay as they are
 module _ (lim : ℕ) (tags values tags₁ values₁ : List ℕ) (l : Left lim tags values tags₁ values₁) where
   pub form-same : (w : Walk) (t : ℕ) (polarity : Bool) → formOf w lim tags₁ values₁ t polarity ≡ formOf w lim tags values t polarity

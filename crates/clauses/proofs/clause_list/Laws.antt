@@ -10,17 +10,18 @@ use lib.Dec.{eqb}
 use native.Mathlib.Omega.{arith}
 use native.Mathlib.Numerals.{add-one}
 use borrow.Author.Tests.{le-leb, lt-leb}
-use Rattle.headers.specs.Description.{zeroFrom, Cut}
-use Rattle.pool.specs.declared.Answer.{Answer}
+use Rattle.descriptions.specs.Description.{zeroFrom, Cut}
+use Rattle.answers.specs.Answer.{accepted}
+use Rattle.answers.specs.declared.Answer.{Answer}
 use Rattle.clauses.specs.declared.clause_totals.Totals as code
 use Rattle.formulas.specs.Normal.{Normal}
 use Rattle.formulas.specs.Clauses.{cnf, literalTotal, emptyOr}
-use Rattle.clauses.specs.Lists.{padded, literalPlace, clausePlaces, literalPlaces, clauseEnds}
-use Rattle.clauses.specs.ClauseWalk.{formAt, Counted, Room, Counts}
-use Rattle.clauses.specs.ClauseList.{ClauseCounts, Ask, Written, AskList, Listed, Answered, Lent, Ready, countAnswer, listAnswer, held}
-use Rattle.formulas.specs.Totals.{Totals}
-use Rattle.formulas.proofs.Totals.{totals-are}
-use Rattle.clauses.proofs.conjunctive_normal_form.Laws.{places-length}
+use Rattle.clauses.specs.Lists.{emptyOrReached, tooManyClauses, padded, literalPlace, clausePlaces, literalPlaces, clauseEnds}
+use Rattle.clauses.specs.ClauseWalk.{formAt, Memo, TermCounted}
+use Rattle.clauses.specs.ClauseList.{Ask, Written, AskMore, Adds, Listed, Answered, Lent, Ready, countAnswer, listAnswer, held}
+use Rattle.clauses.specs.declared.clause_list.Filled.{Filled}
+use Rattle.clauses.proofs.clause_totals.Laws.{clauses-cut, literals-cut}
+use Rattle.clauses.proofs.conjunctive_normal_form.Laws.{places-length, counts-one}
 
 -- ---- a padded array
 module _ (k : ℕ) where
@@ -46,8 +47,11 @@ module _ (k : ℕ) where
       ap (λ (l : List ℕ). sets l (suc at) qs) here
       ∙ (sets-padded qs (ps ++ (q ∷ [])) (suc at) more (omega arith) ∙ ap (λ (l : List ℕ). padded l k) (append-snoc ps q qs))
 
+  sets-zeros : (qs : List ℕ) → length qs ≤ k → sets (replicate k 0) 0 qs ≡ padded qs k
+  sets-zeros qs h = ap (λ (l : List ℕ). sets l 0 qs) padded-none ∙ sets-padded qs [] 0 refl (omega arith)
+
 -- ---- one clause more
-abbrev Clauses : Type 0
+abbrev pub Clauses : Type 0
 Clauses = List (List (Normal (List ℕ) ℕ))
 
 module _ (c : List (Normal (List ℕ) ℕ)) where
@@ -65,11 +69,11 @@ module _ (c : List (Normal (List ℕ) ℕ)) where
       let z : m + length d + literalTotal cs + length c ≡ m + (length d + literalTotal cs) + length c = omega arith in
       ap (λ (l : List ℕ). (m + length d) ∷ l) (ends-more (m + length d) cs ∙ ap (λ (n : ℕ). clauseEnds (m + length d) cs ++ (n ∷ [])) z)
 
-places-total : (cs : Clauses) → length (literalPlaces cs) ≡ literalTotal cs
+pub places-total : (cs : Clauses) → length (literalPlaces cs) ≡ literalTotal cs
 places-total [] = refl
 places-total (c ∷ cs) = length-append (clausePlaces c) (literalPlaces cs) ∙ ap₂ (λ (a b : ℕ). a + b) (places-length c) (places-total cs)
 
-ends-length : (m : ℕ) (cs : Clauses) → length (clauseEnds m cs) ≡ length cs
+pub ends-length : (m : ℕ) (cs : Clauses) → length (clauseEnds m cs) ≡ length cs
 ends-length m [] = refl
 ends-length m (c ∷ cs) = ap suc (ends-length (m + length c) cs)
 
@@ -78,81 +82,94 @@ total-before [] i h = absurd (omega arith)
 total-before (c ∷ cs) zero h = omega arith
 total-before (c ∷ cs) (suc i) h = omega (arith, total-before cs i (omega arith))
 
--- ---- the loop: the clauses before i are written, up to at
-pub record Wrote (cs : Clauses) (k m : ℕ) (literals ends : List ℕ) (i at : ℕ) : Type 0 where
-  pub within : i ≤ length cs
-  pub at-is : at ≡ literalTotal (take i cs)
-  pub listed : Listed (take i cs) k m literals ends
-  pub literals-size : length literals ≡ k
-  pub ends-size : length ends ≡ m
+-- ---- stores one after another
+pub sets-join : (xs ys l : List ℕ) (i : ℕ) → sets (sets l i xs) (i + length xs) ys ≡ sets l i (xs ++ ys)
+sets-join [] ys l i = let z : i + 0 ≡ i = omega arith in ap (λ (n : ℕ). sets l n ys) z
+sets-join (x ∷ xs) ys l i =
+    let z : i + suc (length xs) ≡ suc i + length xs = omega arith in
+    ap (λ (n : ℕ). sets (sets (set l i x) (suc i) xs) n ys) z ∙ sets-join xs ys (set l i x) (suc i)
 
-module _ (tags values counts : List ℕ) (x total : ℕ) (literals₀ ends₀ : List ℕ) (ask : AskList tags values counts x total literals₀ ends₀) where
-  pub wrote-start : Wrote (cnf (formAt tags values x)) (length literals₀) (length ends₀) literals₀ ends₀ 0 0
-  wrote-start = record {
-    within = omega arith;
-    at-is = refl;
-    listed = record { literals-are = ask .literals-zero ∙ padded-none (length literals₀); ends-are = ask .ends-zero ∙ padded-none (length ends₀) };
-    literals-size = refl;
-    ends-size = refl;
-  }
+-- ---- the loop: the first k clauses are written, up to i and at
+pub record Wrote (cs : Clauses) (literals₀ ends₀ : List ℕ) (i₀ at₀ : ℕ) (literals ends : List ℕ) (k i at : ℕ) : Type 0 where
+  pub within : k ≤ length cs
+  pub i-is : i ≡ i₀ + k
+  pub at-is : at ≡ at₀ + literalTotal (take k cs)
+  pub literals-are : literals ≡ sets literals₀ at₀ (literalPlaces (take k cs))
+  pub ends-are : ends ≡ sets ends₀ i₀ (clauseEnds at₀ (take k cs))
+  pub literals-size : length literals ≡ length literals₀
+  pub ends-size : length ends ≡ length ends₀
 
-  module _ (literals ends : List ℕ) (i at : ℕ) (w : Wrote (cnf (formAt tags values x)) (length literals₀) (length ends₀) literals ends i at) where
-    pub wrote-end : total ≤ i → Listed (cnf (formAt tags values x)) (length literals₀) (length ends₀) literals ends
-    wrote-end h = rw (take-all i (cnf (formAt tags values x)) (omega (arith, ask .total-is))) at (w .listed)
+module _ (tags values counts : List ℕ) (x : ℕ) (literals₀ ends₀ : List ℕ) (i₀ at₀ : ℕ)
+    (ask : AskMore tags values counts (x ∷ []) (cnf (formAt tags values x)) literals₀ ends₀ i₀ at₀) where
+  abbrev list : Clauses
+  list = cnf (formAt tags values x)
 
-    module _ (h : i < total) where
-      within : i < length (cnf (formAt tags values x))
-      within = omega (arith, ask .total-is)
+  pub wrote-start : Wrote (cnf (formAt tags values x)) literals₀ ends₀ i₀ at₀ literals₀ ends₀ 0 i₀ at₀
+  wrote-start = record { within = omega arith; i-is = omega arith; at-is = omega arith; literals-are = refl; ends-are = refl; literals-size = refl; ends-size = refl }
 
-      pub wrote-ask : Ask tags values counts (cnf (formAt tags values x)) i literals at
+  module _ (total : ℕ) (all : total ≡ length (cnf (formAt tags values x))) (literals ends : List ℕ) (k i at : ℕ)
+      (w : Wrote (cnf (formAt tags values x)) literals₀ ends₀ i₀ at₀ literals ends k i at) where
+    pub wrote-end : total ≤ k → Adds (cnf (formAt tags values x)) literals₀ ends₀ i₀ at₀ literals ends (record { 0 = i; 1 = at })
+    wrote-end h =
+        let e : take k list ≡ list = take-all k list (omega (arith, all)) in
+        record {
+          ends-up-to = omega (arith, all, w .i-is, w .within);
+          literals-up-to = rw e at (w .at-is);
+          literals-are = rw e at (w .literals-are);
+          ends-are = rw e at (w .ends-are);
+        }
+
+    module _ (h : k < total) where
+      inside : k < length list
+      inside = omega (arith, all)
+
+      pub wrote-ask : Ask tags values counts (x ∷ []) (cnf (formAt tags values x)) k literals at
       wrote-ask = record {
         counted = ask .counted;
         small = ask .clauses;
-        index = within;
-        room = omega (arith, total-before (cnf (formAt tags values x)) i within, w .at-is, w .literals-size, ask .literals-room);
+        index = inside;
+        room = omega (arith, total-before list k inside, w .at-is, w .literals-size, ask .literals-room);
       }
 
       pub wrote-place : i < length ends
-      wrote-place = omega (arith, within, w .ends-size, ask .clauses-room)
+      wrote-place = omega (arith, inside, w .i-is, w .ends-size, ask .clauses-room)
 
-      module _ (after : List ℕ) (r : ℕ) (p : Written (getD (cnf (formAt tags values x)) i []) literals at after r) where
+      module _ (after : List ℕ) (r : ℕ) (p : Written (getD (cnf (formAt tags values x)) k []) literals at after r) where
         pub wrote-fits : r < 2 ^ 32
-        wrote-fits = omega (arith, p .end, total-before (cnf (formAt tags values x)) i within, w .at-is, ask .literals-small)
+        wrote-fits = omega (arith, p .end, total-before list k inside, w .at-is, ask .literals-small)
 
-        more : take (i + 1) (cnf (formAt tags values x)) ≡ take i (cnf (formAt tags values x)) ++ (getD (cnf (formAt tags values x)) i [] ∷ [])
-        more = ap (λ (n : ℕ). take n (cnf (formAt tags values x))) (add-one i) ∙ take-suc (cnf (formAt tags values x)) i [] within
+        more : take (k + 1) list ≡ take k list ++ (getD list k [] ∷ [])
+        more = ap (λ (n : ℕ). take n list) (add-one k) ∙ take-suc list k [] inside
 
-        literals-more : after ≡ padded (literalPlaces (take (i + 1) (cnf (formAt tags values x)))) (length literals₀)
-        literals-more =
-            p .array
-            ∙ (ap (λ (l : List ℕ). sets l at (clausePlaces (getD (cnf (formAt tags values x)) i []))) (w .listed .literals-are)
-            ∙ (sets-padded (length literals₀) (clausePlaces (getD (cnf (formAt tags values x)) i [])) (literalPlaces (take i (cnf (formAt tags values x)))) at
-            (w .at-is ∙ sym (places-total (take i (cnf (formAt tags values x)))))
-            (omega (arith, places-length (getD (cnf (formAt tags values x)) i []), wrote-ask .room, w .literals-size))
-            ∙ ap (λ (l : List ℕ). padded l (length literals₀))
-            (sym (ap literalPlaces more ∙ places-more (getD (cnf (formAt tags values x)) i []) (take i (cnf (formAt tags values x)))))))
-
-        ends-here : length (clauseEnds 0 (take i (cnf (formAt tags values x)))) ≡ i
-        ends-here = ends-length 0 (take i (cnf (formAt tags values x))) ∙ length-take-le i (cnf (formAt tags values x)) (w .within)
-
-        end-is : 0 + literalTotal (take i (cnf (formAt tags values x))) + length (getD (cnf (formAt tags values x)) i []) ≡ r
+        end-is : at₀ + literalTotal (take k list) + length (getD list k []) ≡ r
         end-is = omega (arith, p .end, w .at-is)
 
-        ends-next : set ends i r ≡ padded (clauseEnds 0 (take (i + 1) (cnf (formAt tags values x)))) (length ends₀)
-        ends-next =
-            ap₂ (λ (l : List ℕ) (n : ℕ). set l n r) (w .listed .ends-are) (sym ends-here)
-            ∙ (set-padded (length ends₀) (clauseEnds 0 (take i (cnf (formAt tags values x)))) r (omega (arith, ends-here, wrote-place, w .ends-size))
-            ∙ ap (λ (l : List ℕ). padded l (length ends₀))
-            (sym (ap (clauseEnds 0) more
-            ∙ (ends-more (getD (cnf (formAt tags values x)) i []) 0 (take i (cnf (formAt tags values x)))
-            ∙ ap (λ (n : ℕ). clauseEnds 0 (take i (cnf (formAt tags values x))) ++ (n ∷ [])) end-is))))
+        literals-next : after ≡ sets literals₀ at₀ (literalPlaces (take (k + 1) list))
+        literals-next =
+            let z : at ≡ at₀ + length (literalPlaces (take k list)) = w .at-is ∙ ap (λ (n : ℕ). at₀ + n) (sym (places-total (take k list))) in
+            p .array
+            ∙ (ap₂ (λ (l : List ℕ) (n : ℕ). sets l n (clausePlaces (getD list k []))) (w .literals-are) z
+            ∙ (sets-join (literalPlaces (take k list)) (clausePlaces (getD list k [])) literals₀ at₀
+            ∙ ap (λ (l : List ℕ). sets literals₀ at₀ l) (sym (ap literalPlaces more ∙ places-more (getD list k []) (take k list)))))
 
-        pub wrote-next : Wrote (cnf (formAt tags values x)) (length literals₀) (length ends₀) after (set ends i r) (i + 1) r
+        ends-next : set ends i r ≡ sets ends₀ i₀ (clauseEnds at₀ (take (k + 1) list))
+        ends-next =
+            let z : i ≡ i₀ + length (clauseEnds at₀ (take k list)) =
+            w .i-is ∙ ap (λ (n : ℕ). i₀ + n) (sym (ends-length at₀ (take k list) ∙ length-take-le k list (w .within))) in
+            ap₂ (λ (l : List ℕ) (n : ℕ). sets l n (r ∷ [])) (w .ends-are) z
+            ∙ (sets-join (clauseEnds at₀ (take k list)) (r ∷ []) ends₀ i₀
+            ∙ ap (λ (l : List ℕ). sets ends₀ i₀ l)
+            (sym (ap (clauseEnds at₀) more
+            ∙ (ends-more (getD list k []) at₀ (take k list) ∙ ap (λ (n : ℕ). clauseEnds at₀ (take k list) ++ (n ∷ [])) end-is))))
+
+        pub wrote-next : Wrote (cnf (formAt tags values x)) literals₀ ends₀ i₀ at₀ after (set ends i r) (k + 1) (i + 1) r
         wrote-next = record {
-          within = omega (arith, within);
-          at-is = sym (ap literalTotal more ∙ (total-more (getD (cnf (formAt tags values x)) i []) (take i (cnf (formAt tags values x))) ∙ omega (arith, end-is)));
-          listed = record { literals-are = literals-more; ends-are = ends-next };
-          literals-size = ap length (p .array) ∙ (length-sets literals at (clausePlaces (getD (cnf (formAt tags values x)) i [])) ∙ w .literals-size);
+          within = omega (arith, inside);
+          i-is = omega (arith, w .i-is);
+          at-is = sym (ap (λ (l : Clauses). at₀ + literalTotal l) more ∙ (ap (λ (n : ℕ). at₀ + n) (total-more (getD list k []) (take k list)) ∙ omega (arith, end-is)));
+          literals-are = literals-next;
+          ends-are = ends-next;
+          literals-size = ap length (p .array) ∙ (length-sets literals at (clausePlaces (getD list k [])) ∙ w .literals-size);
           ends-size = length-set ends i r ∙ w .ends-size;
         }
 
@@ -169,97 +186,106 @@ refused : (defined : Answer) (cs : Clauses) (k m : ℕ) (r : Answer) (literals e
 unfolding held
 refused defined cs k m r literals ends e n p q = record { answer = e; literals-are = rw n p; ends-are = rw n q }
 
-counts-of : (tags values counts sizes : List ℕ) → Counted tags values (length tags) counts sizes → ClauseCounts tags values counts
-counts-of tags values counts sizes right = record {
-  at = λ u h. ap (λ (t : Totals). t .clauses) (right .at u h h) ∙ ap (λ (t : Totals). min 8193 (t .clauses)) (totals-are (formAt tags values u));
-}
+module _ (tags values : List ℕ) (x : ℕ) (counts₀ sizes₀ literals ends : List ℕ) (ready : Ready tags values counts₀ sizes₀ literals ends)
+    (counts sizes : List ℕ) (t : code.Totals) (is : TermCounted tags values x sizes₀ counts sizes t) where
+  clauses-are-cut : t .clauses ≡ min 8193 (length (cnf (formAt tags values x)))
+  clauses-are-cut = clauses-cut tags values x sizes₀ counts sizes t is
 
-module _ (tags values : List ℕ) (x : ℕ) (counts₀ sizes₀ literals ends : List ℕ)
-    (ready : Ready (length tags) (length counts₀) (length sizes₀) literals ends)
-    (counts sizes : List ℕ) (t : code.Totals) (is : Counts tags values x counts sizes t) where
-  pub many-clauses : 2048 < t .clauses
-      → Answered (countAnswer (cnf (formAt tags values x))) (cnf (formAt tags values x)) (length literals) (length ends)
-      (record { code = 32; first = 0; second = 0 }) literals ends
+  literals-are-cut : t .literals ≡ min 8193 (literalTotal (cnf (formAt tags values x)))
+  literals-are-cut = literals-cut tags values x sizes₀ counts sizes t is
+
+  pub many-clauses : 2048 < t .clauses → (r : Answer) → r ≡ tooManyClauses
+      → Answered (countAnswer (cnf (formAt tags values x))) (cnf (formAt tags values x)) (length literals) (length ends) r literals ends
   unfolding countAnswer
-  many-clauses h =
-      refused _ _ _ _ _ _ _ (rw (lt-leb (length (cnf (formAt tags values x))) 2048 (omega (arith, is .clauses)))) refl (ready .literals-zero) (ready .ends-zero)
+  many-clauses h r e =
+      refused _ _ _ _ _ _ _ (rw (e, lt-leb (length (cnf (formAt tags values x))) 2048 (omega (arith, clauses-are-cut)))) (rw e) (ready .literals-zero) (ready .ends-zero)
 
   module _ (h : t .clauses ≤ 2048) where
     clauses-are : t .clauses ≡ length (cnf (formAt tags values x))
-    clauses-are = omega (arith, is .clauses)
+    clauses-are = omega (arith, clauses-are-cut)
 
-    pub many-literals : 8192 < t .literals
-        → Answered (countAnswer (cnf (formAt tags values x))) (cnf (formAt tags values x)) (length literals) (length ends)
-        (record { code = 32; first = 0; second = 0 }) literals ends
+    pub many-literals : 8192 < t .literals → (r : Answer) → r ≡ tooManyClauses
+        → Answered (countAnswer (cnf (formAt tags values x))) (cnf (formAt tags values x)) (length literals) (length ends) r literals ends
     unfolding countAnswer
-    many-literals g =
+    many-literals g r e =
         refused _ _ _ _ _ _ _
-        (rw (le-leb (length (cnf (formAt tags values x))) 2048 (omega (arith, clauses-are)), lt-leb (literalTotal (cnf (formAt tags values x))) 8192 (omega (arith, is .literals))))
-        refl (ready .literals-zero) (ready .ends-zero)
+        (rw (e, le-leb (length (cnf (formAt tags values x))) 2048 (omega (arith, clauses-are)), lt-leb (literalTotal (cnf (formAt tags values x))) 8192 (omega (arith, literals-are-cut))))
+        (rw e) (ready .literals-zero) (ready .ends-zero)
 
     module _ (g : t .literals ≤ 8192) where
       literals-are : t .literals ≡ literalTotal (cnf (formAt tags values x))
-      literals-are = omega (arith, is .literals)
+      literals-are = omega (arith, literals-are-cut)
 
-      pub fits-ask : AskList tags values counts x (t .clauses) literals ends
+      pub fits-ask : AskMore tags values counts (x ∷ []) (cnf (formAt tags values x)) literals ends 0 0
       fits-ask = record {
-        counted = counts-of tags values counts sizes (is .counted);
-        total-is = clauses-are;
+        counted = counts-one tags values counts x sizes (is .memo) (is .here);
         clauses = omega (arith, clauses-are);
         clauses-room = omega (arith, clauses-are, ready .lent .ends);
         literals-small = omega (arith, literals-are);
         literals-room = omega (arith, literals-are, ready .lent .literals);
-        literals-zero = ready .literals-zero;
-        ends-zero = ready .ends-zero;
       }
 
-      pub fits-answer : (literals′ ends′ : List ℕ) → Listed (cnf (formAt tags values x)) (length literals) (length ends) literals′ ends′
-          → Answered (countAnswer (cnf (formAt tags values x))) (cnf (formAt tags values x)) (length literals) (length ends)
-          (record { code = 0; first = t .clauses; second = t .literals }) literals′ ends′
+      listed : (literals′ ends′ : List ℕ) (f : Filled) → Adds (cnf (formAt tags values x)) literals ends 0 0 literals′ ends′ f
+          → Listed (cnf (formAt tags values x)) (length literals) (length ends) literals′ ends′
+      listed literals′ ends′ f a = record {
+        literals-are = a .literals-are
+            ∙ (ap (λ (l : List ℕ). sets l 0 (literalPlaces (cnf (formAt tags values x)))) (ready .literals-zero)
+            ∙ sets-zeros (length literals) (literalPlaces (cnf (formAt tags values x)))
+            (omega (arith, places-total (cnf (formAt tags values x)), literals-are, ready .lent .literals)));
+        ends-are = a .ends-are
+            ∙ (ap (λ (l : List ℕ). sets l 0 (clauseEnds 0 (cnf (formAt tags values x)))) (ready .ends-zero)
+            ∙ sets-zeros (length ends) (clauseEnds 0 (cnf (formAt tags values x)))
+            (omega (arith, ends-length 0 (cnf (formAt tags values x)), clauses-are, ready .lent .ends)));
+      }
+
+      pub fits-answer : (literals′ ends′ : List ℕ) (f : Filled) → Adds (cnf (formAt tags values x)) literals ends 0 0 literals′ ends′ f
+          → (r : Answer) → r ≡ accepted (t .clauses) (t .literals)
+          → Answered (countAnswer (cnf (formAt tags values x))) (cnf (formAt tags values x)) (length literals) (length ends) r literals′ ends′
       unfolding countAnswer held
-      fits-answer literals′ ends′ l = record {
+      fits-answer literals′ ends′ f a r e = record {
         answer = rw (
+          e,
           le-leb (length (cnf (formAt tags values x))) 2048 (omega (arith, clauses-are)),
           le-leb (literalTotal (cnf (formAt tags values x))) 8192 (omega (arith, literals-are)),
           ← clauses-are,
           ← literals-are,
         );
-        literals-are = l .literals-are;
-        ends-are = l .ends-are;
+        literals-are = rw e (listed literals′ ends′ f a .literals-are);
+        ends-are = rw e (listed literals′ ends′ f a .ends-are);
       }
 
 pub ruleset counted-answers = (many-clauses, many-literals, fits-answer)
 
-module _ (tags values : List ℕ) (x : ℕ) (literals₀ ends₀ literals ends : List ℕ) (cut : Cut 0 literals₀ ends₀ literals ends)
-    (b : Bool) (is : b ≡ emptyOr (formAt tags values x)) where
-  pub empty-answer : b ≡ true
-      → Answered (listAnswer (formAt tags values x)) (cnf (formAt tags values x)) (length literals₀) (length ends₀)
-      (record { code = 13; first = 0; second = 0 }) literals ends
-  unfolding listAnswer
-  empty-answer e = refused _ _ _ _ _ _ _ (rw (← is, e)) refl (cut .tags-are ∙ zero-all literals₀) (cut .values-are ∙ zero-all ends₀)
-
+module _ (literals₀ ends₀ literals ends : List ℕ) (cut : Cut 0 literals₀ ends₀ literals ends) where
   size-literals : length literals ≡ length literals₀
   size-literals = ap length (cut .tags-are ∙ zero-all literals₀) ∙ length-replicate {A = ℕ} (length literals₀) 0
 
   size-ends : length ends ≡ length ends₀
   size-ends = ap length (cut .values-are ∙ zero-all ends₀) ∙ length-replicate {A = ℕ} (length ends₀) 0
 
-  pub list-ready : (k m : ℕ) → Room (length tags) k m → Lent (length tags) (length literals₀) (length ends₀) → Ready (length tags) k m literals ends
-  list-ready k m room lent = record {
-    room = room;
+  pub list-ready : (tags values counts sizes : List ℕ) → Memo tags values counts sizes → Lent (length tags) (length literals₀) (length ends₀)
+      → Ready tags values counts sizes literals ends
+  list-ready tags values counts sizes memo lent = record {
+    memo = memo;
     lent = rw (size-literals, size-ends) lent;
     literals-zero = rw size-literals (cut .tags-are ∙ zero-all literals₀);
     ends-zero = rw size-ends (cut .values-are ∙ zero-all ends₀);
   }
 
-  pub list-answer : b ≡ false → (r : Answer) (literals′ ends′ : List ℕ)
-      → Answered (countAnswer (cnf (formAt tags values x))) (cnf (formAt tags values x)) (length literals) (length ends) r literals′ ends′
-      → Answered (listAnswer (formAt tags values x)) (cnf (formAt tags values x)) (length literals₀) (length ends₀) r literals′ ends′
-  unfolding listAnswer
-  list-answer e r literals′ ends′ a = record {
-    answer = rw (← is, e) (a .answer);
-    literals-are = rw size-literals at (a .literals-are);
-    ends-are = rw size-ends at (a .ends-are);
-  }
+  module _ (tags values : List ℕ) (x : ℕ) (b : Bool) (is : b ≡ emptyOr (formAt tags values x)) where
+    pub empty-answer : b ≡ true → (r : Answer) → r ≡ emptyOrReached
+        → Answered (listAnswer (formAt tags values x)) (cnf (formAt tags values x)) (length literals₀) (length ends₀) r literals ends
+    unfolding listAnswer
+    empty-answer e r q = refused _ _ _ _ _ _ _ (rw (q, ← is, e)) (rw q) (cut .tags-are ∙ zero-all literals₀) (cut .values-are ∙ zero-all ends₀)
+
+    pub list-answer : b ≡ false → (r : Answer) (literals′ ends′ : List ℕ)
+        → Answered (countAnswer (cnf (formAt tags values x))) (cnf (formAt tags values x)) (length literals) (length ends) r literals′ ends′
+        → Answered (listAnswer (formAt tags values x)) (cnf (formAt tags values x)) (length literals₀) (length ends₀) r literals′ ends′
+    unfolding listAnswer
+    list-answer e r literals′ ends′ a = record {
+      answer = rw (← is, e) (a .answer);
+      literals-are = rw size-literals at (a .literals-are);
+      ends-are = rw size-ends at (a .ends-are);
+    }
 
 pub ruleset list-answers = (empty-answer, list-answer)

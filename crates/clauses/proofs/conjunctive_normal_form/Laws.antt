@@ -4,8 +4,8 @@ use Prim.Native.Nat.{ℕ, zero, suc, _+_, _-_, _*_, _/_, _%_, _^_, _≤_, _<_, m
 use mathlib.Core.Path.{_≡_, refl, sym, ap, subst, _∙_}
 use mathlib.Core.Bool.{Bool, true, false, cond}
 use mathlib.Core.List.{List, [], _∷_, _++_}
-use lib.ListN.{length, getD, take, drop, set, length-append, length-drop, drop-of-length-le}
-use lib.Seq.{sets, length-sets, drop-cons, take-all}
+use lib.ListN.{length, getD, take, drop, set, length-append, drop-of-length-le}
+use lib.Seq.{sets, length-sets, drop-cons}
 use lib.Dec.{ltb}
 use native.Mathlib.Nat.{le-mul-of-pos-right, mul-div-cancel-left, mul-comm, mod-lt, div-lt-iff-lt-mul, mul-zero, zero-mul, add-assoc}
 use native.Mathlib.Omega.{arith}
@@ -19,12 +19,14 @@ use Rattle.clauses.specs.declared.conjunctive_normal_form.Chosen.{Chosen
 use Rattle.formulas.specs.Formula.{allBefore}
 use Rattle.formulas.specs.Normal.{Normal, Normals, lit, nmany, nall, nnil, ncons}
 use Rattle.formulas.specs.Clauses.{product, cnf, cnfAnd, cnfOr}
-use Rattle.formulas.specs.Built.{normalView, normalsOf}
+use Rattle.formulas.specs.Built.{normalView}
+use Rattle.formulas.specs.Totals.{Totals}
+use Rattle.formulas.proofs.Totals.{totals-are}
 use Rattle.clauses.specs.Lists.{literalPlace, clausePlaces}
-use Rattle.clauses.specs.ClauseWalk.{formAt}
+use Rattle.clauses.specs.ClauseWalk.{formAt, Memo}
 use Rattle.clauses.specs.ClauseList.{runOf, choose, ClauseCounts, Ask, AskRun, Written}
 use Rattle.clauses.proofs.ClauseAt.{append-left, append-right, product-at, clauses-and, clauses-or}
-use Rattle.clauses.proofs.Reading.{before-head, before-tail, read-literal, read-forall, read-connective, run-before, connective-within}
+use Rattle.clauses.proofs.Reading.{before-head, before-tail, run-split, read-literal, read-forall, read-connective, run-before, connective-within}
 
 -- ---- the walk along the operands of an `and`: w is what it finds, from j on, for the number left
 module _ (w : Chosen) (counts run : List ℕ) (j left : ℕ) (inv : w ≡ choose counts (drop j run) left) where
@@ -43,38 +45,66 @@ module _ (w : Chosen) (counts run : List ℕ) (j left : ℕ) (inv : w ≡ choose
 
 pub ruleset chooses = (choose-end, choose-here, choose-next)
 
--- a count below the limit is exact
-exact : (tags values counts : List ℕ) → ClauseCounts tags values counts → (u : ℕ) → u < length tags → length (cnf (formAt tags values u)) ≤ 2048
-    → getD counts u 0 ≡ length (cnf (formAt tags values u))
-exact tags values counts right u h l = right .at u h ∙ omega arith
+-- ---- the counts of a run
+module _ (tags values counts : List ℕ) where
+  -- a count below the limit is exact
+  pub exact : (u : ℕ) (us : List ℕ) → ClauseCounts tags values counts (u ∷ us) → u < length tags → length (cnf (formAt tags values u)) ≤ 2048
+      → getD counts u 0 ≡ length (cnf (formAt tags values u))
+  exact u us right h l =
+      ap (λ (t : Totals). t .clauses) (right .memo .at u (right .all 0 (omega arith) h))
+      ∙ (ap (λ (t : Totals). min 8193 (t .clauses)) (totals-are (formAt tags values u)) ∙ omega arith)
+
+  pub counts-one : (x : ℕ) (sizes : List ℕ) → Memo tags values counts sizes → (x < length tags → 0 < getD sizes x 0) → ClauseCounts tags values counts (x ∷ [])
+  counts-one x sizes memo here = record { sizes = sizes; memo = memo; all = one }
+    where
+      one : (i : ℕ) → i < 1 → getD (x ∷ []) i 0 < length tags → 0 < getD sizes (getD (x ∷ []) i 0) 0
+      one zero h l = here l
+      one (suc i) h l = absurd (omega arith)
+
+  pub counts-head : (u : ℕ) (us : List ℕ) → ClauseCounts tags values counts (u ∷ us) → ClauseCounts tags values counts (u ∷ [])
+  counts-head u us right = counts-one u (right .sizes) (right .memo) (right .all 0 (omega arith))
+
+  pub counts-tail : (u : ℕ) (us : List ℕ) → ClauseCounts tags values counts (u ∷ us) → ClauseCounts tags values counts us
+  counts-tail u us right = record { sizes = right .sizes; memo = right .memo; all = λ i h. right .all (suc i) (omega arith) }
+
+  pub counts-operands : (x : ℕ) → ClauseCounts tags values counts (x ∷ []) → x < length tags → (b : Bool) → Connective b ≡ normalView tags values x
+      → ClauseCounts tags values counts (operandsOf tags values x)
+  counts-operands x right h b e = record {
+    sizes = right .sizes;
+    memo = right .memo;
+    all = λ i l w. right .memo .operands x (right .all 0 (omega arith) h) b e .at i l;
+  }
 
 -- what the walk finds: an operand before x whose clause of that number is the clause of number i
-pub record Found (tags values : List ℕ) (x : ℕ) (cs : List (List (Normal (List ℕ) ℕ))) (i : ℕ) (c : Chosen) : Type 0 where
+pub record Found (tags values counts : List ℕ) (x : ℕ) (cs : List (List (Normal (List ℕ) ℕ))) (i : ℕ) (c : Chosen) : Type 0 where
+  pub counted : ClauseCounts tags values counts (c .place ∷ [])
   pub below : c .place < x
   pub small : length (cnf (formAt tags values (c .place))) ≤ 2048
   pub index : c .index < length (cnf (formAt tags values (c .place)))
   pub same : getD (cnf (formAt tags values (c .place))) (c .index) [] ≡ getD cs i []
 
-module _ (tags values counts : List ℕ) (right : ClauseCounts tags values counts) (x : ℕ) (within : x < length tags) where
-  found : (run : List ℕ) → allBefore x run ≡ true → (i : ℕ) → length (cnfAnd (runOf tags values run)) ≤ 2048 → i < length (cnfAnd (runOf tags values run))
-      → Found tags values x (cnfAnd (runOf tags values run)) i (choose counts run i)
+module _ (tags values counts : List ℕ) (x : ℕ) (within : x < length tags) where
+  found : (run : List ℕ) → ClauseCounts tags values counts run → allBefore x run ≡ true → (i : ℕ) → length (cnfAnd (runOf tags values run)) ≤ 2048 → i < length (cnfAnd (runOf tags values run))
+      → Found tags values counts x (cnfAnd (runOf tags values run)) i (choose counts run i)
   unfolding choose
-  found [] b i s h = absurd (omega arith)
-  found (u ∷ us) b i s h =
+  found [] right b i s h = absurd (omega arith)
+  found (u ∷ us) right b i s h =
       let total = clauses-and (formAt tags values u) (runOf tags values us) in
       let less : u < x = before-head x u us b in
-      let here : getD counts u 0 ≡ length (cnf (formAt tags values u)) = exact tags values counts right u (omega arith) (omega (arith, total)) in
+      let here : getD counts u 0 ≡ length (cnf (formAt tags values u)) = exact tags values counts u us right (omega arith) (omega (arith, total)) in
       by-test (ltb i (getD counts u 0))
       (λ q. let l : i < getD counts u 0 = ltb-true i (getD counts u 0) q in
       rw q record {
+        counted = counts-head tags values counts u us right;
         below = less;
         small = omega (arith, total);
         index = omega (arith, here);
         same = sym (append-left (cnf (formAt tags values u)) (cnfAnd (runOf tags values us)) [] i (omega (arith, here)));
       })
       (λ q. let l : getD counts u 0 ≤ i = ltb-false i (getD counts u 0) q in
-      let f = found us (before-tail x u us b) (i - getD counts u 0) (omega (arith, total)) (omega (arith, total, here)) in
+      let f = found us (counts-tail tags values counts u us right) (before-tail x u us b) (i - getD counts u 0) (omega (arith, total)) (omega (arith, total, here)) in
       rw q record {
+        counted = f .counted;
         below = f .below;
         small = f .small;
         index = f .index;
@@ -86,8 +116,8 @@ one-at : (l : Normal (List ℕ) ℕ) (i : ℕ) → i < 1 → getD ((l ∷ []) �
 one-at l zero h = refl
 one-at l (suc i) h = absurd (omega arith)
 
-module _ (tags values counts : List ℕ) (cs : List (List (Normal (List ℕ) ℕ))) (l : Normal (List ℕ) ℕ) (e : cs ≡ (l ∷ []) ∷ [])
-    (i : ℕ) (out : List ℕ) (at : ℕ) (ask : Ask tags values counts cs i out at) where
+module _ (tags values counts run : List ℕ) (cs : List (List (Normal (List ℕ) ℕ))) (l : Normal (List ℕ) ℕ) (e : cs ≡ (l ∷ []) ∷ [])
+    (i : ℕ) (out : List ℕ) (at : ℕ) (ask : Ask tags values counts run cs i out at) where
   one-is : getD cs i [] ≡ l ∷ []
   one-is = rw e (one-at l i (omega (arith, ask .index, ap length e)))
 
@@ -98,21 +128,21 @@ module _ (tags values counts : List ℕ) (cs : List (List (Normal (List ℕ) ℕ
   one-written after r p = rw one-is record { end = p .0; array = p .1 }
 
 -- ---- the term at x
-module _ (tags values counts : List ℕ) (x i : ℕ) (out : List ℕ) (at : ℕ) (ask : Ask tags values counts (cnf (formAt tags values x)) i out at)
+module _ (tags values counts : List ℕ) (x i : ℕ) (out : List ℕ) (at : ℕ) (ask : Ask tags values counts (x ∷ []) (cnf (formAt tags values x)) i out at)
     (v : NormalView) (is : v ≡ normalView tags values x) where
   module _ (e : v ≡ Literal) where
     pub literal-room : at < length out
-    literal-room = one-room tags values counts _ _ (ap cnf (read-literal tags values x v is e)) i out at ask
+    literal-room = one-room tags values counts _ _ _ (ap cnf (read-literal tags values x v is e)) i out at ask
 
     pub literal-written : (after : List ℕ) (r : ℕ) → (r ≡ at + 1) × (after ≡ set out at x) → Written (getD (cnf (formAt tags values x)) i []) out at after r
-    literal-written = one-written tags values counts _ _ (ap cnf (read-literal tags values x v is e)) i out at ask
+    literal-written = one-written tags values counts _ _ _ (ap cnf (read-literal tags values x v is e)) i out at ask
 
   module _ (body : ℕ) (e : v ≡ Forall body) where
     pub forall-room : at < length out
-    forall-room = one-room tags values counts _ _ (ap cnf (read-forall tags values x v is body e)) i out at ask
+    forall-room = one-room tags values counts _ _ _ (ap cnf (read-forall tags values x v is body e)) i out at ask
 
     pub forall-written : (after : List ℕ) (r : ℕ) → (r ≡ at + 1) × (after ≡ set out at 0) → Written (getD (cnf (formAt tags values x)) i []) out at after r
-    forall-written = one-written tags values counts _ _ (ap cnf (read-forall tags values x v is body e)) i out at ask
+    forall-written = one-written tags values counts _ _ _ (ap cnf (read-forall tags values x v is body e)) i out at ask
 
   module _ (b : Bool) (e : v ≡ Connective b) (run : List ℕ) (o : run ≡ operandsOf tags values x) where
     run-here : allBefore x run ≡ true
@@ -121,23 +151,26 @@ module _ (tags values counts : List ℕ) (x i : ℕ) (out : List ℕ) (at : ℕ)
     within : x < length tags
     within = connective-within tags values x v is b e
 
+    run-counts : ClauseCounts tags values counts run
+    run-counts = rw o (counts-operands tags values counts x (ask .counted) within b (sym e ∙ is))
+
     module _ (t : b ≡ true) where
       and-is : cnf (formAt tags values x) ≡ cnfAnd (runOf tags values run)
       and-is = rw (read-connective tags values x v is b e, t, o)
 
       module _ (c : Chosen) (k : c ≡ choose counts run i) where
-        chosen : Found tags values x (cnf (formAt tags values x)) i c
+        chosen : Found tags values counts x (cnf (formAt tags values x)) i c
         chosen =
             rw (k, and-is)
-            (found tags values counts (ask .counted) x within run run-here i (omega (arith, ask .small, ap length and-is)) (omega (arith, ask .index, ap length and-is)))
+            (found tags values counts x within run run-counts run-here i (omega (arith, ask .small, ap length and-is)) (omega (arith, ask .index, ap length and-is)))
 
         -- the measure falls
         pub and-falls : (m : ℕ) → x * 2 ^ 65 + 2 ^ 64 ≡ m → c .place * 2 ^ 65 + 2 ^ 64 < m
         and-falls m q = omega (arith, chosen .below)
 
-        pub and-ask : Ask tags values counts (cnf (formAt tags values (c .place))) (c .index) out at
+        pub and-ask : Ask tags values counts (c .place ∷ []) (cnf (formAt tags values (c .place))) (c .index) out at
         and-ask = record {
-          counted = ask .counted;
+          counted = chosen .counted;
           small = chosen .small;
           index = chosen .index;
           room = rw (chosen .same) (ask .room);
@@ -153,10 +186,15 @@ module _ (tags values counts : List ℕ) (x i : ℕ) (out : List ℕ) (at : ℕ)
 
       pub or-ask : (total : ℕ) → total ≡ getD counts x 0 → AskRun tags values counts x run total i out at
       or-ask total q = record {
-        ask = rw or-is at ask;
+        ask = record {
+          counted = run-counts;
+          small = rw or-is at (ask .small);
+          index = rw or-is at (ask .index);
+          room = rw or-is at (ask .room);
+        };
         before = run-here;
         within = within;
-        count = q ∙ (exact tags values counts (ask .counted) x within (ask .small) ∙ ap length or-is);
+        count = q ∙ (exact tags values counts x [] (ask .counted) within (ask .small) ∙ ap length or-is);
       }
 
       pub or-written : (after : List ℕ) (r : ℕ) → Written (getD (cnfOr (runOf tags values run)) i []) out at after r
@@ -237,7 +275,7 @@ module _ (tags values counts : List ℕ) (x u : ℕ) (us : List ℕ) (total i : 
   here-is : here ≡ length (cnf (formAt tags values u))
   here-is =
       let less : u < x = before-head x u us (ask .before) in
-      is ∙ exact tags values counts (ask .ask .counted) u (omega (arith, ask .within)) small-here
+      is ∙ exact tags values counts u us (ask .ask .counted) (omega (arith, ask .within)) small-here
 
   rest-is : total / here ≡ length (cnfOr (runOf tags values us))
   rest-is = rw (total-is, here-is) (mul-div-cancel-left (length (cnfOr (runOf tags values us))) some-here)
@@ -252,9 +290,9 @@ module _ (tags values counts : List ℕ) (x u : ℕ) (us : List ℕ) (total i : 
       rw (← length-append (getD (cnf (formAt tags values u)) (i / (total / here)) []) (getD (cnfOr (runOf tags values us)) (i % (total / here)) []), ← clause-is)
       (ask .ask .room)
 
-  first-ask : Ask tags values counts (cnf (formAt tags values u)) (i / (total / here)) out at
+  first-ask : Ask tags values counts (u ∷ []) (cnf (formAt tags values u)) (i / (total / here)) out at
   first-ask = record {
-    counted = ask .ask .counted;
+    counted = counts-head tags values counts u us (ask .ask .counted);
     small = small-here;
     index = rw rest-is (div-lt-iff-lt-mul some-rest .1 index-is);
     room = omega (arith, room-is);
@@ -264,7 +302,7 @@ module _ (tags values counts : List ℕ) (x u : ℕ) (us : List ℕ) (total i : 
     rest-ask : AskRun tags values counts x us (total / here) (i % (total / here)) mid next
     rest-ask = record {
       ask = record {
-        counted = ask .ask .counted;
+        counted = counts-tail tags values counts u us (ask .ask .counted);
         small = small-rest;
         index = rw rest-is (mod-lt i some-rest);
         room = omega (
@@ -285,9 +323,6 @@ module _ (tags values counts : List ℕ) (x u : ℕ) (us : List ℕ) (total i : 
     both-written after r q = rw clause-is (written-both _ _ out at mid next after r w q)
 
 -- the same of a run, whose rest is `&run[1..]`
-run-split : (run : List ℕ) → (length run ≡ 0 → ⊥) → run ≡ getD run 0 0 ∷ take (length run - 1) (drop 1 run)
-run-split run some = drop-cons run 0 0 (omega arith) ∙ ap (λ (l : List ℕ). getD run 0 0 ∷ l) (sym (take-all (length run - 1) (drop 1 run) (rw (length-drop 1 run) (omega arith))))
-
 module _ (tags values counts : List ℕ) (x : ℕ) (run : List ℕ) (total i : ℕ) (out : List ℕ) (at : ℕ)
     (ask : AskRun tags values counts x run total i out at) where
   pub run-none : length run ≡ 0 → Written (getD (cnfOr (runOf tags values run)) i []) out at out at
@@ -308,7 +343,7 @@ module _ (tags values counts : List ℕ) (x : ℕ) (run : List ℕ) (total i : �
 
     -- a, d: the clause's number in the first list, and in the rest
     module _ (a : ℕ) (is-a : a ≡ i / (total / here)) where
-      pub run-first : Ask tags values counts (cnf (formAt tags values (getD run 0 0))) a out at
+      pub run-first : Ask tags values counts (getD run 0 0 ∷ []) (cnf (formAt tags values (getD run 0 0))) a out at
       run-first = rw is-a (first-ask tags values counts x _ _ total i out at split-ask here is)
 
       module _ (mid : List ℕ) (next : ℕ) (w : Written (getD (cnf (formAt tags values (getD run 0 0))) a []) out at mid next)

@@ -1,45 +1,40 @@
--- Laws of the marks for an empty `or`, one for each way out of the code.
+-- Laws of the walk for an empty `or` and of its memo, one for each way out of the code.
 -- Assumes nothing.
-use Prim.Native.Nat.{ℕ, zero, suc, _+_, _≤_, _<_}
-use mathlib.Core.Path.{_≡_, refl, sym, ap, ap₂, _∙_}
-use mathlib.Core.Bool.{Bool, true, false, not, cond, _||_}
+use Prim.Native.Nat.{ℕ, _-_, _≤_}
+use mathlib.Core.Path.{_≡_, refl, sym, ap, _∙_}
+use mathlib.Core.Bool.{Bool, true, false, not, _||_}
 use mathlib.Core.List.{List, [], _∷_}
-use lib.ListN.{length, getD, drop, set, length-set, drop-of-length-le}
-use lib.Seq.{drop-cons, getD-set-same, getD-set-other}
+use lib.ListN.{length, getD, take, drop, set, replicate}
+use lib.Seq.{getD-set-other, set-out}
 use lib.Dec.{eqb}
 use native.Mathlib.Omega.{arith}
-use native.Mathlib.Numerals.{add-one, lt-of-le-of-ne}
-use borrow.Author.Tests.{eq-eqb, ne-eqb, eqb-true, eqb-false}
+use borrow.Author.Tests.{eqb-true, eqb-false}
 use Rattle.cells.specs.Cell.{operandsOf}
 use Rattle.cells.specs.ByPlace.{by-test}
-use Rattle.free_vars.specs.Free.{anyOf}
 use Rattle.formulas.specs.declared.view.NormalView.{NormalView}
 use Rattle.formulas.specs.declared.view.NormalView.the-variants.{Literal, Connective, Forall}
 use Rattle.formulas.specs.Formula.{allBefore}
-use Rattle.formulas.specs.Normal.{Normal, Normals, lit, nmany, nall, nnil, ncons}
+use Rattle.formulas.specs.Normal.{Normal}
 use Rattle.formulas.specs.Clauses.{emptyOr, emptyOrs, isEmptyOr}
 use Rattle.formulas.specs.Built.{normalView, normalsOf}
-use Rattle.clauses.specs.ClauseWalk.{formAt, marked, Marks}
-use Rattle.clauses.proofs.Reading.{before-head, before-tail, read-literal, read-forall, read-connective, run-before, connective-within}
+use Rattle.clauses.specs.ClauseWalk.{formAt, NoneReached, Reached, Noted}
+use Rattle.clauses.proofs.Reading.{read-literal, read-forall, read-connective, run-before, run-split, zeros}
 
--- w says whether a place of the run from i on is marked
-module _ (w : Bool) (marks run : List ℕ) (i : ℕ) (inv : w ≡ anyOf (marked marks) (drop i run)) where
-  pub any-end : length run ≤ i → false ≡ w
-  unfolding anyOf
-  any-end h = rw (inv, drop-of-length-le run h)
+-- ---- noting an answer; past the end of the memo nothing is set
+module _ (memo : List ℕ) (x : ℕ) (s : Bool) where
+  pub note-yes : s ≡ true → Noted memo x s memo true
+  note-yes e = record { same = sym e; kept = rw e }
 
-  module _ (h : i < length run) (m : ℕ) (is : m ≡ getD marks (getD run i 0) 0) where
-    pub any-here : m ≡ 1 → true ≡ w
-    unfolding anyOf marked
-    any-here e = rw (inv, drop-cons run i 0 h, ← is, eq-eqb _ _ e)
+  module _ (e : s ≡ false) where
+    pub note-no : Noted memo x s (set memo x 1) false
+    note-no = record { same = sym e; kept = rw e }
 
-    pub any-next : (m ≡ 1 → ⊥) → w ≡ anyOf (marked marks) (drop (i + 1) run)
-    unfolding anyOf marked
-    any-next e = rw (inv, drop-cons run i 0 h, ← is, ne-eqb _ _ e, add-one i)
+    pub note-past : length memo ≤ x → Noted memo x s memo false
+    note-past h = record { same = sym e; kept = rw (e, set-out memo x 1 h) }
 
-pub ruleset anys = (any-end, any-here, any-next)
+pub ruleset notes = (note-yes, note-no, note-past)
 
--- ---- a run
+-- ---- operands
 none-empty : (f : ℕ → Normal (List ℕ) ℕ) (b : Bool) (run : List ℕ) → length run ≡ 0
     → not b ≡ isEmptyOr b (normalsOf f run) || emptyOrs (normalsOf f run)
 none-empty f true [] e = refl
@@ -52,74 +47,72 @@ some-empty f b [] n = absurd (n refl)
 some-empty f true (u ∷ run) n = refl
 some-empty f false (u ∷ run) n = refl
 
--- the marks of a run say whether an empty `or` is reached from it
-run-marked : (tags values : List ℕ) (x : ℕ) (marks : List ℕ) → Marks tags values x marks → x < length tags
-    → (run : List ℕ) → allBefore x run ≡ true → anyOf (marked marks) run ≡ emptyOrs (normalsOf (formAt tags values) run)
-unfolding anyOf
-run-marked tags values x marks right l [] h = refl
-run-marked tags values x marks right l (u ∷ run) h =
-    let b : u < x = before-head x u run h in
-    rw (right .at u b (omega arith), run-marked tags values x marks right l run (before-tail x u run h))
-
 -- ---- the term at x
-module _ (tags values : List ℕ) (x : ℕ) (v : NormalView) (is : v ≡ normalView tags values x) where
-  pub reached-literal : v ≡ Literal → false ≡ emptyOr (formAt tags values x)
-  reached-literal e = rw (read-literal tags values x v is e)
+module _ (tags values : List ℕ) (x : ℕ) (memo : List ℕ) where
+  pub term-noted : NoneReached tags values memo → (m : ℕ) → m ≡ getD memo x 0 → m ≡ 1 → Reached tags values memo false (emptyOr (formAt tags values x))
+  term-noted right m is e = record { is = right .at x (sym is ∙ e); right = right }
 
-  pub reached-forall : (body : ℕ) → v ≡ Forall body → false ≡ emptyOr (formAt tags values x)
-  reached-forall body e = rw (read-forall tags values x v is body e)
+  module _ (v : NormalView) (is : v ≡ normalView tags values x) where
+    pub term-literal : NoneReached tags values memo → v ≡ Literal → Reached tags values memo false (emptyOr (formAt tags values x))
+    term-literal right e = record { is = rw (read-literal tags values x v is e); right = right }
 
-  module _ (b : Bool) (e : v ≡ Connective b) (run : List ℕ) (o : run ≡ operandsOf tags values x) where
-    reached-is : isEmptyOr b (normalsOf (formAt tags values) run) || emptyOrs (normalsOf (formAt tags values) run) ≡ emptyOr (formAt tags values x)
-    reached-is = rw (read-connective tags values x v is b e, o)
+    pub term-forall : NoneReached tags values memo → (body : ℕ) → v ≡ Forall body → Reached tags values memo false (emptyOr (formAt tags values x))
+    term-forall right body e = record { is = rw (read-forall tags values x v is body e); right = right }
 
-    pub reached-empty : length run ≡ 0 → not b ≡ emptyOr (formAt tags values x)
-    reached-empty z = none-empty _ b run z ∙ reached-is
+    module _ (b : Bool) (e : v ≡ Connective b) (run : List ℕ) (o : run ≡ operandsOf tags values x) where
+      reached-is : isEmptyOr b (normalsOf (formAt tags values) run) || emptyOrs (normalsOf (formAt tags values) run) ≡ emptyOr (formAt tags values x)
+      reached-is = rw (read-connective tags values x v is b e, o)
 
-    pub reached-run : (length run ≡ 0 → ⊥) → (marks : List ℕ) → Marks tags values x marks
-        → (r : Bool) → r ≡ anyOf (marked marks) run → r ≡ emptyOr (formAt tags values x)
-    reached-run some marks right r q =
-        let h : allBefore x run ≡ true = rw o (run-before tags values x v is b e) in
-        q ∙ (run-marked tags values x marks right (connective-within tags values x v is b e) run h ∙ (sym (some-empty _ b run some) ∙ reached-is))
+      pub term-before : allBefore x run ≡ true
+      term-before = rw o (run-before tags values x v is b e)
 
-pub ruleset reaches = (reached-literal, reached-forall, reached-empty, reached-run)
+      pub term-empty : NoneReached tags values memo → length run ≡ 0 → Reached tags values memo (not b) (emptyOr (formAt tags values x))
+      term-empty right z = record { is = none-empty _ b run z ∙ reached-is; right = right }
 
--- ---- the pass over the places before p, with marks of k places
-pub record Passed (tags values : List ℕ) (k : ℕ) (marks : List ℕ) (p : ℕ) : Type 0 where
-  pub size : length marks ≡ k
-  pub room : length tags ≤ k
-  pub right : Marks tags values p marks
+      pub term-run : (length run ≡ 0 → ⊥) → (s : Bool) → Reached tags values memo s (emptyOrs (normalsOf (formAt tags values) run))
+          → Reached tags values memo s (emptyOr (formAt tags values x))
+      term-run some s a = record { is = a .is ∙ (sym (some-empty _ b run some) ∙ reached-is); right = a .right }
 
-module _ (tags values : List ℕ) (k : ℕ) (marks : List ℕ) where
-  pub pass-start : length marks ≡ k → length tags ≤ k → Passed tags values k marks 0
-  pass-start e h = record { size = e; room = h; right = record { at = λ u b l. absurd (omega arith) } }
+module _ (tags values : List ℕ) (x : ℕ) (memo : List ℕ) (s : Bool) (a : Reached tags values memo s (emptyOr (formAt tags values x))) where
+  -- a right no keeps the memo right
+  more-right : s ≡ false → NoneReached tags values (set memo x 1)
+  more-right e = record {
+    at = λ u q. by-test (eqb u x)
+        (λ o. rw (eqb-true u x o) (sym e ∙ a .is))
+        (λ o. a .right .at u (sym (getD-set-other memo x u 1 0 (eqb-false u x o)) ∙ q));
+  }
 
-  module _ (p : ℕ) (pass : Passed tags values k marks p) where
-    pub pass-next : p < length tags → (r : Bool) → r ≡ emptyOr (formAt tags values p) → (m : ℕ) → m ≡ cond r 1 0
-        → Passed tags values k (set marks p m) (p + 1)
-    unfolding marked
-    pass-next h r is m e = record {
-      size = length-set marks p m ∙ pass .size;
-      room = pass .room;
-      right = record {
-        at = λ u b l. by-test (eqb u p)
-            (λ q. rw (eqb-true u p q) (here r m e ∙ is))
-            (λ q. other u (eqb-false u p q) ∙ pass .right .at u (lt-of-le-of-ne (omega arith) (eqb-false u p q)) l);
-      };
-    }
-      where
-        here : (r : Bool) (m : ℕ) → m ≡ cond r 1 0 → marked (set marks p m) p ≡ r
-        here true m e = rw (getD-set-same marks p m 0 (omega (arith, pass .size, pass .room)), e)
-        here false m e = rw (getD-set-same marks p m 0 (omega (arith, pass .size, pass .room)), e)
+  pub noted : (after : List ℕ) (r : Bool) → Noted memo x s after r → Reached tags values after r (emptyOr (formAt tags values x))
+  noted after r n = record {
+    is = n .same ∙ a .is;
+    right = rw (n .kept) (by-test s (λ e. rw e (a .right)) (λ e. rw e (more-right e)));
+  }
 
-        other : (u : ℕ) → (u ≡ p → ⊥) → marked (set marks p m) u ≡ marked marks u
-        other u n = rw (getD-set-other marks p u m 0 n)
+-- ---- the walk along a run
+reached-none : (f : ℕ → Normal (List ℕ) ℕ) (run : List ℕ) → length run ≡ 0 → false ≡ emptyOrs (normalsOf f run)
+reached-none f [] e = refl
+reached-none f (u ∷ run) e = absurd (omega arith)
 
-    pub pass-end : length tags ≤ p → Marks tags values (length tags) marks
-    pass-end h = record { at = λ u b l. pass .right .at u (omega arith) l }
+module _ (tags values run : List ℕ) where
+  pub run-end : (memo : List ℕ) → NoneReached tags values memo → length run ≡ 0
+      → Reached tags values memo false (emptyOrs (normalsOf (formAt tags values) run))
+  run-end memo right e = record { is = reached-none _ run e; right = right }
 
-pub ruleset passes = (pass-start, pass-next, pass-end)
+  module _ (some : length run ≡ 0 → ⊥) (memo : List ℕ) (s : Bool) (a : Reached tags values memo s (emptyOr (formAt tags values (getD run 0 0)))) where
+    run-is : emptyOrs (normalsOf (formAt tags values) run) ≡ s || emptyOrs (normalsOf (formAt tags values) (take (length run - 1) (drop 1 run)))
+    run-is =
+        rw (a .is) (ap (λ (l : List ℕ). emptyOrs (normalsOf (formAt tags values) l)) (run-split run some))
 
--- past the pool's end there is nothing to mark
-pub marks-all : (tags values marks : List ℕ) → Marks tags values (length tags) marks → (x : ℕ) → Marks tags values x marks
-marks-all tags values marks right x = record { at = λ u b l. right .at u l l }
+    pub run-found : s ≡ true → Reached tags values memo true (emptyOrs (normalsOf (formAt tags values) run))
+    run-found e = record { is = rw (run-is, e); right = a .right }
+
+    pub run-on : s ≡ false → (memo′ : List ℕ) (r : Bool)
+        → Reached tags values memo′ r (emptyOrs (normalsOf (formAt tags values) (take (length run - 1) (drop 1 run))))
+        → Reached tags values memo′ r (emptyOrs (normalsOf (formAt tags values) run))
+    run-on e memo′ r b = record { is = rw (run-is, e) (b .is); right = b .right }
+
+pub ruleset walks = (term-noted, term-literal, term-forall, term-empty, term-run, noted, run-end, run-found, run-on)
+
+-- ---- a fresh memo
+pub fresh : (tags values : List ℕ) (k : ℕ) → NoneReached tags values (replicate k 0)
+fresh tags values k = record { at = λ u e. absurd (omega (arith, zeros k u)) }

@@ -10,10 +10,10 @@ use lib.Dec.{leb}
 use native.Mathlib.Omega.{arith}
 use borrow.Author.Tests.{eq-eqb}
 use Rattle.cells.specs.ByPlace.{by-test}
-use Rattle.sorts.specs.Table.{builtIn}
-use Rattle.headers.proofs.description.Growth.{Same}
-use Rattle.pool.specs.declared.Answer.{Answer}
-use Rattle.pool.proofs.tree.Passed.{Passed, pool-passes, pool-accepts}
+use Rattle.sort_rules.specs.Table.{builtIn}
+use Rattle.descriptions.proofs.description.Growth.{Same}
+use Rattle.answers.specs.declared.Answer.{Answer}
+use Rattle.term_trees.proofs.Passed.{Passed, pool-passes, pool-accepts}
 use Rattle.formulas.specs.Normal.{Normal}
 use Rattle.formulas.specs.Clauses.{cnf, emptyOr, literalTotal}
 use Rattle.formulas.specs.Built.{Placed, normalAt, takenOut}

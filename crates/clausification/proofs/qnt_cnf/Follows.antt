@@ -9,7 +9,7 @@ use borrow.Author.Tests.{not-true, not-false}
 use Rattle.cells.specs.ByPlace.{by-test}
 use Rattle.cells.specs.declared.Found.the-variants as found
 use Rattle.headers.specs.WellFormed.{firstBad}
-use Rattle.headers.proofs.description.Growth.{Same}
+use Rattle.descriptions.proofs.description.Growth.{Same}
 use Rattle.formulas.specs.Normal.{taken}
 use Rattle.formulas.specs.Built.{normalAt}
 use Rattle.clauses.specs.ClauseWalk.{formAt}
@@ -17,7 +17,7 @@ use Rattle.building.specs.Arrays.{normalIn}
 use Rattle.quantifiers.specs.Outcome.{Outcome, pass, refuse, _>>_, guard, unless}
 use Rattle.quantifiers.specs.Binding.{Binding, bindingsOf, has, firstOf, bindingFree}
 use Rattle.quantifiers.specs.BindingAnswer.{nameOf}
-use Rattle.quantifiers.specs.FormAnswer.{pairsOf}
+use Rattle.forms.specs.FormAnswer.{pairsOf}
 use Rattle.quantifiers.specs.declared.binding.FirstName.{FirstName}
 use Rattle.quantifiers.specs.declared.binding.FirstName.the-variants.{Name, Nothing}
 use Rattle.quantifiers.proofs.outcome.Laws.{answers, unless-name, unless-none}

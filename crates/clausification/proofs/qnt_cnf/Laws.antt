@@ -9,26 +9,26 @@ use lib.Dec.{eqb, ltb}
 use native.Mathlib.Omega.{arith}
 use borrow.Author.Tests.{eqb-true, eqb-false, ltb-true, not-true, not-false}
 use Rattle.cells.specs.ByPlace.{by-test}
-use Rattle.sorts.specs.Table.{builtIn}
+use Rattle.sort_rules.specs.Table.{builtIn}
 use Rattle.headers.specs.WellFormed.{isTerm}
-use Rattle.headers.specs.Description.{Cut}
-use Rattle.pool.specs.Check.{checkPool, andThen as checkThen, checkTerm}
-use Rattle.pool.specs.declared.Answer.{Answer}
-use Rattle.pool.proofs.tree.Header.{both}
-use Rattle.pool.proofs.tree.Passed.{Passed, pool-passes, pool-accepts}
+use Rattle.descriptions.specs.Description.{Cut}
+use Rattle.pool_checks.specs.Check.{checkPool, andThen as checkThen, checkTerm}
+use Rattle.answers.specs.declared.Answer.{Answer}
+use Rattle.term_trees.proofs.Header.{both}
+use Rattle.term_trees.proofs.Passed.{Passed, pool-passes, pool-accepts}
 use Rattle.building.proofs.Clausal.{zero-kept}
 use Rattle.quantifiers.specs.Outcome.{Outcome, refuse, _>>=_, _>>_, need, guard, answerOf}
-use Rattle.quantifiers.specs.Form.{quantifier, operator, oneOf, twoOf, andThen}
-use Rattle.quantifiers.specs.FormAnswer.{withList, quantifierIn, oneIn, twoIn}
-use Rattle.quantifiers.specs.declared.form.Quantified.{Quantified}
-use Rattle.quantifiers.specs.declared.form.Quantified.the-variants as quantified
-use Rattle.quantifiers.specs.declared.form.One.{One}
-use Rattle.quantifiers.specs.declared.form.One.the-variants as one
-use Rattle.quantifiers.specs.declared.form.Two.{Two}
-use Rattle.quantifiers.specs.declared.form.Two.the-variants as two
-use Rattle.quantifiers.proofs.form.Laws.{Reads}
-use Rattle.quantifiers.proofs.Passes.{then-some}
-use Rattle.quantifiers.proofs.Trees.{AllTerms, two-are, quantifier-tree, operator-tree}
+use Rattle.forms.specs.Form.{quantifier, operator, oneOf, twoOf, andThen}
+use Rattle.forms.specs.FormAnswer.{withList, quantifierIn, oneIn, twoIn}
+use Rattle.forms.specs.declared.Quantified.{Quantified}
+use Rattle.forms.specs.declared.Quantified.the-variants as quantified
+use Rattle.forms.specs.declared.One.{One}
+use Rattle.forms.specs.declared.One.the-variants as one
+use Rattle.forms.specs.declared.Two.{Two}
+use Rattle.forms.specs.declared.Two.the-variants as two
+use Rattle.forms.proofs.Laws.{Reads}
+use Rattle.forms.proofs.Passes.{then-some}
+use Rattle.forms.proofs.Trees.{AllTerms, two-are, quantifier-tree, operator-tree}
 use Rattle.clausification.specs.QntCnf.{implication, clausified, qntCnf}
 use Rattle.clausification.specs.Promises.{forallAt, Sides, Leaves, Clausified}
 

@@ -12,12 +12,12 @@ use borrow.Author.Tests.{eqb-true, ne-eqb, ltb-true, not-false}
 use Rattle.cells.specs.Cell.{operandsOf, sameCells}
 use Rattle.cells.proofs.Cells.{same-eq}
 use Rattle.headers.specs.WellFormed.{isTermTag, isTerm}
-use Rattle.pool.specs.Sort.{Sort, bool}
-use Rattle.pool.specs.Term.{Var, Vars, Term, Terms, quant, op, tnil, tcons}
-use Rattle.pool.specs.Tree.{sortTree, varsOf, termsOf, tree}
-use Rattle.pool.specs.FreeTree.{has as hasVar, free}
-use Rattle.pool.proofs.tree.Header.{both}
-use Rattle.pool.proofs.tree.Passed.{Passed}
+use Rattle.term_trees.specs.Sort.{Sort, bool}
+use Rattle.term_trees.specs.Term.{Var, Vars, Term, Terms, quant, op, tnil, tcons}
+use Rattle.term_trees.specs.Tree.{sortTree, varsOf, termsOf, tree}
+use Rattle.term_trees.specs.FreeTree.{has as hasVar, free}
+use Rattle.term_trees.proofs.Header.{both}
+use Rattle.term_trees.proofs.Passed.{Passed}
 use Rattle.formulas.specs.Formula.{many}
 use Rattle.formulas.specs.Normal.{Normal, Normals, lit, nmany, nall, nnil, ncons, nnf, prenex, taken, takens}
 use Rattle.formulas.specs.Clauses.{Clause, cnf}
@@ -32,10 +32,10 @@ use Rattle.normal_form.proofs.NormalFormTruth.{normal-form-is}
 use Rattle.normal_form.proofs.ClauseListTruth.{old-term, old-sort, taken-are, clausal-form-is, clause-places-are}
 use Rattle.quantifiers.specs.Outcome.{pass}
 use Rattle.quantifiers.specs.Binding.{Binding, bindingsOf, same, has, firstOf}
-use Rattle.quantifiers.specs.Form.{Quantifier, operator, oneOf, twoOf, andThen}
-use Rattle.quantifiers.proofs.Passes.{need-passes, guard-passes, unless-passes, then-some}
+use Rattle.forms.specs.Form.{Quantifier, operator, oneOf, twoOf, andThen}
+use Rattle.forms.proofs.Passes.{need-passes, guard-passes, unless-passes, then-some}
 use Rattle.quantifiers.proofs.Bindings.{first-none, varOf, varsAt, vars-are, vars-append, has-at, has-pair}
-use Rattle.quantifiers.proofs.Trees.{AllTerms, Sorted, sorted-has, two-are, quantifier-tree, operator-tree}
+use Rattle.forms.proofs.Trees.{AllTerms, Sorted, sorted-has, two-are, quantifier-tree, operator-tree}
 use Rattle.clausification.specs.NoCapture.{NoCapture}
 use Rattle.clausification.specs.QntCnf.{implication, isClause, anyClause, takenFrom, clausesFrom, leftAndTaken, clauseFollows, clausified, qntCnf}
 

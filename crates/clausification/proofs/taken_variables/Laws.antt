@@ -12,6 +12,7 @@ use native.Mathlib.Omega.{arith}
 use borrow.Author.Tests.{lt-ltb, eqb-true, eqb-false, ltb-true, ltb-false}
 use Rattle.cells.specs.ByPlace.{by-test}
 use Rattle.cells.specs.Cell.{operandsOf}
+use Rattle.free_vars.specs.Names.{freeIn, Listed}
 use Rattle.formulas.specs.declared.view.NormalView.{NormalView}
 use Rattle.formulas.specs.declared.view.NormalView.the-variants.{Literal, Connective, Forall}
 use Rattle.formulas.specs.Formula.{allBefore}
@@ -22,14 +23,14 @@ use Rattle.clauses.proofs.Reading.{before-at, before-tail, read-literal, read-f
 use Rattle.building.proofs.prenex_forall.Laws.{body-before}
 use Rattle.quantifiers.specs.Binding.{Binding, bindingsOf, same, has, firstOf, bindingFree}
 use Rattle.quantifiers.specs.BindingAnswer.{pair, nameOf}
-use Rattle.quantifiers.specs.FormAnswer.{pairsOf}
+use Rattle.forms.specs.FormAnswer.{pairsOf}
 use Rattle.quantifiers.specs.declared.binding.FirstName.{FirstName}
 use Rattle.quantifiers.specs.declared.binding.FirstName.the-variants.{Name, Nothing}
 use Rattle.clausification.specs.declared.taken_variables.Sought.{Sought}
 use Rattle.clausification.specs.declared.taken_variables.Sought.the-variants.{Pair, Missing}
 use Rattle.clausification.specs.declared.taken_variables.Step.{Step}
 use Rattle.clausification.specs.declared.taken_variables.Step.the-variants as step
-use Rattle.clausification.specs.TakenSearch.{isSought, foundAt, foundIn, Means, Right, Answered, afterNote, Noted}
+use Rattle.clausification.specs.TakenSearch.{isSought, Tabled, foundAt, foundIn, Means, Right, Answered, afterNote, Noted}
 
 -- ---- whether a pair is sought
 module _ (tags values : List ℕ) (n : ℕ) (right : List Binding) (sought : Sought) (name sort : ℕ) where
@@ -47,6 +48,20 @@ module _ (tags values : List ℕ) (n : ℕ) (right : List Binding) (sought : Sou
     sought-free y r q = rw (e, ← is, y) q
 
 pub ruleset seeks = (sought-pair, sought-there, sought-free)
+
+-- the table that a search for a missing variable has
+pub tabled-missing : (tags values names : List ℕ) (sought : Sought) → Tabled tags values names sought → (t : ℕ) → sought ≡ Missing t
+    → Listed tags values names (freeIn tags values t)
+tabled-missing tags values names sought tabled t e = rw e at tabled
+
+module _ (tags values names : List ℕ) (sought : Sought) where
+  pub tabled-pair : (a s : ℕ) → sought ≡ Pair a s → Tabled tags values names sought
+  tabled-pair a s e = rw e tt
+
+  pub tabled-there : (t : ℕ) → sought ≡ Missing t → Listed tags values names (freeIn tags values t) → Tabled tags values names sought
+  tabled-there t e l = rw e l
+
+pub ruleset tables = (tabled-pair, tabled-there)
 
 pub missing-is : (tags values : List ℕ) (n : ℕ) (right : List Binding) (t : ℕ) (list : List Binding)
     → firstOf (isSought tags values n right (Missing t)) list ≡ firstOf (λ a. not (has right a) && bindingFree tags values n t a) list
@@ -202,7 +217,7 @@ unfolding foundAt
 whole tags values test seen r x a = a .is
 
 -- ---- a pair in neither list
-has-append : (as′ bs : List Binding) (a : Binding) → has (as′ ++ bs) a ≡ (has as′ a || has bs a)
+pub has-append : (as′ bs : List Binding) (a : Binding) → has (as′ ++ bs) a ≡ (has as′ a || has bs a)
 unfolding has
 has-append [] bs a = refl
 has-append (b ∷ as′) bs a = by-test (same b a) (λ e. rw e) (λ e. rw e (has-append as′ bs a))

@@ -8,14 +8,14 @@ use lib.Dec.{eqb}
 use borrow.Author.Tests.{eq-eqb, ne-eqb, not-true, not-false}
 use Rattle.quantifiers.specs.Outcome.{pass, refuse, _>>=_, _>>_, need, guard}
 use Rattle.quantifiers.specs.Binding.{bindingsOf, sameAll}
-use Rattle.quantifiers.specs.Form.{tagOf, equality}
-use Rattle.quantifiers.specs.FormAnswer.{pairsOf, quantifierIn, twoIn}
+use Rattle.forms.specs.Form.{tagOf, equality}
+use Rattle.forms.specs.FormAnswer.{pairsOf, quantifierIn, twoIn}
 use Rattle.joining.specs.QntJoin.{joined, qntJoin}
-use Rattle.quantifiers.specs.declared.form.Quantified.{Quantified}
-use Rattle.quantifiers.specs.declared.form.Quantified.the-variants as quantified
-use Rattle.quantifiers.specs.declared.form.Two.{Two}
-use Rattle.quantifiers.specs.declared.form.Two.the-variants as two
-use Rattle.quantifiers.proofs.form.Laws.{Reads}
+use Rattle.forms.specs.declared.Quantified.{Quantified}
+use Rattle.forms.specs.declared.Quantified.the-variants as quantified
+use Rattle.forms.specs.declared.Two.{Two}
+use Rattle.forms.specs.declared.Two.the-variants as two
+use Rattle.forms.proofs.Laws.{Reads}
 use Rattle.quantifiers.proofs.outcome.Laws.{answers}
 
 module _ (tags values : List ℕ) (x : ℕ) (t : Two) (form : equality tags values x ≡ twoIn t) where

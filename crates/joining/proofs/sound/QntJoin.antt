@@ -6,20 +6,20 @@ use mathlib.Core.Bool.{Bool, true, _||_, or-self-left}
 use mathlib.Core.List.{List, [], _∷_, _++_}
 use borrow.Author.Tests.{eqb-true}
 use Rattle.headers.specs.WellFormed.{isTerm}
-use Rattle.pool.specs.Sort.{Sort, bool}
-use Rattle.pool.specs.Term.{Var, Vars, Term, quant, op, tnil, tcons, stated}
-use Rattle.pool.specs.Tree.{tree}
-use Rattle.pool.specs.FreeTree.{same, has}
-use Rattle.pool.proofs.tree.Passed.{Passed}
+use Rattle.term_trees.specs.Sort.{Sort, bool}
+use Rattle.term_trees.specs.Term.{Var, Vars, Term, quant, op, tnil, tcons, stated}
+use Rattle.term_trees.specs.Tree.{tree}
+use Rattle.term_trees.specs.FreeTree.{same, has}
+use Rattle.term_trees.proofs.Passed.{Passed}
 use Rattle.formulas.specs.Skeleton.{skeleton}
 use Rattle.formulas.specs.Truth.{Assignment, Reading, Local, over, True}
 use Rattle.formulas.proofs.Over.{bool-cases, not-both}
 use Rattle.quantifiers.specs.Outcome.{pass}
 use Rattle.quantifiers.specs.Binding.{Binding, same as samePair}
 use Rattle.joining.specs.QntJoin.{afterPair, withoutAdjacent, joined, qntJoin}
-use Rattle.quantifiers.proofs.Passes.{need-passes, guard-passes, guard-last}
+use Rattle.forms.proofs.Passes.{need-passes, guard-passes, guard-last}
 use Rattle.quantifiers.proofs.Bindings.{binding-eq, list-eq, varOf, varsAt, vars-append}
-use Rattle.quantifiers.proofs.Trees.{quantifier-tree, equality-tree}
+use Rattle.forms.proofs.Trees.{quantifier-tree, equality-tree}
 use Rattle.quantifiers.proofs.Sound.{beq-eq, equality-true, over-fewer, over-append}
 
 module _ (R : Reading) where

@@ -9,18 +9,18 @@ use lib.Seq.{drop-cons}
 use native.Mathlib.Numerals.{add-one}
 use borrow.Author.Tests.{eq-eqb, ne-eqb, not-true, not-false}
 use Rattle.cells.specs.Cell.{operandsOf}
-use Rattle.pool.specs.declared.Answer.{Answer}
+use Rattle.answers.specs.declared.Answer.{Answer}
 use Rattle.quantifiers.specs.Outcome.{Outcome, pass, refuse, _>>=_, _>>_, need, guard, answerOf}
 use Rattle.quantifiers.specs.Binding.{bindingsOf, sameAll}
-use Rattle.quantifiers.specs.Form.{quantifier, andThen}
-use Rattle.quantifiers.specs.FormAnswer.{pairsOf, quantifierIn}
+use Rattle.forms.specs.Form.{quantifier, andThen}
+use Rattle.forms.specs.FormAnswer.{pairsOf, quantifierIn}
 use Rattle.miniscoping.specs.MiniscopeDistribute.{Sides, sidesOf, orElse, ofKind, distributed, distributedAll, miniscopeDistribute}
 use Rattle.miniscoping.specs.SidesAnswer.{sidesAt, sidesIn}
 use Rattle.quantifiers.specs.Checked.{outcomeOf}
 use Rattle.quantifiers.specs.declared.checked.Checked.{Checked}
 use Rattle.quantifiers.specs.declared.checked.Checked.the-variants.{Passes, Refuses}
-use Rattle.quantifiers.specs.declared.form.Quantified.{Quantified}
-use Rattle.quantifiers.specs.declared.form.Quantified.the-variants as quantified
+use Rattle.forms.specs.declared.Quantified.{Quantified}
+use Rattle.forms.specs.declared.Quantified.the-variants as quantified
 use Rattle.miniscoping.specs.declared.sides.Places.{Places}
 use Rattle.miniscoping.specs.declared.sides.Matched.{Matched}
 use Rattle.miniscoping.specs.declared.sides.Matched.the-variants as matched

@@ -10,23 +10,23 @@ use lib.Dec.{eqb}
 use native.Mathlib.Omega.{arith}
 use borrow.Author.Tests.{eq-eqb, ne-eqb, not-true, not-false}
 use Rattle.cells.specs.ByPlace.{by-test}
-use Rattle.pool.specs.declared.Answer.{Answer}
+use Rattle.answers.specs.declared.Answer.{Answer}
 use Rattle.quantifiers.specs.Outcome.{pass, refuse, _>>=_, _>>_, need, guard, answerOf}
 use Rattle.quantifiers.specs.Binding.{Binding, bindingsOf, sameAll, firstOf, bindingFree}
 use Rattle.quantifiers.specs.BindingAnswer.{nameOf}
-use Rattle.quantifiers.specs.Form.{Quantifier, quantifier, operator, threeOf, equality, andThen}
-use Rattle.quantifiers.specs.FormAnswer.{pairsOf, quantifierIn, twoIn, threeIn}
+use Rattle.forms.specs.Form.{Quantifier, quantifier, operator, threeOf, equality, andThen}
+use Rattle.forms.specs.FormAnswer.{pairsOf, quantifierIn, twoIn, threeIn}
 use Rattle.miniscoping.specs.MiniscopeDistribute.{ofKind}
 use Rattle.miniscoping.specs.MiniscopeIte.{IteSides, agree, iteSides, miniscopeIte}
 use Rattle.miniscoping.specs.IteAnswer.{isOver, forallOver, iteAt, iteIn}
 use Rattle.quantifiers.specs.declared.binding.FirstName.{FirstName}
 use Rattle.quantifiers.specs.declared.binding.FirstName.the-variants as first
-use Rattle.quantifiers.specs.declared.form.Quantified.{Quantified}
-use Rattle.quantifiers.specs.declared.form.Quantified.the-variants as quantified
-use Rattle.quantifiers.specs.declared.form.Two.{Two}
-use Rattle.quantifiers.specs.declared.form.Two.the-variants as two
-use Rattle.quantifiers.specs.declared.form.Three.{Three}
-use Rattle.quantifiers.specs.declared.form.Three.the-variants as three
+use Rattle.forms.specs.declared.Quantified.{Quantified}
+use Rattle.forms.specs.declared.Quantified.the-variants as quantified
+use Rattle.forms.specs.declared.Two.{Two}
+use Rattle.forms.specs.declared.Two.the-variants as two
+use Rattle.forms.specs.declared.Three.{Three}
+use Rattle.forms.specs.declared.Three.the-variants as three
 use Rattle.miniscoping.specs.declared.miniscope_ite.ItePlaces.{ItePlaces}
 use Rattle.miniscoping.specs.declared.miniscope_ite.IteMatched.{IteMatched}
 use Rattle.miniscoping.specs.declared.miniscope_ite.IteMatched.the-variants as matched

@@ -11,29 +11,30 @@ use native.Mathlib.Omega.{arith}
 use native.Mathlib.Numerals.{add-one}
 use borrow.Author.Tests.{eq-eqb, ne-eqb}
 use Rattle.cells.specs.Cell.{operandsOf}
-use Rattle.pool.specs.declared.Answer.{Answer}
+use Rattle.answers.specs.declared.Answer.{Answer}
 use Rattle.quantifiers.specs.Outcome.{Outcome, pass, refuse, _>>=_, _>>_, need, guard, unless, answerOf}
 use Rattle.quantifiers.specs.Binding.{Binding, bindingsOf, firstOf, bindingFree}
 use Rattle.quantifiers.specs.BindingAnswer.{nameOf}
-use Rattle.quantifiers.specs.Form.{quantifier, andThen}
-use Rattle.quantifiers.specs.FormAnswer.{pairsOf, quantifierIn}
+use Rattle.forms.specs.Form.{quantifier, andThen}
+use Rattle.forms.specs.FormAnswer.{pairsOf, quantifierIn}
 use Rattle.miniscoping.specs.MiniscopeDistribute.{Sides, sidesOf, orElse, ofKind}
-use Rattle.miniscoping.specs.MiniscopeSplit.{useAll, splitOff, splitOne, splitAll, splitSides, miniscopeSplit}
+use Rattle.miniscoping.specs.MiniscopeSplit.{splitOff, splitOne, splitAll, splitSides, miniscopeSplit}
 use Rattle.miniscoping.specs.SidesAnswer.{sidesAt, sidesIn}
 use Rattle.quantifiers.specs.Checked.{outcomeOf}
-use Rattle.miniscoping.specs.Used.{leftOf, LeftFits}
+use Rattle.used_pairs.specs.Used.{useAll, leftOf}
+use Rattle.miniscoping.specs.LeftFits.{LeftFits}
 use Rattle.quantifiers.specs.declared.binding.FirstName.{FirstName}
 use Rattle.quantifiers.specs.declared.binding.FirstName.the-variants as first
 use Rattle.quantifiers.specs.declared.checked.Checked.{Checked}
 use Rattle.quantifiers.specs.declared.checked.Checked.the-variants.{Passes, Refuses}
-use Rattle.quantifiers.specs.declared.form.Quantified.{Quantified}
-use Rattle.quantifiers.specs.declared.form.Quantified.the-variants as quantified
+use Rattle.forms.specs.declared.Quantified.{Quantified}
+use Rattle.forms.specs.declared.Quantified.the-variants as quantified
 use Rattle.miniscoping.specs.declared.sides.Places.{Places}
 use Rattle.miniscoping.specs.declared.sides.Matched.{Matched}
 use Rattle.miniscoping.specs.declared.sides.Matched.the-variants as matched
 use Rattle.quantifiers.proofs.outcome.Laws.{unless-name, unless-none}
 use Rattle.miniscoping.proofs.sides.Laws.{left-is}
-use Rattle.miniscoping.proofs.used.Laws.{all-left}
+use Rattle.used_pairs.proofs.Laws.{all-left}
 
 -- ---- one operand
 module _ (tags values : List ℕ) (kind : Bool) (rest : List Binding) (t u : ℕ) where

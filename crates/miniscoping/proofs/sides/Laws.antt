@@ -12,14 +12,14 @@ use borrow.Author.Tests.{eq-eqb, ne-eqb}
 use Rattle.cells.specs.ByPlace.{by-test}
 use Rattle.cells.specs.Cell.{cellsOf, operandsOf}
 use Rattle.quantifiers.specs.Binding.{Binding, bindingsOf}
-use Rattle.quantifiers.specs.Form.{Quantifier, quantifier, operator, equality, andThen}
-use Rattle.quantifiers.specs.FormAnswer.{pairsOf, quantifierIn, twoIn}
+use Rattle.forms.specs.Form.{Quantifier, quantifier, operator, equality, andThen}
+use Rattle.forms.specs.FormAnswer.{pairsOf, quantifierIn, twoIn}
 use Rattle.miniscoping.specs.MiniscopeDistribute.{Sides, sidesOf, orElse, ofKind}
 use Rattle.miniscoping.specs.SidesAnswer.{sidesAt, sidesIn}
-use Rattle.quantifiers.specs.declared.form.Quantified.{Quantified}
-use Rattle.quantifiers.specs.declared.form.Quantified.the-variants as quantified
-use Rattle.quantifiers.specs.declared.form.Two.{Two}
-use Rattle.quantifiers.specs.declared.form.Two.the-variants as two
+use Rattle.forms.specs.declared.Quantified.{Quantified}
+use Rattle.forms.specs.declared.Quantified.the-variants as quantified
+use Rattle.forms.specs.declared.Two.{Two}
+use Rattle.forms.specs.declared.Two.the-variants as two
 use Rattle.miniscoping.specs.declared.sides.Places.{Places}
 use Rattle.miniscoping.specs.declared.sides.Matched.{Matched}
 use Rattle.miniscoping.specs.declared.sides.Matched.the-variants as matched

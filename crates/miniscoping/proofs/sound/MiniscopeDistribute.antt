@@ -8,20 +8,20 @@ use lib.ListN.{length}
 use native.Mathlib.Omega.{arith}
 use borrow.Author.Tests.{eqb-true}
 use Rattle.headers.specs.WellFormed.{isTerm}
-use Rattle.pool.specs.Sort.{Sort, bool}
-use Rattle.pool.specs.Term.{Vars, Terms, quant, op, tnil, tcons, stated}
-use Rattle.pool.specs.Tree.{termsOf, tree}
-use Rattle.pool.proofs.tree.Passed.{Passed}
+use Rattle.term_trees.specs.Sort.{Sort, bool}
+use Rattle.term_trees.specs.Term.{Vars, Terms, quant, op, tnil, tcons, stated}
+use Rattle.term_trees.specs.Tree.{termsOf, tree}
+use Rattle.term_trees.proofs.Passed.{Passed}
 use Rattle.formulas.specs.Built.{tagOfMany}
 use Rattle.formulas.specs.Skeleton.{skeleton, skeletons, formOf}
 use Rattle.formulas.specs.Truth.{Assignment, Reading, Local, andOr, over, truth, truths, True}
 use Rattle.formulas.proofs.Over.{same-at, andOr-intro, andOr-left, andOr-right, over-elim, over-intro}
 use Rattle.quantifiers.specs.Outcome.{pass}
 use Rattle.miniscoping.specs.MiniscopeDistribute.{Sides, distributed, distributedAll, miniscopeDistribute}
-use Rattle.quantifiers.specs.Form.{quantifier}
-use Rattle.quantifiers.proofs.Passes.{need-passes, guard-passes, guard-last, then-passes}
+use Rattle.forms.specs.Form.{quantifier}
+use Rattle.forms.proofs.Passes.{need-passes, guard-passes, guard-last, then-passes}
 use Rattle.quantifiers.proofs.Bindings.{list-eq, varsAt}
-use Rattle.quantifiers.proofs.Trees.{AllTerms, quantifier-tree}
+use Rattle.forms.proofs.Trees.{AllTerms, quantifier-tree}
 use Rattle.quantifiers.proofs.Sound.{equality-true}
 use Rattle.miniscoping.proofs.sound.Sides.{of-kind, either-sides}
 

@@ -9,21 +9,21 @@ use lib.Dec.{eqb}
 use native.Mathlib.Omega.{arith}
 use borrow.Author.Tests.{eqb-true}
 use Rattle.headers.specs.WellFormed.{isTerm}
-use Rattle.pool.specs.Sort.{Sort, bool}
-use Rattle.pool.specs.Term.{Vars, Term, quant, op, tnil, tcons, stated}
-use Rattle.pool.specs.Tree.{termsOf, tree}
-use Rattle.pool.specs.FreeTree.{free}
-use Rattle.pool.proofs.tree.Header.{both}
-use Rattle.pool.proofs.tree.Passed.{Passed}
+use Rattle.term_trees.specs.Sort.{Sort, bool}
+use Rattle.term_trees.specs.Term.{Vars, Term, quant, op, tnil, tcons, stated}
+use Rattle.term_trees.specs.Tree.{termsOf, tree}
+use Rattle.term_trees.specs.FreeTree.{free}
+use Rattle.term_trees.proofs.Header.{both}
+use Rattle.term_trees.proofs.Passed.{Passed}
 use Rattle.formulas.specs.Skeleton.{skeleton, iteOf, formOf}
 use Rattle.formulas.specs.Truth.{Assignment, Reading, Local, over, True}
 use Rattle.formulas.proofs.Over.{bool-cases}
 use Rattle.quantifiers.specs.Outcome.{pass}
-use Rattle.quantifiers.specs.Form.{Quantifier, quantifier, operator, threeOf, equality, andThen}
+use Rattle.forms.specs.Form.{Quantifier, quantifier, operator, threeOf, equality, andThen}
 use Rattle.miniscoping.specs.MiniscopeIte.{IteSides, iteSides, miniscopeIte}
-use Rattle.quantifiers.proofs.Passes.{need-passes, guard-passes, unless-last, then-some, cond-some}
+use Rattle.forms.proofs.Passes.{need-passes, guard-passes, unless-last, then-some, cond-some}
 use Rattle.quantifiers.proofs.Bindings.{list-eq, varsAt}
-use Rattle.quantifiers.proofs.Trees.{IsQuantifier, AllTerms, Sorted, three-are, quantifier-tree, operator-tree, equality-tree, list-unfree}
+use Rattle.forms.proofs.Trees.{IsQuantifier, AllTerms, Sorted, three-are, quantifier-tree, operator-tree, equality-tree, list-unfree}
 use Rattle.quantifiers.proofs.Sound.{Unfree, equality-true, over-agree, term-still}
 
 -- `(= (forall vs (ite p q r)) (ite p (forall ys q) (forall ns r)))`, with the sorts that the equality and the two `ite` state

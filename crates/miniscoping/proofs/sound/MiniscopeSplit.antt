@@ -9,22 +9,23 @@ use lib.Dec.{eqb}
 use native.Mathlib.Omega.{arith}
 use borrow.Author.Tests.{eqb-true}
 use Rattle.headers.specs.WellFormed.{isTerm}
-use Rattle.pool.specs.Sort.{Sort, bool}
-use Rattle.pool.specs.Term.{Var, Vars, Term, Terms, quant, op, tnil, tcons, stated}
-use Rattle.pool.specs.Tree.{termsOf, tree}
-use Rattle.pool.specs.FreeTree.{has, free, frees}
-use Rattle.pool.proofs.tree.Passed.{Passed}
+use Rattle.term_trees.specs.Sort.{Sort, bool}
+use Rattle.term_trees.specs.Term.{Var, Vars, Term, Terms, quant, op, tnil, tcons, stated}
+use Rattle.term_trees.specs.Tree.{termsOf, tree}
+use Rattle.term_trees.specs.FreeTree.{has, free, frees}
+use Rattle.term_trees.proofs.Passed.{Passed}
 use Rattle.formulas.specs.Built.{tagOfMany}
 use Rattle.formulas.specs.Skeleton.{skeleton, skeletons, formOf}
 use Rattle.formulas.specs.Truth.{Assignment, Reading, Local, andOr, over, truths, True}
 use Rattle.formulas.proofs.Over.{bool-cases, not-both, or-left, or-right, or-cases, same-at, andOr-intro, andOr-left, andOr-right, Subset, outside, Within, over-elim, over-intro}
 use Rattle.quantifiers.specs.Outcome.{pass}
 use Rattle.quantifiers.specs.Binding.{Binding, same, has as hasPair}
-use Rattle.quantifiers.specs.Form.{quantifier}
-use Rattle.miniscoping.specs.MiniscopeSplit.{without, useAll, splitOff, splitOne, splitAll, splitSides, miniscopeSplit}
-use Rattle.quantifiers.proofs.Passes.{need-passes, guard-passes, bind-passes, then-passes, unless-last}
+use Rattle.forms.specs.Form.{quantifier}
+use Rattle.used_pairs.specs.Used.{without, useAll}
+use Rattle.miniscoping.specs.MiniscopeSplit.{splitOff, splitOne, splitAll, splitSides, miniscopeSplit}
+use Rattle.forms.proofs.Passes.{need-passes, guard-passes, bind-passes, then-passes, unless-last}
 use Rattle.quantifiers.proofs.Bindings.{binding-eq, varOf, varsAt, has-at, has-pair}
-use Rattle.quantifiers.proofs.Trees.{AllTerms, Sorted, sorted-has, quantifier-tree, one-binding, list-unfree}
+use Rattle.forms.proofs.Trees.{AllTerms, Sorted, sorted-has, quantifier-tree, one-binding, list-unfree}
 use Rattle.miniscoping.proofs.sound.Sides.{of-kind, either-sides}
 use Rattle.quantifiers.proofs.Sound.{Unfree, equality-true, term-still, terms-still}
 

@@ -7,16 +7,16 @@ use mathlib.Core.List.{List}
 use mathlib.Core.Option.{Option, some, none}
 use native.Mathlib.Omega.{arith}
 use Rattle.headers.specs.WellFormed.{isTerm}
-use Rattle.pool.specs.Sort.{Sort, bool}
-use Rattle.pool.specs.Term.{quant, op, tnil, tcons}
-use Rattle.pool.specs.Tree.{termsOf, tree}
-use Rattle.pool.proofs.tree.Passed.{Passed}
+use Rattle.term_trees.specs.Sort.{Sort, bool}
+use Rattle.term_trees.specs.Term.{quant, op, tnil, tcons}
+use Rattle.term_trees.specs.Tree.{termsOf, tree}
+use Rattle.term_trees.proofs.Passed.{Passed}
 use Rattle.formulas.specs.Built.{tagOfMany}
-use Rattle.quantifiers.specs.Form.{Quantifier, quantifier, operator, equality, andThen}
+use Rattle.forms.specs.Form.{Quantifier, quantifier, operator, equality, andThen}
 use Rattle.miniscoping.specs.MiniscopeDistribute.{Sides, sidesOf, orElse, ofKind}
-use Rattle.quantifiers.proofs.Passes.{then-some, by-option, cond-some}
+use Rattle.forms.proofs.Passes.{then-some, by-option, cond-some}
 use Rattle.quantifiers.proofs.Bindings.{varsAt}
-use Rattle.quantifiers.proofs.Trees.{AllTerms, Sorted, quantifier-tree, operator-tree, equality-tree}
+use Rattle.forms.proofs.Trees.{AllTerms, Sorted, quantifier-tree, operator-tree, equality-tree}
 use Rattle.quantifiers.proofs.Sound.{beq-eq}
 
 -- a quantifier of this kind

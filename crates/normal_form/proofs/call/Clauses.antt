@@ -10,10 +10,10 @@ use lib.Dec.{leb}
 use native.Mathlib.Omega.{arith}
 use borrow.Author.Tests.{le-leb, lt-leb, eq-eqb, ne-eqb}
 use Rattle.cells.specs.ByPlace.{by-test}
-use Rattle.headers.specs.Description.{zeroFrom, Cut}
-use Rattle.pool.specs.Answer.{badArrays}
-use Rattle.pool.specs.Check.{andThen, checkTerm}
-use Rattle.pool.specs.declared.Answer.{Answer}
+use Rattle.descriptions.specs.Description.{zeroFrom, Cut}
+use Rattle.answers.specs.Answer.{badArrays}
+use Rattle.pool_checks.specs.Check.{andThen, checkTerm}
+use Rattle.answers.specs.declared.Answer.{Answer}
 use Rattle.building.specs.declared.build.Built.{Built}
 use Rattle.building.specs.declared.build.Built.the-variants.{At, Full}
 use Rattle.normal_form.specs.declared.call.Listed.{Listed}

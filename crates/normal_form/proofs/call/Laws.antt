@@ -11,11 +11,11 @@ use native.Mathlib.Omega.{arith}
 use borrow.Author.Tests.{eq-eqb, ne-eqb, eqb-false, ltb-true}
 use Rattle.cells.specs.ByPlace.{by-test}
 use Rattle.headers.specs.WellFormed.{isTerm}
-use Rattle.headers.specs.Description.{zeroFrom, Cut}
-use Rattle.pool.specs.Answer.{accepted}
-use Rattle.pool.specs.Check.{checkPool, andThen, checkTerm}
-use Rattle.pool.specs.declared.Answer.{Answer}
-use Rattle.pool.proofs.tree.Passed.{Passed, term-passes}
+use Rattle.descriptions.specs.Description.{zeroFrom, Cut}
+use Rattle.answers.specs.Answer.{accepted}
+use Rattle.pool_checks.specs.Check.{checkPool, andThen, checkTerm}
+use Rattle.answers.specs.declared.Answer.{Answer}
+use Rattle.term_trees.proofs.Passed.{Passed, term-passes}
 use Rattle.building.specs.declared.build.Built.{Built}
 use Rattle.building.specs.declared.build.Built.the-variants.{At, Full}
 use Rattle.formulas.specs.Built.{Pool, Placed, count}

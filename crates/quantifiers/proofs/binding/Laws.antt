@@ -2,7 +2,7 @@
 -- Assumes nothing.
 use Prim.Native.Nat.{ℕ, suc, _+_, _-_, _≤_, _<_}
 use mathlib.Core.Path.{_≡_, ap}
-use mathlib.Core.Bool.{Bool, true, false, not, _&&_}
+use mathlib.Core.Bool.{Bool, true, false, not}
 use mathlib.Core.List.{List, [], _∷_}
 use lib.ListN.{length, getD, drop, drop-of-length-le}
 use lib.Seq.{drop-cons}
@@ -11,12 +11,7 @@ use native.Mathlib.Omega.{arith}
 use native.Mathlib.Numerals.{add-one}
 use borrow.Author.Tests.{eq-eqb, ne-eqb, eqb-true, ltb-true, ltb-false, not-true, not-false}
 use Rattle.cells.specs.ByPlace.{by-test}
-use Rattle.headers.specs.Description.{find}
-use Rattle.free_vars.specs.Free.{isFree}
-use Rattle.cells.specs.declared.Found.{Found}
-use Rattle.cells.specs.declared.Found.the-variants as found
-use Rattle.free_vars.proofs.Laws.{later-not}
-use Rattle.quantifiers.specs.Binding.{Binding, bindingsOf, same, has, sameAll, firstOf, bindingFree}
+use Rattle.quantifiers.specs.Binding.{Binding, bindingsOf, same, has, sameAll, firstOf}
 use Rattle.quantifiers.specs.BindingAnswer.{pair, pairAt, nameOf}
 use Rattle.quantifiers.specs.declared.binding.FirstName.{FirstName}
 use Rattle.quantifiers.specs.declared.binding.FirstName.the-variants.{Name, Nothing}
@@ -101,32 +96,6 @@ pub ruleset in-list = (has-end, has-here, has-next)
 
 pub lacks-is : (r h : Bool) → r ≡ h → not r ≡ not h
 lacks-is r h e = ap not e
-
--- ---- a free variable
-module _ (tags values : List ℕ) (n name sort t : ℕ) (f : Found) (is : f ≡ find tags values n 21 (sort ∷ (name ∷ []))) where
-  pub free-none : f ≡ found.Nothing → false ≡ bindingFree tags values n t (pair name sort)
-  unfolding bindingFree
-  free-none e = rw (← is, e)
-
-  module _ (v : ℕ) (e : f ≡ found.At v) where
-    pub free-later : t < v → false ≡ bindingFree tags values n t (pair name sort)
-    unfolding bindingFree
-    free-later h = rw (← is, e, later-not tags values v t h)
-
-    pub free-there : (r : Bool) → r ≡ isFree tags values v t → r ≡ bindingFree tags values n t (pair name sort)
-    unfolding bindingFree
-    free-there r q = rw (← is, e, q)
-
-pub ruleset free = (free-none, free-later, free-there)
-
-module _ (lacking free : Bool) (r : Bool) (is : r ≡ lacking) where
-  pub missing-there : r ≡ false → false ≡ (lacking && free)
-  missing-there e = rw (← is, e)
-
-  pub missing-free : r ≡ true → (s : Bool) → s ≡ free → s ≡ (lacking && free)
-  missing-free e s q = rw (← is, e, q)
-
-pub ruleset missing = (missing-there, missing-free)
 
 -- ---- the first pair that passes a test: w is the first from i on, and r says whether the pair at i passes
 module _ (w : FirstName) (test : Binding → Bool) (l : List ℕ) (i : ℕ) (inv : w ≡ nameOf (firstOf test (bindingsOf (drop i l)))) where

@@ -4,7 +4,7 @@ use Prim.Native.Nat.{ℕ}
 use mathlib.Core.Path.{_≡_, refl, ap, _∙_}
 use mathlib.Core.Option.{Option, some, none}
 use native.Mathlib.Omega.{arith}
-use Rattle.pool.specs.declared.Answer.{Answer}
+use Rattle.answers.specs.declared.Answer.{Answer}
 use Rattle.quantifiers.specs.Outcome.{Outcome, pass, refuse, unless, answerOf}
 use Rattle.quantifiers.specs.Binding.{Binding}
 use Rattle.quantifiers.specs.BindingAnswer.{nameOf}

@@ -11,22 +11,23 @@ use borrow.Author.Tests.{eq-eqb, ne-eqb, eqb-true, eqb-false, ltb-true, le-leb, 
 use Rattle.cells.specs.ByPlace.{by-test}
 use Rattle.cells.specs.Cell.{cellsOf, operandsOf}
 use Rattle.headers.specs.WellFormed.{isTermTag, isTerm}
-use Rattle.headers.specs.Description.{zeroFrom, Cut}
-use Rattle.pool.specs.Answer.{accepted, refused, notATerm}
-use Rattle.pool.specs.Check.{andThen, checkPool, checkTerm}
-use Rattle.pool.specs.declared.Answer.{Answer}
-use Rattle.pool.proofs.tree.Header.{both, cells-length, term-tagged}
-use Rattle.pool.proofs.tree.Passed.{Passed, pool-passes, pool-accepts, header-at}
+use Rattle.descriptions.specs.Description.{zeroFrom, Cut}
+use Rattle.answers.specs.Answer.{accepted, refused, notATerm}
+use Rattle.descriptions.specs.Index.{Index}
+use Rattle.pool_checks.specs.Check.{Indexed, andThen, checkPool, checkTerm}
+use Rattle.answers.specs.declared.Answer.{Answer}
+use Rattle.term_trees.proofs.Header.{both, cells-length, term-tagged}
+use Rattle.term_trees.proofs.Passed.{Passed, pool-passes, pool-accepts, header-at}
 use Rattle.quantifiers.specs.Outcome.{Outcome, answerOf}
-use Rattle.quantifiers.specs.Form.{equality}
-use Rattle.quantifiers.proofs.Trees.{equality-tree}
+use Rattle.forms.specs.Form.{equality}
+use Rattle.forms.proofs.Trees.{equality-tree}
 use Rattle.joining.specs.QntJoin.{qntJoin}
-use Rattle.joining.specs.QntRmUnused.{qntRmUnused}
+use Rattle.removing.specs.QntRmUnused.{qntRmUnused}
 use Rattle.clausification.specs.QntCnf.{qntCnf}
 use Rattle.miniscoping.specs.MiniscopeDistribute.{miniscopeDistribute}
 use Rattle.miniscoping.specs.MiniscopeSplit.{miniscopeSplit}
 use Rattle.miniscoping.specs.MiniscopeIte.{miniscopeIte}
-use Rattle.miniscoping.specs.Used.{LeftFits}
+use Rattle.miniscoping.specs.LeftFits.{LeftFits}
 use Rattle.rules.specs.Step.{isRule, unknownRule, notOneTerm, ruleOutcome, stepAnswer, cellsLeft, Follows, Step}
 use Rattle.clausification.specs.Promises.{Clausified}
 use Rattle.rules.specs.StepWalk.{Kept, Judged}
@@ -235,3 +236,6 @@ module _ (tags values table : List ℕ) (n rule : ℕ) (conclusion : List ℕ) (
       }
 
 pub ruleset steps = (step-other, step-30, step-zeroed)
+
+pub index-ready : (tags values : List ℕ) (n : ℕ) (a : Answer) (index : List ℕ) → Indexed tags values n a index → a .code ≡ 0 → Index tags values n index
+index-ready tags values n a index i ok = i .passed ok

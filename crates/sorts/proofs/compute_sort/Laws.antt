@@ -1,21 +1,20 @@
 -- Laws of `SortRule`: the special rules by operator code, the rules of the table, and the sort of any term; one law for each way out.
 -- Assumes nothing.
-use Prim.Native.Nat.{ℕ, _+_, _-_, _≤_, _<_}
-use mathlib.Core.Path.{_≡_, refl}
+use Prim.Native.Nat.{ℕ, zero, suc, _+_, _-_, _≤_, _<_}
+use mathlib.Core.Path.{_≡_, refl, sym}
 use mathlib.Core.Bool.{Bool, true, false, not, _&&_, cond}
 use mathlib.Core.List.{List, [], _∷_}
-use lib.ListN.{length, getD, take, drop, drop-of-length-le, length-drop}
+use lib.ListN.{length, getD, take, drop, drop-of-length-le, length-drop, List·getD-eq-default}
 use lib.Seq.{take-all}
 use lib.Dec.{leb, ltb, eqb}
 use native.Mathlib.Omega.{arith}
 use borrow.Author.Tests.{lt-leb, le-leb, lt-ltb, le-ltb, eq-eqb, ne-eqb, ltb-true, ltb-false}
 use Rattle.cells.specs.ByPlace.{by-test}
-use Rattle.cells.specs.Cell.{cellsOf, sortOf, operandsOf, sameCells, isAt}
+use Rattle.cells.specs.Cell.{sortOf, operandsOf, isAt}
 use Rattle.headers.specs.WellFormed.{isTermTag}
-use Rattle.sorts.specs.SortRule.{isSort, specialOf, firstSort, bySpecial, byRule, application, choice, lambda, computeSort, statesSort}
-use Rattle.sorts.specs.declared.compute_sort.Special.{Special}
-use Rattle.sorts.specs.declared.compute_sort.Special.the-variants.{Arithmetic, BitVectors, BitCount, NoRule}
-use Rattle.cells.proofs.Cells.{same-lengths, at-other}
+use Rattle.sort_rules.specs.SortRule.{isSort, specialOf, firstSort, bySpecial, byRule, application, choice, lambda, computeSort, statesSort}
+use Rattle.sort_rules.specs.declared.Special.{Special}
+use Rattle.sort_rules.specs.declared.Special.the-variants.{Arithmetic, BitVectors, BitCount, NoRule}
 
 -- ---- a range of codes
 module _ (a b op : ℕ) where
@@ -99,30 +98,49 @@ module _ (op : ℕ) where
 
 pub ruleset codes = (one-code, other-code, arithmetic-codes, bit-vector-codes, later-bit-vector-codes, bit-count-codes, no-rule-first, no-rule-13, no-rule-89, no-rule-101, no-rule-112)
 
--- ---- a width that is a count of operands
--- k is the tag at s, and run its cells
-module _ (tags values : List ℕ) (s tag count k : ℕ) (is : k ≡ getD tags s 0) (e : k ≡ tag) (run : List ℕ) (cells : run ≡ cellsOf values s) where
-  pub width-parts : (length run ≡ 1 → ⊥) → false ≡ isAt tags values s tag (count ∷ [])
-  unfolding isAt
-  width-parts n = rw (← is, eq-eqb _ _ e, ← cells) (same-lengths run (count ∷ []) n)
+-- ---- reading a table of rules
+-- an entry, whatever stands for those past the end
+pub entry-is : (rules : List ℕ) (k d e : ℕ) → k < length rules → getD rules k d ≡ getD rules k e
+entry-is [] k d e h = absurd (omega arith)
+entry-is (x ∷ rules) zero d e h = refl
+entry-is (x ∷ rules) (suc k) d e h = entry-is rules k d e (omega arith)
 
-  pub width-is : length run ≡ 1 → (w : ℕ) → w ≡ getD run 0 0 → eqb w count ≡ isAt tags values s tag (count ∷ [])
-  unfolding isAt sameCells
-  width-is l w q = rw (← is, eq-eqb _ _ e, ← cells, q) (one run l)
-    where
-      one : (run : List ℕ) → length run ≡ 1 → eqb (getD run 0 0) count ≡ sameCells run (count ∷ [])
-      one [] l = absurd (omega arith)
-      one (x ∷ []) l = by-test (eqb x count) (λ e. rw e) (λ e. rw e)
-      one (x ∷ (y ∷ run)) l = absurd (omega arith)
+pub entry-past : (rules : List ℕ) (k d : ℕ) → length rules ≤ k → d ≡ getD rules k d
+entry-past rules k d h = sym (List·getD-eq-default rules d h)
 
-pub ruleset widths = (at-other, width-parts, width-is)
+pub ruleset entries = (entry-is, entry-past)
+
+-- ---- a sort that is an operand's or a variable's
+module _ (tags values : List ℕ) (s : ℕ) where
+  pub first-none : (os : List ℕ) → length os ≡ 0 → false ≡ isSort tags values s (firstSort values os)
+  unfolding isSort firstSort
+  first-none [] z = refl
+  first-none (o ∷ os) z = absurd (omega arith)
+
+  pub first-some : (os : List ℕ) → (length os ≡ 0 → ⊥) → (q : ℕ) → q ≡ sortOf values (getD os 0 0) → eqb s q ≡ isSort tags values s (firstSort values os)
+  unfolding isSort firstSort
+  first-some [] n q is = absurd (n refl)
+  first-some (o ∷ os) n q is = rw is
+
+  pub choice-short : (os : List ℕ) → length os < 3 → false ≡ isSort tags values s (choice os)
+  unfolding isSort choice
+  choice-short [] h = refl
+  choice-short (b ∷ []) h = refl
+  choice-short (b ∷ (a ∷ [])) h = refl
+  choice-short (b ∷ (a ∷ (v ∷ os))) h = absurd (omega arith)
+
+  pub choice-some : (os : List ℕ) → 3 ≤ length os → eqb s (getD os 2 0) ≡ isSort tags values s (choice os)
+  unfolding isSort choice
+  choice-some [] h = absurd (omega arith)
+  choice-some (b ∷ []) h = absurd (omega arith)
+  choice-some (b ∷ (a ∷ [])) h = absurd (omega arith)
+  choice-some (b ∷ (a ∷ (v ∷ os))) h = refl
+
+pub ruleset firsts = (first-none, first-some)
+
+pub ruleset choices = (choice-short, choice-some)
 
 -- ---- the rules
--- r says whether the sort at s is the one that the rule k gives
-pub special-is : (tags values : List ℕ) (s : ℕ) (special k : Special) (os : List ℕ) (r : Bool)
-    → special ≡ k → r ≡ isSort tags values s (bySpecial tags values k os) → r ≡ isSort tags values s (bySpecial tags values special os)
-special-is tags values s special k os r e q = rw e q
-
 module _ (tags values : List ℕ) (s rule op : ℕ) (os : List ℕ) where
   pub rule-missing : 5 ≤ rule → (rule ≡ 5 → ⊥) → rule ≡ 6 → length os ≡ 0 → false ≡ isSort tags values s (byRule tags values rule op os)
   unfolding byRule firstSort isSort

@@ -10,17 +10,17 @@ use lib.Dec.{eqb}
 use native.Mathlib.Omega.{arith}
 use native.Mathlib.Numerals.{add-one}
 use Rattle.cells.specs.ByPlace.{by-test}
-use Rattle.headers.specs.Description.{zeroFrom}
+use Rattle.descriptions.specs.Description.{zeroFrom}
 use Rattle.words.specs.Words.{wordAt, wordsFrom}
 use Rattle.words.proofs.Words.{length-words}
-use Rattle.sorts.specs.Table.{builtIn}
-use Rattle.pool.specs.Check.{checkPool}
-use Rattle.pool.specs.declared.Answer.{Answer}
+use Rattle.sort_rules.specs.Table.{builtIn}
+use Rattle.pool_checks.specs.Check.{checkPool, Indexed}
+use Rattle.answers.specs.declared.Answer.{Answer}
 use Rattle.rules.specs.Step.{stepAnswer, cellsLeft, Step}
 use Rattle.step_files.specs.StepFile.{cellsFrom, cellCount, stepCount, fileTags, fileValues, answerTo, lines}
 use Rattle.step_files.specs.Steps.{noCells, Sized, Ready}
-use Rattle.step_files.specs.Text.{line, Put}
-use Rattle.step_files.proofs.text.Laws.{put-append}
+use Rattle.answer_lines.specs.Text.{line, Put}
+use Rattle.answer_lines.proofs.Laws.{put-append}
 
 -- ---- the arrays
 drop-replicate : (m n : ℕ) → _≡_ {A = List ℕ} (drop m (replicate n 0)) (replicate (n - m) 0)
@@ -73,6 +73,9 @@ module _ (bytes : List ℕ) (n steps room : ℕ) (checked : Answer) (tags₀ val
     (tags values : List ℕ) (same-tags : tags ≡ tags₀) (same-values : values ≡ values₀) where
   pub checked-now : checked ≡ checkPool tags values builtIn n
   checked-now = rw (same-tags, same-values) (ready .checked-is)
+
+  pub indexed-now : (index : List ℕ) → Indexed tags₀ values₀ n checked index → Indexed tags values n checked index
+  indexed-now index i = rw (same-tags, same-values) i
 
   module _ (k i s rule place : ℕ) (i-is : i ≡ k) (s-is : s ≡ steps) (rule-is : rule ≡ wordAt bytes (2 + 2 * n + i))
       (place-is : place ≡ wordAt bytes (2 + 2 * n + s + i)) (a : Answer) (tags′ values′ : List ℕ)

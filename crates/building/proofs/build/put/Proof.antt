@@ -1,3 +1,4 @@
+use Rattle.building.proofs.build.Indexing.{indexings}
 use Rattle.building.proofs.build.Laws.{puttings, put-there-small, put-new-small}
 use borrow.Author.Needs.{needs}
 use Rattle.building.proofs.build.put.Statement.{statement}
@@ -9,17 +10,17 @@ add-requires c κs = search needs
 enum-known-added : tie.Need-enum-known-added
 enum-known-added c = search needs
 
-cast-t15 : tie.Need-cast-t15
-cast-t15 c =
-    let h = put-there-small _ _ _ (c .before .before .before .before .before .before .before .before .before .before .before .before .before .pre) _ _ _ _ _ (c .before .before .before .before .before .before .before .add .ensures) _ (c .before .added .given .1) in
+cast-t17 : tie.Need-cast-t17
+cast-t17 c =
+    let h = put-there-small _ _ _ (c .before .before .before .before .before .before .before .before .before .before .before .before .before .before .pre .0) _ _ _ _ _ (c .before .before .before .before .before .before .before .add .ensures .0) _ (c .before .added .given .1) in
     search needs
 
 enum-known-added-2 : tie.Need-enum-known-added-2
 enum-known-added-2 c = search needs
 
-cast-t16 : tie.Need-cast-t16
-cast-t16 c =
-    let h = put-new-small _ _ _ (c .before .before .before .before .before .before .before .before .before .before .before .before .before .pre) _ _ _ _ _ (c .before .before .before .before .before .before .before .add .ensures) _ _ (c .before .added2 .given .1) in
+cast-t18 : tie.Need-cast-t18
+cast-t18 c =
+    let h = put-new-small _ _ _ (c .before .before .before .before .before .before .before .before .before .before .before .before .before .before .pre .0) _ _ _ _ _ (c .before .before .before .before .before .before .before .add .ensures .0) _ _ (c .before .added2 .given .1) in
     search needs
 
 enum-told : tie.Need-enum-told
@@ -32,7 +33,7 @@ same-length-2 : tie.Need-same-length-2
 same-length-2 c = search needs
 
 returns : tie.Need-returns
-returns c = search puttings
+returns c = search (puttings, indexings)
 
 same-length-3 : tie.Need-same-length-3
 same-length-3 c = search needs
@@ -41,7 +42,7 @@ same-length-4 : tie.Need-same-length-4
 same-length-4 c = search needs
 
 returns-2 : tie.Need-returns-2
-returns-2 c = search puttings
+returns-2 c = search (puttings, indexings)
 
 same-length-5 : tie.Need-same-length-5
 same-length-5 c = search needs
@@ -50,7 +51,7 @@ same-length-6 : tie.Need-same-length-6
 same-length-6 c = search needs
 
 returns-3 : tie.Need-returns-3
-returns-3 c = search puttings
+returns-3 c = search (puttings, indexings)
 
 pub put-spec : {M : Type 1} → statement M
 put-spec =
@@ -58,9 +59,9 @@ put-spec =
     (tie.spec
     add-requires
     enum-known-added
-    cast-t15
+    cast-t17
     enum-known-added-2
-    cast-t16
+    cast-t18
     enum-told
     same-length
     same-length-2

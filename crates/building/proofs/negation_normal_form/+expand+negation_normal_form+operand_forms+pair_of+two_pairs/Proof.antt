@@ -4,7 +4,7 @@ use mathlib.Core.Path.{refl}
 use Rattle.building.proofs.negation_normal_form.Cells.{parts, run-short}
 use Rattle.building.proofs.negation_normal_form.Forms.{not-below, implies-below, ite-below, iff-below, quantifier-body}
 use Rattle.building.specs.Walk.{normal}
-use Rattle.building.proofs.build.Walks.{slot-within, before-same, operand-before, state-after, own-after, place-small, ready-after, one-term, form-full, form-kept, operand-walks, operands-next}
+use Rattle.building.proofs.build.Walks.{slot-within, before-same, operand-before, state-after, own-ready, own-after, place-small, ready-after, one-term, form-full, form-kept, operand-walks, operands-next}
 use Rattle.building.proofs.negation_normal_form.Steps.{pairs, pair-right-full, pair-put, twos, two-right-full, two-put}
 use Rattle.building.proofs.negation_normal_form.Laws.{maxOf, max-left, max-right, max-below, many-before, expands, expand-many, expand-quantifier}
 use Prim.Native.Nat.{ℕ, _<_, _+_, _*_, _-_}
@@ -38,68 +38,69 @@ use Rattle.building.proofs.negation_normal_form.+expand+negation_normal
 use Rattle.building.proofs.negation_normal_form.+expand+negation_normal_form+operand_forms+pair_of+two_pairs.Tie.{
   close,
 }
+use Rattle.building.proofs.build.Indexing.{indexings, index-at}
 
-abbrev μ-expand : Measures 4 expand-kinds.ps ℕ
-μ-expand κs a = a .1 .1 .1 .1 .1 .1 .0 * 32768 + 16384
+abbrev μ-expand : Measures 5 expand-kinds.ps ℕ
+μ-expand κs a = a .1 .1 .1 .1 .1 .1 .1 .0 * 32768 + 16384
 
-abbrev μ-negation-normal-form : Measures 4 negation-normal-form-kinds.ps ℕ
-μ-negation-normal-form κs a = a .1 .1 .1 .1 .1 .1 .0 * 32768 + 24576
+abbrev μ-negation-normal-form : Measures 5 negation-normal-form-kinds.ps ℕ
+μ-negation-normal-form κs a = a .1 .1 .1 .1 .1 .1 .1 .0 * 32768 + 24576
 
-abbrev μ-operand-forms : Measures 4 operand-forms-kinds.ps ℕ
-μ-operand-forms κs a = a .1 .1 .1 .1 .1 .1 .0 * 32768 + (8192 - a .1 .1 .1 .1 .1 .1 .1 .0)
+abbrev μ-operand-forms : Measures 5 operand-forms-kinds.ps ℕ
+μ-operand-forms κs a = a .1 .1 .1 .1 .1 .1 .1 .0 * 32768 + (8192 - a .1 .1 .1 .1 .1 .1 .1 .1 .0)
 
-abbrev μ-pair-of : Measures 4 pair-of-kinds.ps ℕ
-μ-pair-of κs a = maxOf (a .1 .1 .1 .1 .1 .1 .1 .0 .0) (a .1 .1 .1 .1 .1 .1 .1 .1 .0) * 32768 + 24577
+abbrev μ-pair-of : Measures 5 pair-of-kinds.ps ℕ
+μ-pair-of κs a = maxOf (a .1 .1 .1 .1 .1 .1 .1 .1 .0 .0) (a .1 .1 .1 .1 .1 .1 .1 .1 .1 .0) * 32768 + 24577
 
-abbrev μ-two-pairs : Measures 4 two-pairs-kinds.ps ℕ
-μ-two-pairs κs a = maxOf (maxOf (a .1 .1 .1 .1 .1 .1 .1 .0) (a .1 .1 .1 .1 .1 .1 .1 .1 .0)) (maxOf (a .1 .1 .1 .1 .1 .1 .1 .1 .1 .0 .0) (a .1 .1 .1 .1 .1 .1 .1 .1 .1 .1 .0)) * 32768 + 24578
+abbrev μ-two-pairs : Measures 5 two-pairs-kinds.ps ℕ
+μ-two-pairs κs a = maxOf (maxOf (a .1 .1 .1 .1 .1 .1 .1 .1 .0) (a .1 .1 .1 .1 .1 .1 .1 .1 .1 .0)) (maxOf (a .1 .1 .1 .1 .1 .1 .1 .1 .1 .1 .0 .0) (a .1 .1 .1 .1 .1 .1 .1 .1 .1 .1 .1 .0)) * 32768 + 24578
 
-abbrev expand-at : ℕ → In 4 expand-kinds.ps
-expand-at t = and 4 expand-kinds.ps (is 4 expand-kinds.ps μ-expand t) expand.Pre
+abbrev expand-at : ℕ → In 5 expand-kinds.ps
+expand-at t = and 5 expand-kinds.ps (is 5 expand-kinds.ps μ-expand t) expand.Pre
 
-abbrev expand-below : ℕ → In 4 expand-kinds.ps
-expand-below t = and 4 expand-kinds.ps (falls 4 expand-kinds.ps _<_ μ-expand t) expand.Pre
+abbrev expand-below : ℕ → In 5 expand-kinds.ps
+expand-below t = and 5 expand-kinds.ps (falls 5 expand-kinds.ps _<_ μ-expand t) expand.Pre
 
-abbrev negation-normal-form-at : ℕ → In 4 negation-normal-form-kinds.ps
+abbrev negation-normal-form-at : ℕ → In 5 negation-normal-form-kinds.ps
 negation-normal-form-at t =
     and
-    4
+    5
     negation-normal-form-kinds.ps
-    (is 4 negation-normal-form-kinds.ps μ-negation-normal-form t)
+    (is 5 negation-normal-form-kinds.ps μ-negation-normal-form t)
     negation-normal-form.Pre
 
-abbrev negation-normal-form-below : ℕ → In 4 negation-normal-form-kinds.ps
+abbrev negation-normal-form-below : ℕ → In 5 negation-normal-form-kinds.ps
 negation-normal-form-below t =
     and
-    4
+    5
     negation-normal-form-kinds.ps
-    (falls 4 negation-normal-form-kinds.ps _<_ μ-negation-normal-form t)
+    (falls 5 negation-normal-form-kinds.ps _<_ μ-negation-normal-form t)
     negation-normal-form.Pre
 
-abbrev operand-forms-at : ℕ → In 4 operand-forms-kinds.ps
+abbrev operand-forms-at : ℕ → In 5 operand-forms-kinds.ps
 operand-forms-at t =
-    and 4 operand-forms-kinds.ps (is 4 operand-forms-kinds.ps μ-operand-forms t) operand-forms.Pre
+    and 5 operand-forms-kinds.ps (is 5 operand-forms-kinds.ps μ-operand-forms t) operand-forms.Pre
 
-abbrev operand-forms-below : ℕ → In 4 operand-forms-kinds.ps
+abbrev operand-forms-below : ℕ → In 5 operand-forms-kinds.ps
 operand-forms-below t =
     and
-    4
+    5
     operand-forms-kinds.ps
-    (falls 4 operand-forms-kinds.ps _<_ μ-operand-forms t)
+    (falls 5 operand-forms-kinds.ps _<_ μ-operand-forms t)
     operand-forms.Pre
 
-abbrev pair-of-at : ℕ → In 4 pair-of-kinds.ps
-pair-of-at t = and 4 pair-of-kinds.ps (is 4 pair-of-kinds.ps μ-pair-of t) pair-of.Pre
+abbrev pair-of-at : ℕ → In 5 pair-of-kinds.ps
+pair-of-at t = and 5 pair-of-kinds.ps (is 5 pair-of-kinds.ps μ-pair-of t) pair-of.Pre
 
-abbrev pair-of-below : ℕ → In 4 pair-of-kinds.ps
-pair-of-below t = and 4 pair-of-kinds.ps (falls 4 pair-of-kinds.ps _<_ μ-pair-of t) pair-of.Pre
+abbrev pair-of-below : ℕ → In 5 pair-of-kinds.ps
+pair-of-below t = and 5 pair-of-kinds.ps (falls 5 pair-of-kinds.ps _<_ μ-pair-of t) pair-of.Pre
 
-abbrev two-pairs-at : ℕ → In 4 two-pairs-kinds.ps
-two-pairs-at t = and 4 two-pairs-kinds.ps (is 4 two-pairs-kinds.ps μ-two-pairs t) two-pairs.Pre
+abbrev two-pairs-at : ℕ → In 5 two-pairs-kinds.ps
+two-pairs-at t = and 5 two-pairs-kinds.ps (is 5 two-pairs-kinds.ps μ-two-pairs t) two-pairs.Pre
 
-abbrev two-pairs-below : ℕ → In 4 two-pairs-kinds.ps
+abbrev two-pairs-below : ℕ → In 5 two-pairs-kinds.ps
 two-pairs-below t =
-    and 4 two-pairs-kinds.ps (falls 4 two-pairs-kinds.ps _<_ μ-two-pairs t) two-pairs.Pre
+    and 5 two-pairs-kinds.ps (falls 5 two-pairs-kinds.ps _<_ μ-two-pairs t) two-pairs.Pre
 
 -- what the calls in `two-pairs` ask and tell, below the measure t
 abbrev two-pairs-calls : ℕ → two-pairs-lts.Claims
@@ -140,28 +141,30 @@ expand-enum-told : (t : ℕ) → expand-lts.Need-enum-told (expand-calls t) (exp
 expand-enum-told t c = search needs
 
 expand-literal-requires : (t : ℕ) → expand-lts.Need-literal-requires (expand-calls t) (expand-at t) expand.Post
-expand-literal-requires t c κs = search needs
+expand-literal-requires t c κs =
+    let start = c .before .before .before .before .before .before .before .before .before .before .before .before in
+    (own-ready normal _ _ _ _ _ (start .pre .1 .0), (omega (arith, start .pre .1 .0 .state .source, start .pre .1 .1 .1 .0), start .pre .1 .1 .1 .1))
 
 expand-enum-known-view : (t : ℕ) → expand-lts.Need-enum-known-view (expand-calls t) (expand-at t) expand.Post
 expand-enum-known-view t c = search needs
 
 expand-negation-normal-form-requires : (t : ℕ) → expand-lts.Need-negation-normal-form-requires (expand-calls t) (expand-at t) expand.Post
 expand-negation-normal-form-requires t c κs =
-    let at-view = c .before .before .before .before .before in
+    let at-view = c .before .before .before .before .before .before in
     let at-view-of = at-view .before .before in
     let start = at-view-of .before .before .before .before .before .before .before in
     let h = not-below _ _ _ _ (at-view-of .view-of .ensures) _ (at-view .view .given .1) in
-    (omega (arith, start .pre .0), (start .pre .1 .0, (start .pre .1 .1 .0, omega (arith, start .pre .1 .1 .1))))
+    (omega (arith, start .pre .0), (start .pre .1 .0, (start .pre .1 .1 .0, (omega (arith, start .pre .1 .1 .1 .0), start .pre .1 .1 .1 .1))))
 
 expand-enum-known-view-2 : (t : ℕ) → expand-lts.Need-enum-known-view-2 (expand-calls t) (expand-at t) expand.Post
 expand-enum-known-view-2 t c = search needs
 
 expand-operand-forms-requires : (t : ℕ) → expand-lts.Need-operand-forms-requires (expand-calls t) (expand-at t) expand.Post
 expand-operand-forms-requires t c κs =
-    let at-view2 = c .before .before .before .before .before in
+    let at-view2 = c .before .before .before .before .before .before in
     let at-view-of = at-view2 .before .before in
     let start = at-view-of .before .before .before .before .before .before .before in
-    (omega (arith, start .pre .0), (start .pre .1 .0, (start .pre .1 .1 .0, (start .pre .1 .1 .1, many-before _ _ _ _ _ (start .pre .1 .0) _ (start .args .polarity) _ (at-view-of .view-of .ensures) _ (at-view2 .view2 .given .1)))))
+    (omega (arith, start .pre .0), (start .pre .1 .0, (start .pre .1 .1 .0, (start .pre .1 .1 .1 .0, (many-before _ _ _ _ _ (start .pre .1 .0) _ (start .args .polarity) _ (at-view-of .view-of .ensures) _ (at-view2 .view2 .given .1), start .pre .1 .1 .1 .1)))))
 
 expand-enum-known-m : (t : ℕ) → expand-lts.Need-enum-known-m (expand-calls t) (expand-at t) expand.Post
 expand-enum-known-m t c = search needs
@@ -182,59 +185,59 @@ expand-same-length-4 : (t : ℕ) → expand-lts.Need-same-length-4 (expand-calls
 expand-same-length-4 t c = search needs
 
 expand-returns : (t : ℕ) → expand-lts.Need-returns (expand-calls t) (expand-at t) expand.Post
-expand-returns t c = search expands
+expand-returns t c = search (expands, indexings)
 
 expand-put-many-requires : (t : ℕ) → expand-lts.Need-put-many-requires (expand-calls t) (expand-at t) expand.Post
 expand-put-many-requires t c κs =
-    let at-m = c .before .before .before .before .before in
+    let at-m = c .before .before .before .before .before .before in
     let at-scratch2 = at-m .before .before .before in
     let at-operand-forms = at-scratch2 .before .before .before .before .before .before .before in
-    let start = at-operand-forms .before .before .before .before .before .before .before .before .before .before .before .before .before .before .before in
-    (state-after normal _ _ _ _ _ _ _ _ _ (at-operand-forms .operand-forms .ensures .builds) _ _ (at-m .m .given .1), (omega (arith, at-scratch2 .scratch2 .given, start .pre .1 .1 .0), start .pre .1 .1 .1))
+    let start = at-operand-forms .before .before .before .before .before .before .before .before .before .before .before .before .before .before .before .before in
+    (state-after normal _ _ _ _ _ _ _ _ _ (at-operand-forms .operand-forms .ensures .0 .builds) _ _ (at-m .m .given .1), (omega (arith, at-scratch2 .scratch2 .given, start .pre .1 .1 .0), (start .pre .1 .1 .1 .0, index-at _ _ _ _ _ _ (at-m .m .given .1) (at-operand-forms .operand-forms .ensures .1))))
 
 expand-enum-known-view-3 : (t : ℕ) → expand-lts.Need-enum-known-view-3 (expand-calls t) (expand-at t) expand.Post
 expand-enum-known-view-3 t c = search needs
 
 expand-pair-of-requires : (t : ℕ) → expand-lts.Need-pair-of-requires (expand-calls t) (expand-at t) expand.Post
 expand-pair-of-requires t c κs =
-    let at-view3 = c .before .before .before .before .before in
+    let at-view3 = c .before .before .before .before .before .before in
     let at-view-of = at-view3 .before .before in
     let start = at-view-of .before .before .before .before .before .before .before in
     let (h, l) = implies-below _ _ _ _ (at-view-of .view-of .ensures) _ _ (at-view3 .view3 .given .1) in
-    (omega (arith, max-below _ _ _ h l, start .pre .0), (start .pre .1 .0, (start .pre .1 .1 .0, (omega (arith, start .pre .1 .1 .1), omega (arith, start .pre .1 .1 .1)))))
+    (omega (arith, max-below _ _ _ h l, start .pre .0), (start .pre .1 .0, (start .pre .1 .1 .0, (omega (arith, start .pre .1 .1 .1 .0), (omega (arith, start .pre .1 .1 .1 .0), start .pre .1 .1 .1 .1)))))
 
 expand-enum-known-view-4 : (t : ℕ) → expand-lts.Need-enum-known-view-4 (expand-calls t) (expand-at t) expand.Post
 expand-enum-known-view-4 t c = search needs
 
 expand-two-pairs-requires : (t : ℕ) → expand-lts.Need-two-pairs-requires (expand-calls t) (expand-at t) expand.Post
 expand-two-pairs-requires t c κs =
-    let at-view4 = c .before .before .before .before .before in
+    let at-view4 = c .before .before .before .before .before .before in
     let at-view-of = at-view4 .before .before in
     let start = at-view-of .before .before .before .before .before .before .before in
     let (h, l, k) = ite-below _ _ _ _ (at-view-of .view-of .ensures) _ _ _ (at-view4 .view4 .given .1) in
-    (omega (arith, max-below _ _ _ (max-below _ _ _ h l) (max-below _ _ _ h k), start .pre .0), (start .pre .1 .0, (start .pre .1 .1 .0, record { first = omega (arith, start .pre .1 .1 .1); second = omega (arith, start .pre .1 .1 .1); third = omega (arith, start .pre .1 .1 .1); fourth = omega (arith, start .pre .1 .1 .1) })))
+    (omega (arith, max-below _ _ _ (max-below _ _ _ h l) (max-below _ _ _ h k), start .pre .0), (start .pre .1 .0, (start .pre .1 .1 .0, (record { first = omega (arith, start .pre .1 .1 .1 .0); second = omega (arith, start .pre .1 .1 .1 .0); third = omega (arith, start .pre .1 .1 .1 .0); fourth = omega (arith, start .pre .1 .1 .1 .0) }, start .pre .1 .1 .1 .1))))
 
 expand-enum-known-view-5 : (t : ℕ) → expand-lts.Need-enum-known-view-5 (expand-calls t) (expand-at t) expand.Post
 expand-enum-known-view-5 t c = search needs
 
 expand-two-pairs-requires-2 : (t : ℕ) → expand-lts.Need-two-pairs-requires-2 (expand-calls t) (expand-at t) expand.Post
 expand-two-pairs-requires-2 t c κs =
-    let at-view5 = c .before .before .before .before .before in
+    let at-view5 = c .before .before .before .before .before .before in
     let at-view-of = at-view5 .before .before in
     let start = at-view-of .before .before .before .before .before .before .before in
     let (h, l) = iff-below _ _ _ _ (at-view-of .view-of .ensures) _ _ (at-view5 .view5 .given .1) in
-    (omega (arith, max-below _ _ _ (max-below _ _ _ h l) (max-below _ _ _ l h), start .pre .0), (start .pre .1 .0, (start .pre .1 .1 .0, record { first = omega (arith, start .pre .1 .1 .1); second = omega (arith, start .pre .1 .1 .1); third = omega (arith, start .pre .1 .1 .1); fourth = omega (arith, start .pre .1 .1 .1) })))
+    (omega (arith, max-below _ _ _ (max-below _ _ _ h l) (max-below _ _ _ l h), start .pre .0), (start .pre .1 .0, (start .pre .1 .1 .0, (record { first = omega (arith, start .pre .1 .1 .1 .0); second = omega (arith, start .pre .1 .1 .1 .0); third = omega (arith, start .pre .1 .1 .1 .0); fourth = omega (arith, start .pre .1 .1 .1 .0) }, start .pre .1 .1 .1 .1))))
 
 expand-enum-known-view-6 : (t : ℕ) → expand-lts.Need-enum-known-view-6 (expand-calls t) (expand-at t) expand.Post
 expand-enum-known-view-6 t c = search needs
 
 expand-negation-normal-form-requires-2 : (t : ℕ) → expand-lts.Need-negation-normal-form-requires-2 (expand-calls t) (expand-at t) expand.Post
 expand-negation-normal-form-requires-2 t c κs =
-    let at-view6 = c .before .before .before .before .before in
+    let at-view6 = c .before .before .before .before .before .before in
     let at-view-of = at-view6 .before .before in
     let start = at-view-of .before .before .before .before .before .before .before in
     let h = quantifier-body _ _ _ _ (at-view-of .view-of .ensures) _ _ (at-view6 .view6 .given .1) in
-    (omega (arith, start .pre .0), (start .pre .1 .0, (start .pre .1 .1 .0, omega (arith, start .pre .1 .1 .1))))
+    (omega (arith, start .pre .0), (start .pre .1 .0, (start .pre .1 .1 .0, (omega (arith, start .pre .1 .1 .1 .0), start .pre .1 .1 .1 .1))))
 
 expand-enum-known-p : (t : ℕ) → expand-lts.Need-enum-known-p (expand-calls t) (expand-at t) expand.Post
 expand-enum-known-p t c = search needs
@@ -255,15 +258,15 @@ expand-same-length-8 : (t : ℕ) → expand-lts.Need-same-length-8 (expand-calls
 expand-same-length-8 t c = search needs
 
 expand-returns-2 : (t : ℕ) → expand-lts.Need-returns-2 (expand-calls t) (expand-at t) expand.Post
-expand-returns-2 t c = search expands
+expand-returns-2 t c = search (expands, indexings)
 
 expand-put-quantifier-requires : (t : ℕ) → expand-lts.Need-put-quantifier-requires (expand-calls t) (expand-at t) expand.Post
 expand-put-quantifier-requires t c κs =
-    let at-p = c .before .before .before .before in
+    let at-p = c .before .before .before .before .before in
     let at-scratch7 = at-p .before .before .before in
     let at-negation-normal-form2 = at-scratch7 .before .before .before .before .before .before .before in
-    let start = at-negation-normal-form2 .before .before .before .before .before .before .before .before .before .before .before .before .before .before .before in
-    (state-after normal _ _ _ _ _ _ _ _ _ (at-negation-normal-form2 .negation-normal-form2 .ensures .formed) _ _ (at-p .p .given .1), (omega (arith, at-scratch7 .scratch7 .given, start .pre .1 .1 .0), start .pre .1 .1 .1))
+    let start = at-negation-normal-form2 .before .before .before .before .before .before .before .before .before .before .before .before .before .before .before .before in
+    (state-after normal _ _ _ _ _ _ _ _ _ (at-negation-normal-form2 .negation-normal-form2 .ensures .0 .formed) _ _ (at-p .p .given .1), (omega (arith, at-scratch7 .scratch7 .given, start .pre .1 .1 .0), (start .pre .1 .1 .1 .0, index-at _ _ _ _ _ _ (at-p .p .given .1) (at-negation-normal-form2 .negation-normal-form2 .ensures .1))))
 
 expand-same-length-9 : (t : ℕ) → expand-lts.Need-same-length-9 (expand-calls t) (expand-at t) expand.Post
 expand-same-length-9 t c = search needs
@@ -272,7 +275,7 @@ expand-same-length-10 : (t : ℕ) → expand-lts.Need-same-length-10 (expand-cal
 expand-same-length-10 t c = search needs
 
 expand-returns-3 : (t : ℕ) → expand-lts.Need-returns-3 (expand-calls t) (expand-at t) expand.Post
-expand-returns-3 t c = search expands
+expand-returns-3 t c = search (expands, indexings)
 
 expand-same-length-11 : (t : ℕ) → expand-lts.Need-same-length-11 (expand-calls t) (expand-at t) expand.Post
 expand-same-length-11 t c = search needs
@@ -287,7 +290,7 @@ expand-same-length-14 : (t : ℕ) → expand-lts.Need-same-length-14 (expand-cal
 expand-same-length-14 t c = search needs
 
 expand-returns-4 : (t : ℕ) → expand-lts.Need-returns-4 (expand-calls t) (expand-at t) expand.Post
-expand-returns-4 t c = search expands
+expand-returns-4 t c = search (expands, indexings)
 
 expand-same-length-15 : (t : ℕ) → expand-lts.Need-same-length-15 (expand-calls t) (expand-at t) expand.Post
 expand-same-length-15 t c = search needs
@@ -304,12 +307,12 @@ expand-same-length-18 t c = search needs
 expand-returns-5 : (t : ℕ) → expand-lts.Need-returns-5 (expand-calls t) (expand-at t) expand.Post
 expand-returns-5 t c =
     let at-put-many = c .before .before .before .before .before .before in
-    let at-m = at-put-many .before .before .before .before .before .before in
+    let at-m = at-put-many .before .before .before .before .before .before .before in
     let at-operand-forms = at-m .before .before .before .before .before .before .before .before .before .before in
-    let at-view2 = at-operand-forms .before .before .before .before .before .before in
+    let at-view2 = at-operand-forms .before .before .before .before .before .before .before in
     let at-view-of = at-view2 .before .before in
     let start = at-view-of .before .before .before .before .before .before .before in
-    expand-many _ _ _ _ _ (start .pre .1 .0) _ _ _ (at-view-of .view-of .ensures) _ (at-view2 .view2 .given .1) _ _ _ _ (at-operand-forms .operand-forms .ensures) _ _ (at-m .m .given .1) _ _ _ (at-put-many .put-many .ensures)
+    (expand-many _ _ _ _ _ (start .pre .1 .0) _ _ _ (at-view-of .view-of .ensures) _ (at-view2 .view2 .given .1) _ _ _ _ (at-operand-forms .operand-forms .ensures .0) _ _ (at-m .m .given .1) _ _ _ (at-put-many .put-many .ensures .0), at-put-many .put-many .ensures .1)
 
 expand-same-length-19 : (t : ℕ) → expand-lts.Need-same-length-19 (expand-calls t) (expand-at t) expand.Post
 expand-same-length-19 t c = search needs
@@ -324,7 +327,7 @@ expand-same-length-22 : (t : ℕ) → expand-lts.Need-same-length-22 (expand-cal
 expand-same-length-22 t c = search needs
 
 expand-returns-6 : (t : ℕ) → expand-lts.Need-returns-6 (expand-calls t) (expand-at t) expand.Post
-expand-returns-6 t c = search expands
+expand-returns-6 t c = search (expands, indexings)
 
 expand-same-length-23 : (t : ℕ) → expand-lts.Need-same-length-23 (expand-calls t) (expand-at t) expand.Post
 expand-same-length-23 t c = search needs
@@ -339,7 +342,7 @@ expand-same-length-26 : (t : ℕ) → expand-lts.Need-same-length-26 (expand-cal
 expand-same-length-26 t c = search needs
 
 expand-returns-7 : (t : ℕ) → expand-lts.Need-returns-7 (expand-calls t) (expand-at t) expand.Post
-expand-returns-7 t c = search expands
+expand-returns-7 t c = search (expands, indexings)
 
 expand-same-length-27 : (t : ℕ) → expand-lts.Need-same-length-27 (expand-calls t) (expand-at t) expand.Post
 expand-same-length-27 t c = search needs
@@ -354,7 +357,7 @@ expand-same-length-30 : (t : ℕ) → expand-lts.Need-same-length-30 (expand-cal
 expand-same-length-30 t c = search needs
 
 expand-returns-8 : (t : ℕ) → expand-lts.Need-returns-8 (expand-calls t) (expand-at t) expand.Post
-expand-returns-8 t c = search expands
+expand-returns-8 t c = search (expands, indexings)
 
 expand-same-length-31 : (t : ℕ) → expand-lts.Need-same-length-31 (expand-calls t) (expand-at t) expand.Post
 expand-same-length-31 t c = search needs
@@ -371,12 +374,12 @@ expand-same-length-34 t c = search needs
 expand-returns-9 : (t : ℕ) → expand-lts.Need-returns-9 (expand-calls t) (expand-at t) expand.Post
 expand-returns-9 t c =
     let at-put-quantifier = c .before .before .before .before .before .before in
-    let at-p = at-put-quantifier .before .before .before .before .before in
+    let at-p = at-put-quantifier .before .before .before .before .before .before in
     let at-negation-normal-form2 = at-p .before .before .before .before .before .before .before .before .before .before in
-    let at-view6 = at-negation-normal-form2 .before .before .before .before .before .before in
+    let at-view6 = at-negation-normal-form2 .before .before .before .before .before .before .before in
     let at-view-of = at-view6 .before .before in
     let start = at-view-of .before .before .before .before .before .before .before in
-    expand-quantifier _ _ _ _ _ (start .pre .1 .0) _ _ _ (at-view-of .view-of .ensures) _ _ (at-view6 .view6 .given .1) _ _ _ _ (at-negation-normal-form2 .negation-normal-form2 .ensures) _ _ (at-p .p .given .1) _ _ _ (at-put-quantifier .put-quantifier .ensures)
+    (expand-quantifier _ _ _ _ _ (start .pre .1 .0) _ _ _ (at-view-of .view-of .ensures) _ _ (at-view6 .view6 .given .1) _ _ _ _ (at-negation-normal-form2 .negation-normal-form2 .ensures .0) _ _ (at-p .p .given .1) _ _ _ (at-put-quantifier .put-quantifier .ensures .0), at-put-quantifier .put-quantifier .ensures .1)
 
 negation-normal-form-slot-requires : (t : ℕ) → negation-normal-form-lts.Need-slot-requires (negation-normal-form-calls t) (negation-normal-form-at t) negation-normal-form.Post
 negation-normal-form-slot-requires t c κs = search needs
@@ -384,20 +387,20 @@ negation-normal-form-slot-requires t c κs = search needs
 negation-normal-form-mul-known : (t : ℕ) → negation-normal-form-lts.Need-mul-known (negation-normal-form-calls t) (negation-normal-form-at t) negation-normal-form.Post
 negation-normal-form-mul-known t c =
     let start = c .before .before .before .before .before in
-    let h = slot-within normal _ _ _ _ _ (start .pre .1 .0) _ _ (start .pre .1 .1 .1) _ (c .slot .ensures) in
+    let h = slot-within normal _ _ _ _ _ (start .pre .1 .0) _ _ (start .pre .1 .1 .1 .0) _ (c .slot .ensures) in
     search needs
 
 negation-normal-form-slice-read-known : (t : ℕ) → negation-normal-form-lts.Need-slice-read-known (negation-normal-form-calls t) (negation-normal-form-at t) negation-normal-form.Post
 negation-normal-form-slice-read-known t c =
     let start = c .before .before .before .before .before .before in
-    let h = slot-within normal _ _ _ _ _ (start .pre .1 .0) _ _ (start .pre .1 .1 .1) _ (c .before .slot .ensures) in
+    let h = slot-within normal _ _ _ _ _ (start .pre .1 .0) _ _ (start .pre .1 .1 .1 .0) _ (c .before .slot .ensures) in
     search needs
 
-negation-normal-form-sub-t17 : (t : ℕ) → negation-normal-form-lts.Need-sub-t17 (negation-normal-form-calls t) (negation-normal-form-at t) negation-normal-form.Post
-negation-normal-form-sub-t17 t c = search needs
+negation-normal-form-sub-t18 : (t : ℕ) → negation-normal-form-lts.Need-sub-t18 (negation-normal-form-calls t) (negation-normal-form-at t) negation-normal-form.Post
+negation-normal-form-sub-t18 t c = search needs
 
 negation-normal-form-returns : (t : ℕ) → negation-normal-form-lts.Need-returns (negation-normal-form-calls t) (negation-normal-form-at t) negation-normal-form.Post
-negation-normal-form-returns t c = search one-term
+negation-normal-form-returns t c = search (one-term, indexings)
 
 negation-normal-form-expand-requires : (t : ℕ) → negation-normal-form-lts.Need-expand-requires (negation-normal-form-calls t) (negation-normal-form-at t) negation-normal-form.Post
 negation-normal-form-expand-requires t c κs = search needs
@@ -423,28 +426,28 @@ negation-normal-form-same-length-4 t c = search needs
 negation-normal-form-returns-2 : (t : ℕ) → negation-normal-form-lts.Need-returns-2 (negation-normal-form-calls t) (negation-normal-form-at t) negation-normal-form.Post
 negation-normal-form-returns-2 t c =
     let at-expand = c .before .before .before .before .before .before .before .before .before .before in
-    let at-slot = at-expand .before .before .before .before .before .before .before in
+    let at-slot = at-expand .before .before .before .before .before .before .before .before in
     let start = at-slot .before .before .before .before .before in
-    form-full normal _ _ _ _ _ (start .pre .1 .0) _ _ (start .pre .1 .1 .1) _ (at-slot .slot .ensures) _ refl _ _ _ _ (at-expand .expand .ensures) (c .enum-told .given .1)
+    (form-full normal _ _ _ _ _ (start .pre .1 .0) _ _ (start .pre .1 .1 .1 .0) _ (at-slot .slot .ensures) _ refl _ _ _ _ (at-expand .expand .ensures .0) (c .enum-told .given .1), tt)
 
 negation-normal-form-add-memo : (t : ℕ) → negation-normal-form-lts.Need-add-memo (negation-normal-form-calls t) (negation-normal-form-at t) negation-normal-form.Post
 negation-normal-form-add-memo t c =
     let at-expand = c .before .before .before .before .before .before .before .before .before .before .before in
-    let h = place-small normal _ _ _ _ _ _ _ _ _ (at-expand .expand .ensures) _ _ (c .before .p .given .1) in
+    let h = place-small normal _ _ _ _ _ _ _ _ _ (at-expand .expand .ensures .0) _ _ (c .before .p .given .1) in
     search needs
 
 negation-normal-form-mul-memo : (t : ℕ) → negation-normal-form-lts.Need-mul-memo (negation-normal-form-calls t) (negation-normal-form-at t) negation-normal-form.Post
 negation-normal-form-mul-memo t c =
-    let at-slot = c .before .before .before .before .before .before .before .before .before .before .before .before .before .before .before .before .before .before in
+    let at-slot = c .before .before .before .before .before .before .before .before .before .before .before .before .before .before .before .before .before .before .before in
     let start = at-slot .before .before .before .before .before in
-    let h = slot-within normal _ _ _ _ _ (start .pre .1 .0) _ _ (start .pre .1 .1 .1) _ (at-slot .slot .ensures) in
+    let h = slot-within normal _ _ _ _ _ (start .pre .1 .0) _ _ (start .pre .1 .1 .1 .0) _ (at-slot .slot .ensures) in
     search needs
 
 negation-normal-form-slice-write-memo : (t : ℕ) → negation-normal-form-lts.Need-slice-write-memo (negation-normal-form-calls t) (negation-normal-form-at t) negation-normal-form.Post
 negation-normal-form-slice-write-memo t c =
-    let at-slot = c .before .before .before .before .before .before .before .before .before .before .before .before .before .before .before .before .before .before in
+    let at-slot = c .before .before .before .before .before .before .before .before .before .before .before .before .before .before .before .before .before .before .before in
     let start = at-slot .before .before .before .before .before in
-    let h = slot-within normal _ _ _ _ _ (start .pre .1 .0) _ _ (start .pre .1 .1 .1) _ (at-slot .slot .ensures) in
+    let h = slot-within normal _ _ _ _ _ (start .pre .1 .0) _ _ (start .pre .1 .1 .1 .0) _ (at-slot .slot .ensures) in
     search needs
 
 negation-normal-form-same-length-5 : (t : ℕ) → negation-normal-form-lts.Need-same-length-5 (negation-normal-form-calls t) (negation-normal-form-at t) negation-normal-form.Post
@@ -462,10 +465,10 @@ negation-normal-form-same-length-8 t c = search needs
 negation-normal-form-returns-3 : (t : ℕ) → negation-normal-form-lts.Need-returns-3 (negation-normal-form-calls t) (negation-normal-form-at t) negation-normal-form.Post
 negation-normal-form-returns-3 t c =
     let at-expand = c .before .before .before .before .before .before .before .before .before .before .before in
-    let at-if1 = at-expand .before .before .before .before .before in
+    let at-if1 = at-expand .before .before .before .before .before .before in
     let at-slot = at-if1 .before .before in
     let start = at-slot .before .before .before .before .before in
-    form-kept normal _ _ _ _ _ (start .pre .1 .0) _ _ (start .pre .1 .1 .1) _ (at-slot .slot .ensures) _ refl _ _ _ _ (at-expand .expand .ensures) (at-if1 .if1 .left) _ _ (c .before .p .given .1) (omega (arith, slot-within normal _ _ _ _ _ (start .pre .1 .0) _ _ (start .pre .1 .1 .1) _ (at-slot .slot .ensures)))
+    (form-kept normal _ _ _ _ _ (start .pre .1 .0) _ _ (start .pre .1 .1 .1 .0) _ (at-slot .slot .ensures) _ refl _ _ _ _ (at-expand .expand .ensures .0) (at-if1 .if1 .left) _ _ (c .before .p .given .1) (omega (arith, slot-within normal _ _ _ _ _ (start .pre .1 .0) _ _ (start .pre .1 .1 .1 .0) _ (at-slot .slot .ensures))), index-at _ _ _ _ _ _ (c .before .p .given .1) (at-expand .expand .ensures .1))
 
 operand-forms-slice-reshare-prefix-operands :
     (t : ℕ) → operand-forms-lts.Need-slice-reshare-prefix-operands (operand-forms-calls t) (operand-forms-at t) operand-forms.Post
@@ -492,7 +495,7 @@ operand-forms-same-length-2 : (t : ℕ) → operand-forms-lts.Need-same-length-2
 operand-forms-same-length-2 t c = search needs
 
 operand-forms-returns : (t : ℕ) → operand-forms-lts.Need-returns (operand-forms-calls t) (operand-forms-at t) operand-forms.Post
-operand-forms-returns t c = search operand-walks
+operand-forms-returns t c = search (operand-walks, indexings)
 
 operand-forms-mul-u : (t : ℕ) → operand-forms-lts.Need-mul-u (operand-forms-calls t) (operand-forms-at t) operand-forms.Post
 operand-forms-mul-u t c = search needs
@@ -503,11 +506,11 @@ operand-forms-shared-slice-read-u t c = search needs
 operand-forms-negation-normal-form-requires :
     (t : ℕ) → operand-forms-lts.Need-negation-normal-form-requires (operand-forms-calls t) (operand-forms-at t) operand-forms.Post
 operand-forms-negation-normal-form-requires t c κs =
-    let at-if1 = c .before .before .before .before .before in
+    let at-if1 = c .before .before .before .before .before .before in
     let at-operands = at-if1 .before in
     let start = at-operands .before .before .before .before .before .before .before in
-    let h = operand-before _ _ _ _ (start .pre .1 .1 .1 .1) _ (at-operands .operands .ensures) _ (at-if1 .if1 .left) in
-    (omega (arith, start .pre .0), (start .pre .1 .0, (start .pre .1 .1 .0, omega arith)))
+    let h = operand-before _ _ _ _ (start .pre .1 .1 .1 .1 .0) _ (at-operands .operands .ensures) _ (at-if1 .if1 .left) in
+    (omega (arith, start .pre .0), (start .pre .1 .0, (start .pre .1 .1 .0, (omega arith, start .pre .1 .1 .1 .1 .1))))
 
 operand-forms-enum-known-m : (t : ℕ) → operand-forms-lts.Need-enum-known-m (operand-forms-calls t) (operand-forms-at t) operand-forms.Post
 operand-forms-enum-known-m t c = search needs
@@ -528,22 +531,22 @@ operand-forms-same-length-6 : (t : ℕ) → operand-forms-lts.Need-same-length-6
 operand-forms-same-length-6 t c = search needs
 
 operand-forms-returns-2 : (t : ℕ) → operand-forms-lts.Need-returns-2 (operand-forms-calls t) (operand-forms-at t) operand-forms.Post
-operand-forms-returns-2 t c = search operand-walks
+operand-forms-returns-2 t c = search (operand-walks, indexings)
 
 operand-forms-add-operand-forms : (t : ℕ) → operand-forms-lts.Need-add-operand-forms (operand-forms-calls t) (operand-forms-at t) operand-forms.Post
 operand-forms-add-operand-forms t c = search needs
 
 operand-forms-operand-forms-requires : (t : ℕ) → operand-forms-lts.Need-operand-forms-requires (operand-forms-calls t) (operand-forms-at t) operand-forms.Post
 operand-forms-operand-forms-requires t c κs =
-    let at-m = c .before .before .before .before .before in
+    let at-m = c .before .before .before .before .before .before in
     let at-scratch = at-m .before .before .before in
     let at-memo = at-scratch .before .before in
     let at-negation-normal-form = at-memo .before .before .before .before .before in
-    let at-if1 = at-negation-normal-form .before .before .before .before .before .before in
+    let at-if1 = at-negation-normal-form .before .before .before .before .before .before .before in
     let at-operands = at-if1 .before in
     let start = at-operands .before .before .before .before .before .before .before in
-    let j = at-negation-normal-form .negation-normal-form .ensures in
-    (omega (arith, run-short _ _ _ _ (start .pre .1 .0 .state) _ (start .pre .1 .1 .1 .0) _ (at-operands .operands .ensures), at-if1 .if1 .left, start .pre .0), (ready-after normal _ _ _ _ _ _ _ _ _ (j .formed) _ _ (at-m .m .given .1) (omega (arith, at-memo .memo .given, start .pre .1 .0 .room)), (omega (arith, at-scratch .scratch .given, start .pre .1 .1 .0), (start .pre .1 .1 .1 .0, before-same _ _ _ _ _ (j .formed .puts .left) _ (start .pre .1 .1 .1 .1)))))
+    let j = at-negation-normal-form .negation-normal-form .ensures .0 in
+    (omega (arith, run-short _ _ _ _ (start .pre .1 .0 .state) _ (start .pre .1 .1 .1 .0) _ (at-operands .operands .ensures), at-if1 .if1 .left, start .pre .0), (ready-after normal _ _ _ _ _ _ _ _ _ (j .formed) _ _ (at-m .m .given .1) (omega (arith, at-memo .memo .given, start .pre .1 .0 .room)), (omega (arith, at-scratch .scratch .given, start .pre .1 .1 .0), (start .pre .1 .1 .1 .0, (before-same _ _ _ _ _ (j .formed .puts .left) _ (start .pre .1 .1 .1 .1 .0), index-at _ _ _ _ _ _ (at-m .m .given .1) (at-negation-normal-form .negation-normal-form .ensures .1))))))
 
 operand-forms-same-length-7 : (t : ℕ) → operand-forms-lts.Need-same-length-7 (operand-forms-calls t) (operand-forms-at t) operand-forms.Post
 operand-forms-same-length-7 t c = search needs
@@ -560,16 +563,16 @@ operand-forms-same-length-10 t c = search needs
 operand-forms-returns-3 : (t : ℕ) → operand-forms-lts.Need-returns-3 (operand-forms-calls t) (operand-forms-at t) operand-forms.Post
 operand-forms-returns-3 t c =
     let at-operand-forms = c .before .before .before .before .before .before .before .before in
-    let at-m = at-operand-forms .before .before .before .before .before .before in
+    let at-m = at-operand-forms .before .before .before .before .before .before .before in
     let at-negation-normal-form = at-m .before .before .before .before .before .before .before .before .before .before in
-    let at-if1 = at-negation-normal-form .before .before .before .before .before .before in
+    let at-if1 = at-negation-normal-form .before .before .before .before .before .before .before in
     let at-operands = at-if1 .before in
-    operands-next normal _ _ _ _ _ _ _ _ _ (at-operands .operands .ensures) (at-if1 .if1 .left) _ refl _ _ _ _ (at-negation-normal-form .negation-normal-form .ensures) _ _ (at-m .m .given .1) _ _ _ _ (at-operand-forms .operand-forms .ensures)
+    (operands-next normal _ _ _ _ _ _ _ _ _ (at-operands .operands .ensures) (at-if1 .if1 .left) _ refl _ _ _ _ (at-negation-normal-form .negation-normal-form .ensures .0) _ _ (at-m .m .given .1) _ _ _ _ (at-operand-forms .operand-forms .ensures .0), at-operand-forms .operand-forms .ensures .1)
 
 pair-of-negation-normal-form-requires : (t : ℕ) → pair-of-lts.Need-negation-normal-form-requires (pair-of-calls t) (pair-of-at t) pair-of.Post
 pair-of-negation-normal-form-requires t c κs =
-    let start = c .before .before .before .before .before .before .before .before in
-    (omega (arith, max-left (start .args .a .0) (start .args .b), start .pre .0), (start .pre .1 .0, (start .pre .1 .1 .0, start .pre .1 .1 .1 .0)))
+    let start = c .before .before .before .before .before .before .before .before .before in
+    (omega (arith, max-left (start .args .a .0) (start .args .b), start .pre .0), (start .pre .1 .0, (start .pre .1 .1 .0, (start .pre .1 .1 .1 .0, start .pre .1 .1 .1 .1 .1))))
 
 pair-of-enum-known-p : (t : ℕ) → pair-of-lts.Need-enum-known-p (pair-of-calls t) (pair-of-at t) pair-of.Post
 pair-of-enum-known-p t c = search needs
@@ -590,18 +593,18 @@ pair-of-same-length-4 : (t : ℕ) → pair-of-lts.Need-same-length-4 (pair-of-ca
 pair-of-same-length-4 t c = search needs
 
 pair-of-returns : (t : ℕ) → pair-of-lts.Need-returns (pair-of-calls t) (pair-of-at t) pair-of.Post
-pair-of-returns t c = search pairs
+pair-of-returns t c = search (pairs, indexings)
 
 pair-of-negation-normal-form-requires-2 :
     (t : ℕ) → pair-of-lts.Need-negation-normal-form-requires-2 (pair-of-calls t) (pair-of-at t) pair-of.Post
 pair-of-negation-normal-form-requires-2 t c κs =
-    let at-p = c .before .before .before .before .before in
+    let at-p = c .before .before .before .before .before .before in
     let at-scratch = at-p .before .before .before in
     let at-memo = at-scratch .before .before in
     let at-negation-normal-form = at-memo .before .before .before .before .before in
-    let start = at-negation-normal-form .before .before .before .before .before .before .before .before .before in
-    let j = at-negation-normal-form .negation-normal-form .ensures in
-    (omega (arith, max-right (start .args .a .0) (start .args .b), start .pre .0), (ready-after normal _ _ _ _ _ _ _ _ _ (j .formed) _ _ (at-p .p .given .1) (omega (arith, at-memo .memo .given, start .pre .1 .0 .room)), (omega (arith, at-scratch .scratch .given, start .pre .1 .1 .0), start .pre .1 .1 .1 .1)))
+    let start = at-negation-normal-form .before .before .before .before .before .before .before .before .before .before in
+    let j = at-negation-normal-form .negation-normal-form .ensures .0 in
+    (omega (arith, max-right (start .args .a .0) (start .args .b), start .pre .0), (ready-after normal _ _ _ _ _ _ _ _ _ (j .formed) _ _ (at-p .p .given .1) (omega (arith, at-memo .memo .given, start .pre .1 .0 .room)), (omega (arith, at-scratch .scratch .given, start .pre .1 .1 .0), (start .pre .1 .1 .1 .1 .0, index-at _ _ _ _ _ _ (at-p .p .given .1) (at-negation-normal-form .negation-normal-form .ensures .1)))))
 
 pair-of-enum-known-q : (t : ℕ) → pair-of-lts.Need-enum-known-q (pair-of-calls t) (pair-of-at t) pair-of.Post
 pair-of-enum-known-q t c = search needs
@@ -624,24 +627,35 @@ pair-of-same-length-8 t c = search needs
 pair-of-returns-2 : (t : ℕ) → pair-of-lts.Need-returns-2 (pair-of-calls t) (pair-of-at t) pair-of.Post
 pair-of-returns-2 t c =
     let at-negation-normal-form2 = c .before .before .before .before .before .before .before .before .before .before in
-    let at-p = at-negation-normal-form2 .before .before .before .before .before .before in
+    let at-p = at-negation-normal-form2 .before .before .before .before .before .before .before in
     let at-negation-normal-form = at-p .before .before .before .before .before .before .before .before .before .before in
-    pair-right-full _ _ _ _ _ _ _ _ _ _ _ _ _ _ (at-negation-normal-form .negation-normal-form .ensures) _ _ (at-p .p .given .1) _ _ _ _ (at-negation-normal-form2 .negation-normal-form2 .ensures) (c .enum-told2 .given .1)
+    (pair-right-full _ _ _ _ _ _ _ _ _ _ _ _ _ _ (at-negation-normal-form .negation-normal-form .ensures .0) _ _ (at-p .p .given .1) _ _ _ _ (at-negation-normal-form2 .negation-normal-form2 .ensures .0) (c .enum-told2 .given .1), tt)
 
 pair-of-put-pair-requires : (t : ℕ) → pair-of-lts.Need-put-pair-requires (pair-of-calls t) (pair-of-at t) pair-of.Post
 pair-of-put-pair-requires t c κs =
-    let at-q = c .before .before .before in
+    let at-q = c .before .before .before .before in
     let at-negation-normal-form2 = at-q .before .before .before .before .before .before .before .before .before .before in
-    own-after normal _ _ _ _ _ _ _ _ _ (at-negation-normal-form2 .negation-normal-form2 .ensures .formed) _ _ (at-q .q .given .1)
+    (own-after normal _ _ _ _ _ _ _ _ _ (at-negation-normal-form2 .negation-normal-form2 .ensures .0 .formed) _ _ (at-q .q .given .1), index-at _ _ _ _ _ _ (at-q .q .given .1) (at-negation-normal-form2 .negation-normal-form2 .ensures .1))
 
 pair-of-same-length-9 : (t : ℕ) → pair-of-lts.Need-same-length-9 (pair-of-calls t) (pair-of-at t) pair-of.Post
-pair-of-same-length-9 t c = search needs
+pair-of-same-length-9 t c =
+    let at-tags3 = c .before .before .before in
+    let at-tags2 = at-tags3 .before .before .before .before .before .before .before .before .before .before .before .before .before .before .before in
+    let at-tags = at-tags2 .before .before .before .before .before .before .before .before .before .before .before .before .before .before .before .before .before in
+    omega (arith, at-tags .tags .given, at-tags2 .tags2 .given, at-tags3 .tags3 .given)
 
 pair-of-same-length-10 : (t : ℕ) → pair-of-lts.Need-same-length-10 (pair-of-calls t) (pair-of-at t) pair-of.Post
-pair-of-same-length-10 t c = search needs
+pair-of-same-length-10 t c =
+    let at-values3 = c .before in
+    let at-values2 = at-values3 .before .before .before .before .before .before .before .before .before .before .before .before .before .before .before in
+    let at-values = at-values2 .before .before .before .before .before .before .before .before .before .before .before .before .before .before .before .before .before in
+    omega (arith, at-values .values .given, at-values2 .values2 .given, at-values3 .values3 .given)
 
 pair-of-same-length-11 : (t : ℕ) → pair-of-lts.Need-same-length-11 (pair-of-calls t) (pair-of-at t) pair-of.Post
-pair-of-same-length-11 t c = search needs
+pair-of-same-length-11 t c =
+    let at-memo2 = c .before .before .before .before .before .before .before .before .before .before .before .before .before .before in
+    let at-memo = at-memo2 .before .before .before .before .before .before .before .before .before .before .before .before .before .before .before .before .before in
+    omega (arith, at-memo .memo .given, at-memo2 .memo2 .given)
 
 pair-of-same-length-12 : (t : ℕ) → pair-of-lts.Need-same-length-12 (pair-of-calls t) (pair-of-at t) pair-of.Post
 pair-of-same-length-12 t c = search needs
@@ -649,16 +663,16 @@ pair-of-same-length-12 t c = search needs
 pair-of-returns-3 : (t : ℕ) → pair-of-lts.Need-returns-3 (pair-of-calls t) (pair-of-at t) pair-of.Post
 pair-of-returns-3 t c =
     let at-put-pair = c .before .before .before .before in
-    let at-q = at-put-pair .before .before .before .before in
+    let at-q = at-put-pair .before .before .before .before .before in
     let at-negation-normal-form2 = at-q .before .before .before .before .before .before .before .before .before .before in
-    let at-p = at-negation-normal-form2 .before .before .before .before .before .before in
+    let at-p = at-negation-normal-form2 .before .before .before .before .before .before .before in
     let at-negation-normal-form = at-p .before .before .before .before .before .before .before .before .before .before in
-    pair-put _ _ _ _ _ _ _ _ _ _ _ _ _ _ (at-negation-normal-form .negation-normal-form .ensures) _ _ (at-p .p .given .1) _ _ _ _ (at-negation-normal-form2 .negation-normal-form2 .ensures) _ _ (at-q .q .given .1) _ _ _ (at-put-pair .put-pair .ensures)
+    (pair-put _ _ _ _ _ _ _ _ _ _ _ _ _ _ (at-negation-normal-form .negation-normal-form .ensures .0) _ _ (at-p .p .given .1) _ _ _ _ (at-negation-normal-form2 .negation-normal-form2 .ensures .0) _ _ (at-q .q .given .1) _ _ _ (at-put-pair .put-pair .ensures .0), at-put-pair .put-pair .ensures .1)
 
 two-pairs-pair-of-requires : (t : ℕ) → two-pairs-lts.Need-pair-of-requires (two-pairs-calls t) (two-pairs-at t) two-pairs.Post
 two-pairs-pair-of-requires t c κs =
-    let start = c .before .before .before .before .before .before .before .before in
-    (omega (arith, max-left (maxOf (start .args .a) (start .args .b)) (maxOf (start .args .c .0) (start .args .d)), start .pre .0), (start .pre .1 .0, (start .pre .1 .1 .0, (start .pre .1 .1 .1 .first, start .pre .1 .1 .1 .second))))
+    let start = c .before .before .before .before .before .before .before .before .before in
+    (omega (arith, max-left (maxOf (start .args .a) (start .args .b)) (maxOf (start .args .c .0) (start .args .d)), start .pre .0), (start .pre .1 .0, (start .pre .1 .1 .0, (start .pre .1 .1 .1 .0 .first, (start .pre .1 .1 .1 .0 .second, start .pre .1 .1 .1 .1)))))
 
 two-pairs-enum-known-p : (t : ℕ) → two-pairs-lts.Need-enum-known-p (two-pairs-calls t) (two-pairs-at t) two-pairs.Post
 two-pairs-enum-known-p t c = search needs
@@ -679,17 +693,17 @@ two-pairs-same-length-4 : (t : ℕ) → two-pairs-lts.Need-same-length-4 (two-pa
 two-pairs-same-length-4 t c = search needs
 
 two-pairs-returns : (t : ℕ) → two-pairs-lts.Need-returns (two-pairs-calls t) (two-pairs-at t) two-pairs.Post
-two-pairs-returns t c = search twos
+two-pairs-returns t c = search (twos, indexings)
 
 two-pairs-pair-of-requires-2 : (t : ℕ) → two-pairs-lts.Need-pair-of-requires-2 (two-pairs-calls t) (two-pairs-at t) two-pairs.Post
 two-pairs-pair-of-requires-2 t c κs =
-    let at-p = c .before .before .before .before .before in
+    let at-p = c .before .before .before .before .before .before in
     let at-scratch = at-p .before .before .before in
     let at-memo = at-scratch .before .before in
     let at-pair-of = at-memo .before .before .before .before .before in
-    let start = at-pair-of .before .before .before .before .before .before .before .before .before in
-    let j = at-pair-of .pair-of .ensures in
-    (omega (arith, max-right (maxOf (start .args .a) (start .args .b)) (maxOf (start .args .c .0) (start .args .d)), start .pre .0), (ready-after normal _ _ _ _ _ _ _ _ _ j _ _ (at-p .p .given .1) (omega (arith, at-memo .memo .given, start .pre .1 .0 .room)), (omega (arith, at-scratch .scratch .given, start .pre .1 .1 .0), (start .pre .1 .1 .1 .third, start .pre .1 .1 .1 .fourth))))
+    let start = at-pair-of .before .before .before .before .before .before .before .before .before .before in
+    let j = at-pair-of .pair-of .ensures .0 in
+    (omega (arith, max-right (maxOf (start .args .a) (start .args .b)) (maxOf (start .args .c .0) (start .args .d)), start .pre .0), (ready-after normal _ _ _ _ _ _ _ _ _ j _ _ (at-p .p .given .1) (omega (arith, at-memo .memo .given, start .pre .1 .0 .room)), (omega (arith, at-scratch .scratch .given, start .pre .1 .1 .0), (start .pre .1 .1 .1 .0 .third, (start .pre .1 .1 .1 .0 .fourth, index-at _ _ _ _ _ _ (at-p .p .given .1) (at-pair-of .pair-of .ensures .1))))))
 
 two-pairs-enum-known-q : (t : ℕ) → two-pairs-lts.Need-enum-known-q (two-pairs-calls t) (two-pairs-at t) two-pairs.Post
 two-pairs-enum-known-q t c = search needs
@@ -712,29 +726,36 @@ two-pairs-same-length-8 t c = search needs
 two-pairs-returns-2 : (t : ℕ) → two-pairs-lts.Need-returns-2 (two-pairs-calls t) (two-pairs-at t) two-pairs.Post
 two-pairs-returns-2 t c =
     let at-pair-of2 = c .before .before .before .before .before .before .before .before .before .before in
-    let at-p = at-pair-of2 .before .before .before .before .before .before in
+    let at-p = at-pair-of2 .before .before .before .before .before .before .before in
     let at-pair-of = at-p .before .before .before .before .before .before .before .before .before .before in
-    let start = at-pair-of .before .before .before .before .before .before .before .before .before in
-    two-right-full _ (start .args .n) _ _ _ _ _ _ _ _ _ _ _ _ _ (at-pair-of .pair-of .ensures) _ _ (at-p .p .given .1) _ _ _ _ (at-pair-of2 .pair-of2 .ensures) (c .enum-told2 .given .1)
+    let start = at-pair-of .before .before .before .before .before .before .before .before .before .before in
+    (two-right-full _ (start .args .n) _ _ _ _ _ _ _ _ _ _ _ _ _ (at-pair-of .pair-of .ensures .0) _ _ (at-p .p .given .1) _ _ _ _ (at-pair-of2 .pair-of2 .ensures .0) (c .enum-told2 .given .1), tt)
 
 two-pairs-put-pair-requires : (t : ℕ) → two-pairs-lts.Need-put-pair-requires (two-pairs-calls t) (two-pairs-at t) two-pairs.Post
 two-pairs-put-pair-requires t c κs =
-    let at-q = c .before .before .before in
+    let at-q = c .before .before .before .before in
     let at-pair-of2 = at-q .before .before .before .before .before .before .before .before .before .before in
-    own-after normal _ _ _ _ _ _ _ _ _ (at-pair-of2 .pair-of2 .ensures) _ _ (at-q .q .given .1)
+    (own-after normal _ _ _ _ _ _ _ _ _ (at-pair-of2 .pair-of2 .ensures .0) _ _ (at-q .q .given .1), index-at _ _ _ _ _ _ (at-q .q .given .1) (at-pair-of2 .pair-of2 .ensures .1))
 
 two-pairs-same-length-9 : (t : ℕ) → two-pairs-lts.Need-same-length-9 (two-pairs-calls t) (two-pairs-at t) two-pairs.Post
 two-pairs-same-length-9 t c =
     let at-tags3 = c .before .before .before in
-    let at-tags2 = at-tags3 .before .before .before .before .before .before .before .before .before .before .before .before .before .before in
-    let at-tags = at-tags2 .before .before .before .before .before .before .before .before .before .before .before .before .before .before .before .before in
+    let at-tags2 = at-tags3 .before .before .before .before .before .before .before .before .before .before .before .before .before .before .before in
+    let at-tags = at-tags2 .before .before .before .before .before .before .before .before .before .before .before .before .before .before .before .before .before in
     omega (arith, at-tags .tags .given, at-tags2 .tags2 .given, at-tags3 .tags3 .given)
 
 two-pairs-same-length-10 : (t : ℕ) → two-pairs-lts.Need-same-length-10 (two-pairs-calls t) (two-pairs-at t) two-pairs.Post
-two-pairs-same-length-10 t c = search needs
+two-pairs-same-length-10 t c =
+    let at-values3 = c .before in
+    let at-values2 = at-values3 .before .before .before .before .before .before .before .before .before .before .before .before .before .before .before in
+    let at-values = at-values2 .before .before .before .before .before .before .before .before .before .before .before .before .before .before .before .before .before in
+    omega (arith, at-values .values .given, at-values2 .values2 .given, at-values3 .values3 .given)
 
 two-pairs-same-length-11 : (t : ℕ) → two-pairs-lts.Need-same-length-11 (two-pairs-calls t) (two-pairs-at t) two-pairs.Post
-two-pairs-same-length-11 t c = search needs
+two-pairs-same-length-11 t c =
+    let at-memo2 = c .before .before .before .before .before .before .before .before .before .before .before .before .before .before in
+    let at-memo = at-memo2 .before .before .before .before .before .before .before .before .before .before .before .before .before .before .before .before .before in
+    omega (arith, at-memo .memo .given, at-memo2 .memo2 .given)
 
 two-pairs-same-length-12 : (t : ℕ) → two-pairs-lts.Need-same-length-12 (two-pairs-calls t) (two-pairs-at t) two-pairs.Post
 two-pairs-same-length-12 t c = search needs
@@ -742,12 +763,12 @@ two-pairs-same-length-12 t c = search needs
 two-pairs-returns-3 : (t : ℕ) → two-pairs-lts.Need-returns-3 (two-pairs-calls t) (two-pairs-at t) two-pairs.Post
 two-pairs-returns-3 t c =
     let at-put-pair = c .before .before .before .before in
-    let at-q = at-put-pair .before .before .before .before in
+    let at-q = at-put-pair .before .before .before .before .before in
     let at-pair-of2 = at-q .before .before .before .before .before .before .before .before .before .before in
-    let at-p = at-pair-of2 .before .before .before .before .before .before in
+    let at-p = at-pair-of2 .before .before .before .before .before .before .before in
     let at-pair-of = at-p .before .before .before .before .before .before .before .before .before .before in
-    let start = at-pair-of .before .before .before .before .before .before .before .before .before in
-    two-put _ (start .args .n) _ _ _ _ _ _ _ _ _ _ _ _ _ (at-pair-of .pair-of .ensures) _ _ (at-p .p .given .1) _ _ _ _ (at-pair-of2 .pair-of2 .ensures) _ _ (at-q .q .given .1) _ _ _ (at-put-pair .put-pair .ensures)
+    let start = at-pair-of .before .before .before .before .before .before .before .before .before .before in
+    (two-put _ (start .args .n) _ _ _ _ _ _ _ _ _ _ _ _ _ (at-pair-of .pair-of .ensures .0) _ _ (at-p .p .given .1) _ _ _ _ (at-pair-of2 .pair-of2 .ensures .0) _ _ (at-q .q .given .1) _ _ _ (at-put-pair .put-pair .ensures .0), at-put-pair .put-pair .ensures .1)
 
 pub +expand+negation-normal-form+operand-forms+pair-of+two-pairs-spec : {M : Type 1} → statement M
 +expand+negation-normal-form+operand-forms+pair-of+two-pairs-spec =
@@ -834,7 +855,7 @@ pub +expand+negation-normal-form+operand-forms+pair-of+two-pairs-spec : {M : Typ
     (negation-normal-form-slot-requires t)
     (negation-normal-form-mul-known t)
     (negation-normal-form-slice-read-known t)
-    (negation-normal-form-sub-t17 t)
+    (negation-normal-form-sub-t18 t)
     (negation-normal-form-returns t)
     (negation-normal-form-expand-requires t)
     (negation-normal-form-enum-known-p t)

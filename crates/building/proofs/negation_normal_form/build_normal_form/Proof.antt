@@ -1,3 +1,4 @@
+use Rattle.building.proofs.build.Indexing.{indexings}
 use native.Mathlib.Omega.{arith}
 use Rattle.building.proofs.negation_normal_form.Whole.{normal-built}
 use Rattle.building.specs.Walk.{normal}
@@ -13,7 +14,7 @@ slice-aggregate-negation-normal-form-2 : tie.Need-slice-aggregate-negation-norma
 slice-aggregate-negation-normal-form-2 c = search needs
 
 negation-normal-form-requires : tie.Need-negation-normal-form-requires
-negation-normal-form-requires c κs = (ready-first _ _ _ (c .before .before .before .before .before .before .pre .0) normal 16384 (omega arith), (zeros-long 8192, c .before .before .before .before .before .before .pre .1))
+negation-normal-form-requires c κs = (ready-first _ _ _ (c .before .before .before .before .before .before .before .pre .0) normal 16384 (omega arith), (zeros-long 8192, c .before .before .before .before .before .before .before .pre .1))
 
 same-length : tie.Need-same-length
 same-length c = search needs
@@ -22,7 +23,7 @@ same-length-2 : tie.Need-same-length-2
 same-length-2 c = search needs
 
 returns : tie.Need-returns
-returns c = search normal-built
+returns c = search (normal-built, indexings)
 
 pub build-normal-form-spec : {M : Type 1} → statement M
 build-normal-form-spec =

@@ -1,10 +1,11 @@
+use Rattle.building.proofs.build.Indexing.{indexings}
 use Rattle.building.proofs.negation_normal_form.Cells.{terms}
 use borrow.Author.Needs.{needs}
 use Rattle.building.proofs.negation_normal_form.literal.Statement.{statement}
 use Rattle.building.proofs.negation_normal_form.literal.Tie as tie
 
 returns : tie.Need-returns
-returns c = search terms
+returns c = search (terms, indexings)
 
 slice-aggregate-put : tie.Need-slice-aggregate-put
 slice-aggregate-put c = search needs
@@ -19,7 +20,7 @@ same-length-2 : tie.Need-same-length-2
 same-length-2 c = search needs
 
 returns-2 : tie.Need-returns-2
-returns-2 c = search terms
+returns-2 c = search (terms, indexings)
 
 pub literal-spec : {M : Type 1} → statement M
 literal-spec =

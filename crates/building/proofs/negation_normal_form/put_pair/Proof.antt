@@ -1,3 +1,4 @@
+use Rattle.building.proofs.build.Indexing.{indexings}
 use Rattle.building.proofs.negation_normal_form.Cells.{terms}
 use borrow.Author.Needs.{needs}
 use Rattle.building.proofs.negation_normal_form.put_pair.Statement.{statement}
@@ -19,7 +20,7 @@ same-length-2 : tie.Need-same-length-2
 same-length-2 c = search needs
 
 returns : tie.Need-returns
-returns c = search terms
+returns c = search (terms, indexings)
 
 pub put-pair-spec : {M : Type 1} → statement M
 put-pair-spec =

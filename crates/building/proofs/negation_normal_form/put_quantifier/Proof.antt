@@ -1,3 +1,4 @@
+use Rattle.building.proofs.build.Indexing.{indexings}
 use Rattle.building.proofs.negation_normal_form.Cells.{terms, parts, run-short}
 use native.Mathlib.Omega.{arith}
 use borrow.Author.Needs.{needs}
@@ -20,7 +21,7 @@ operands-requires : tie.Need-operands-requires
 operands-requires c κs = search needs
 
 gather-pairs-requires : tie.Need-gather-pairs-requires
-gather-pairs-requires c κs = let h = run-short _ _ _ _ (c .before .before .before .before .before .before .before .pre .0) _ (c .before .before .before .before .before .before .before .pre .1 .1) _ (c .before .operands .ensures) in (omega arith, omega arith)
+gather-pairs-requires c κs = let h = run-short _ _ _ _ (c .before .before .before .before .before .before .before .pre .0) _ (c .before .before .before .before .before .before .before .pre .1 .1 .0) _ (c .before .operands .ensures) in (omega arith, omega arith)
 
 flip-requires : tie.Need-flip-requires
 flip-requires c κs = search needs
@@ -47,7 +48,7 @@ same-length-3 : tie.Need-same-length-3
 same-length-3 c = search needs
 
 returns : tie.Need-returns
-returns c = search terms
+returns c = search (terms, indexings)
 
 pub put-quantifier-spec : {M : Type 1} → statement M
 put-quantifier-spec =

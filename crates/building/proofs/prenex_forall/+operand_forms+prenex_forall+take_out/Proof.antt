@@ -4,7 +4,7 @@ use mathlib.Core.Path.{refl}
 use Rattle.building.specs.Walk.{taken-out}
 use Rattle.building.proofs.negation_normal_form.Cells.{parts, run-short}
 use Rattle.building.proofs.build.Walks.{slot-first, before-same, operand-before, state-after, place-small, ready-after, one-term, form-full, form-kept, operand-walks, operands-next}
-use Rattle.building.proofs.prenex_forall.Laws.{takes, take-put, forall-below, connective-before}
+use Rattle.building.proofs.prenex_forall.Laws.{takes, take-full, take-put, forall-below, connective-before}
 use Prim.Native.Nat.{ℕ, _<_, _+_, _*_, _-_}
 use borrow.Fn.Kinds.{In}
 use borrow.Fn.PlainCycle.{Measures, is, falls, and}
@@ -27,46 +27,47 @@ use Rattle.building.proofs.prenex_forall.+operand_forms+prenex_forall+t
 use Rattle.building.proofs.prenex_forall.+operand_forms+prenex_forall+take_out.Tie.{
   close,
 }
+use Rattle.building.proofs.build.Indexing.{indexings, index-at}
 
-abbrev μ-operand-forms : Measures 4 operand-forms-kinds.ps ℕ
-μ-operand-forms κs a = a .1 .1 .1 .1 .1 .1 .0 * 32768 + (8192 - a .1 .1 .1 .1 .1 .1 .1 .0)
+abbrev μ-operand-forms : Measures 5 operand-forms-kinds.ps ℕ
+μ-operand-forms κs a = a .1 .1 .1 .1 .1 .1 .1 .0 * 32768 + (8192 - a .1 .1 .1 .1 .1 .1 .1 .1 .0)
 
-abbrev μ-prenex-forall : Measures 4 prenex-forall-kinds.ps ℕ
-μ-prenex-forall κs a = a .1 .1 .1 .1 .1 .1 .0 * 32768 + 24576
+abbrev μ-prenex-forall : Measures 5 prenex-forall-kinds.ps ℕ
+μ-prenex-forall κs a = a .1 .1 .1 .1 .1 .1 .1 .0 * 32768 + 24576
 
-abbrev μ-take-out : Measures 4 take-out-kinds.ps ℕ
-μ-take-out κs a = a .1 .1 .1 .1 .1 .1 .0 * 32768 + 16384
+abbrev μ-take-out : Measures 5 take-out-kinds.ps ℕ
+μ-take-out κs a = a .1 .1 .1 .1 .1 .1 .1 .0 * 32768 + 16384
 
-abbrev operand-forms-at : ℕ → In 4 operand-forms-kinds.ps
+abbrev operand-forms-at : ℕ → In 5 operand-forms-kinds.ps
 operand-forms-at t =
-    and 4 operand-forms-kinds.ps (is 4 operand-forms-kinds.ps μ-operand-forms t) operand-forms.Pre
+    and 5 operand-forms-kinds.ps (is 5 operand-forms-kinds.ps μ-operand-forms t) operand-forms.Pre
 
-abbrev operand-forms-below : ℕ → In 4 operand-forms-kinds.ps
+abbrev operand-forms-below : ℕ → In 5 operand-forms-kinds.ps
 operand-forms-below t =
     and
-    4
+    5
     operand-forms-kinds.ps
-    (falls 4 operand-forms-kinds.ps _<_ μ-operand-forms t)
+    (falls 5 operand-forms-kinds.ps _<_ μ-operand-forms t)
     operand-forms.Pre
 
-abbrev prenex-forall-at : ℕ → In 4 prenex-forall-kinds.ps
+abbrev prenex-forall-at : ℕ → In 5 prenex-forall-kinds.ps
 prenex-forall-at t =
-    and 4 prenex-forall-kinds.ps (is 4 prenex-forall-kinds.ps μ-prenex-forall t) prenex-forall.Pre
+    and 5 prenex-forall-kinds.ps (is 5 prenex-forall-kinds.ps μ-prenex-forall t) prenex-forall.Pre
 
-abbrev prenex-forall-below : ℕ → In 4 prenex-forall-kinds.ps
+abbrev prenex-forall-below : ℕ → In 5 prenex-forall-kinds.ps
 prenex-forall-below t =
     and
-    4
+    5
     prenex-forall-kinds.ps
-    (falls 4 prenex-forall-kinds.ps _<_ μ-prenex-forall t)
+    (falls 5 prenex-forall-kinds.ps _<_ μ-prenex-forall t)
     prenex-forall.Pre
 
-abbrev take-out-at : ℕ → In 4 take-out-kinds.ps
-take-out-at t = and 4 take-out-kinds.ps (is 4 take-out-kinds.ps μ-take-out t) take-out.Pre
+abbrev take-out-at : ℕ → In 5 take-out-kinds.ps
+take-out-at t = and 5 take-out-kinds.ps (is 5 take-out-kinds.ps μ-take-out t) take-out.Pre
 
-abbrev take-out-below : ℕ → In 4 take-out-kinds.ps
+abbrev take-out-below : ℕ → In 5 take-out-kinds.ps
 take-out-below t =
-    and 4 take-out-kinds.ps (falls 4 take-out-kinds.ps _<_ μ-take-out t) take-out.Pre
+    and 5 take-out-kinds.ps (falls 5 take-out-kinds.ps _<_ μ-take-out t) take-out.Pre
 
 -- what the calls in `take-out` ask and tell, below the measure t
 abbrev take-out-calls : ℕ → take-out-lts.Claims
@@ -105,7 +106,7 @@ operand-forms-same-length-2 : (t : ℕ) → operand-forms-lts.Need-same-length-2
 operand-forms-same-length-2 t c = search needs
 
 operand-forms-returns : (t : ℕ) → operand-forms-lts.Need-returns (operand-forms-calls t) (operand-forms-at t) operand-forms.Post
-operand-forms-returns t c = search operand-walks
+operand-forms-returns t c = search (operand-walks, indexings)
 
 operand-forms-mul-u : (t : ℕ) → operand-forms-lts.Need-mul-u (operand-forms-calls t) (operand-forms-at t) operand-forms.Post
 operand-forms-mul-u t c = search needs
@@ -115,11 +116,11 @@ operand-forms-shared-slice-read-u t c = search needs
 
 operand-forms-prenex-forall-requires : (t : ℕ) → operand-forms-lts.Need-prenex-forall-requires (operand-forms-calls t) (operand-forms-at t) operand-forms.Post
 operand-forms-prenex-forall-requires t c κs =
-    let at-if1 = c .before .before .before .before .before in
+    let at-if1 = c .before .before .before .before .before .before in
     let at-operands = at-if1 .before in
     let start = at-operands .before .before .before .before .before .before .before in
-    let h = operand-before _ _ _ _ (start .pre .1 .1 .1 .1) _ (at-operands .operands .ensures) _ (at-if1 .if1 .left) in
-    (omega (arith, start .pre .0), (start .pre .1 .0, (start .pre .1 .1 .0, omega arith)))
+    let h = operand-before _ _ _ _ (start .pre .1 .1 .1 .1 .0) _ (at-operands .operands .ensures) _ (at-if1 .if1 .left) in
+    (omega (arith, start .pre .0), (start .pre .1 .0, (start .pre .1 .1 .0, (omega arith, start .pre .1 .1 .1 .1 .1))))
 
 operand-forms-enum-known-m : (t : ℕ) → operand-forms-lts.Need-enum-known-m (operand-forms-calls t) (operand-forms-at t) operand-forms.Post
 operand-forms-enum-known-m t c = search needs
@@ -140,22 +141,22 @@ operand-forms-same-length-6 : (t : ℕ) → operand-forms-lts.Need-same-length-6
 operand-forms-same-length-6 t c = search needs
 
 operand-forms-returns-2 : (t : ℕ) → operand-forms-lts.Need-returns-2 (operand-forms-calls t) (operand-forms-at t) operand-forms.Post
-operand-forms-returns-2 t c = search operand-walks
+operand-forms-returns-2 t c = search (operand-walks, indexings)
 
 operand-forms-add-operand-forms : (t : ℕ) → operand-forms-lts.Need-add-operand-forms (operand-forms-calls t) (operand-forms-at t) operand-forms.Post
 operand-forms-add-operand-forms t c = search needs
 
 operand-forms-operand-forms-requires : (t : ℕ) → operand-forms-lts.Need-operand-forms-requires (operand-forms-calls t) (operand-forms-at t) operand-forms.Post
 operand-forms-operand-forms-requires t c κs =
-    let at-m = c .before .before .before .before .before in
+    let at-m = c .before .before .before .before .before .before in
     let at-scratch = at-m .before .before .before in
     let at-memo = at-scratch .before .before in
     let at-prenex-forall = at-memo .before .before .before .before .before in
-    let at-if1 = at-prenex-forall .before .before .before .before .before .before in
+    let at-if1 = at-prenex-forall .before .before .before .before .before .before .before in
     let at-operands = at-if1 .before in
     let start = at-operands .before .before .before .before .before .before .before in
-    let j = at-prenex-forall .prenex-forall .ensures in
-    (omega (arith, run-short _ _ _ _ (start .pre .1 .0 .state) _ (start .pre .1 .1 .1 .0) _ (at-operands .operands .ensures), at-if1 .if1 .left, start .pre .0), (ready-after taken-out _ _ _ _ _ _ _ _ _ (j .formed) _ _ (at-m .m .given .1) (omega (arith, at-memo .memo .given, start .pre .1 .0 .room)), (omega (arith, at-scratch .scratch .given, start .pre .1 .1 .0), (start .pre .1 .1 .1 .0, before-same _ _ _ _ _ (j .formed .puts .left) _ (start .pre .1 .1 .1 .1)))))
+    let j = at-prenex-forall .prenex-forall .ensures .0 in
+    (omega (arith, run-short _ _ _ _ (start .pre .1 .0 .state) _ (start .pre .1 .1 .1 .0) _ (at-operands .operands .ensures), at-if1 .if1 .left, start .pre .0), (ready-after taken-out _ _ _ _ _ _ _ _ _ (j .formed) _ _ (at-m .m .given .1) (omega (arith, at-memo .memo .given, start .pre .1 .0 .room)), (omega (arith, at-scratch .scratch .given, start .pre .1 .1 .0), (start .pre .1 .1 .1 .0, (before-same _ _ _ _ _ (j .formed .puts .left) _ (start .pre .1 .1 .1 .1 .0), index-at _ _ _ _ _ _ (at-m .m .given .1) (at-prenex-forall .prenex-forall .ensures .1))))))
 
 operand-forms-same-length-7 : (t : ℕ) → operand-forms-lts.Need-same-length-7 (operand-forms-calls t) (operand-forms-at t) operand-forms.Post
 operand-forms-same-length-7 t c = search needs
@@ -172,11 +173,11 @@ operand-forms-same-length-10 t c = search needs
 operand-forms-returns-3 : (t : ℕ) → operand-forms-lts.Need-returns-3 (operand-forms-calls t) (operand-forms-at t) operand-forms.Post
 operand-forms-returns-3 t c =
     let at-operand-forms = c .before .before .before .before .before .before .before .before in
-    let at-m = at-operand-forms .before .before .before .before .before .before in
+    let at-m = at-operand-forms .before .before .before .before .before .before .before in
     let at-prenex-forall = at-m .before .before .before .before .before .before .before .before .before .before in
-    let at-if1 = at-prenex-forall .before .before .before .before .before .before in
+    let at-if1 = at-prenex-forall .before .before .before .before .before .before .before in
     let at-operands = at-if1 .before in
-    operands-next taken-out _ _ _ _ _ _ _ _ _ (at-operands .operands .ensures) (at-if1 .if1 .left) _ refl _ _ _ _ (at-prenex-forall .prenex-forall .ensures) _ _ (at-m .m .given .1) _ _ _ _ (at-operand-forms .operand-forms .ensures)
+    (operands-next taken-out _ _ _ _ _ _ _ _ _ (at-operands .operands .ensures) (at-if1 .if1 .left) _ refl _ _ _ _ (at-prenex-forall .prenex-forall .ensures .0) _ _ (at-m .m .given .1) _ _ _ _ (at-operand-forms .operand-forms .ensures .0), at-operand-forms .operand-forms .ensures .1)
 
 prenex-forall-slot-requires : (t : ℕ) → prenex-forall-lts.Need-slot-requires (prenex-forall-calls t) (prenex-forall-at t) prenex-forall.Post
 prenex-forall-slot-requires t c κs = search needs
@@ -184,20 +185,20 @@ prenex-forall-slot-requires t c κs = search needs
 prenex-forall-mul-known : (t : ℕ) → prenex-forall-lts.Need-mul-known (prenex-forall-calls t) (prenex-forall-at t) prenex-forall.Post
 prenex-forall-mul-known t c =
     let start = c .before .before .before .before .before in
-    let h = slot-first taken-out _ _ _ _ _ (start .pre .1 .0) _ (start .pre .1 .1 .1) _ (c .slot .ensures) in
+    let h = slot-first taken-out _ _ _ _ _ (start .pre .1 .0) _ (start .pre .1 .1 .1 .0) _ (c .slot .ensures) in
     search needs
 
 prenex-forall-slice-read-known : (t : ℕ) → prenex-forall-lts.Need-slice-read-known (prenex-forall-calls t) (prenex-forall-at t) prenex-forall.Post
 prenex-forall-slice-read-known t c =
     let start = c .before .before .before .before .before .before in
-    let h = slot-first taken-out _ _ _ _ _ (start .pre .1 .0) _ (start .pre .1 .1 .1) _ (c .before .slot .ensures) in
+    let h = slot-first taken-out _ _ _ _ _ (start .pre .1 .0) _ (start .pre .1 .1 .1 .0) _ (c .before .slot .ensures) in
     search needs
 
-prenex-forall-sub-t16 : (t : ℕ) → prenex-forall-lts.Need-sub-t16 (prenex-forall-calls t) (prenex-forall-at t) prenex-forall.Post
-prenex-forall-sub-t16 t c = search needs
+prenex-forall-sub-t17 : (t : ℕ) → prenex-forall-lts.Need-sub-t17 (prenex-forall-calls t) (prenex-forall-at t) prenex-forall.Post
+prenex-forall-sub-t17 t c = search needs
 
 prenex-forall-returns : (t : ℕ) → prenex-forall-lts.Need-returns (prenex-forall-calls t) (prenex-forall-at t) prenex-forall.Post
-prenex-forall-returns t c = search one-term
+prenex-forall-returns t c = search (one-term, indexings)
 
 prenex-forall-take-out-requires : (t : ℕ) → prenex-forall-lts.Need-take-out-requires (prenex-forall-calls t) (prenex-forall-at t) prenex-forall.Post
 prenex-forall-take-out-requires t c κs = search needs
@@ -223,28 +224,28 @@ prenex-forall-same-length-4 t c = search needs
 prenex-forall-returns-2 : (t : ℕ) → prenex-forall-lts.Need-returns-2 (prenex-forall-calls t) (prenex-forall-at t) prenex-forall.Post
 prenex-forall-returns-2 t c =
     let at-take-out = c .before .before .before .before .before .before .before .before .before .before in
-    let at-slot = at-take-out .before .before .before .before .before .before .before in
+    let at-slot = at-take-out .before .before .before .before .before .before .before .before in
     let start = at-slot .before .before .before .before .before in
-    form-full taken-out _ _ _ _ _ (start .pre .1 .0) _ _ (start .pre .1 .1 .1) _ (at-slot .slot .ensures) _ refl _ _ _ _ (at-take-out .take-out .ensures) (c .enum-told .given .1)
+    (form-full taken-out _ _ _ _ _ (start .pre .1 .0) _ _ (start .pre .1 .1 .1 .0) _ (at-slot .slot .ensures) _ refl _ _ _ _ (at-take-out .take-out .ensures .0) (c .enum-told .given .1), tt)
 
 prenex-forall-add-memo : (t : ℕ) → prenex-forall-lts.Need-add-memo (prenex-forall-calls t) (prenex-forall-at t) prenex-forall.Post
 prenex-forall-add-memo t c =
     let at-take-out = c .before .before .before .before .before .before .before .before .before .before .before in
-    let h = place-small taken-out _ _ _ _ _ _ _ _ _ (at-take-out .take-out .ensures) _ _ (c .before .p .given .1) in
+    let h = place-small taken-out _ _ _ _ _ _ _ _ _ (at-take-out .take-out .ensures .0) _ _ (c .before .p .given .1) in
     search needs
 
 prenex-forall-mul-memo : (t : ℕ) → prenex-forall-lts.Need-mul-memo (prenex-forall-calls t) (prenex-forall-at t) prenex-forall.Post
 prenex-forall-mul-memo t c =
-    let at-slot = c .before .before .before .before .before .before .before .before .before .before .before .before .before .before .before .before .before .before in
+    let at-slot = c .before .before .before .before .before .before .before .before .before .before .before .before .before .before .before .before .before .before .before in
     let start = at-slot .before .before .before .before .before in
-    let h = slot-first taken-out _ _ _ _ _ (start .pre .1 .0) _ (start .pre .1 .1 .1) _ (at-slot .slot .ensures) in
+    let h = slot-first taken-out _ _ _ _ _ (start .pre .1 .0) _ (start .pre .1 .1 .1 .0) _ (at-slot .slot .ensures) in
     search needs
 
 prenex-forall-slice-write-memo : (t : ℕ) → prenex-forall-lts.Need-slice-write-memo (prenex-forall-calls t) (prenex-forall-at t) prenex-forall.Post
 prenex-forall-slice-write-memo t c =
-    let at-slot = c .before .before .before .before .before .before .before .before .before .before .before .before .before .before .before .before .before .before in
+    let at-slot = c .before .before .before .before .before .before .before .before .before .before .before .before .before .before .before .before .before .before .before in
     let start = at-slot .before .before .before .before .before in
-    let h = slot-first taken-out _ _ _ _ _ (start .pre .1 .0) _ (start .pre .1 .1 .1) _ (at-slot .slot .ensures) in
+    let h = slot-first taken-out _ _ _ _ _ (start .pre .1 .0) _ (start .pre .1 .1 .1 .0) _ (at-slot .slot .ensures) in
     search needs
 
 prenex-forall-same-length-5 : (t : ℕ) → prenex-forall-lts.Need-same-length-5 (prenex-forall-calls t) (prenex-forall-at t) prenex-forall.Post
@@ -262,10 +263,10 @@ prenex-forall-same-length-8 t c = search needs
 prenex-forall-returns-3 : (t : ℕ) → prenex-forall-lts.Need-returns-3 (prenex-forall-calls t) (prenex-forall-at t) prenex-forall.Post
 prenex-forall-returns-3 t c =
     let at-take-out = c .before .before .before .before .before .before .before .before .before .before .before in
-    let at-if1 = at-take-out .before .before .before .before .before in
+    let at-if1 = at-take-out .before .before .before .before .before .before in
     let at-slot = at-if1 .before .before in
     let start = at-slot .before .before .before .before .before in
-    form-kept taken-out _ _ _ _ _ (start .pre .1 .0) _ _ (start .pre .1 .1 .1) _ (at-slot .slot .ensures) _ refl _ _ _ _ (at-take-out .take-out .ensures) (at-if1 .if1 .left) _ _ (c .before .p .given .1) (omega (arith, slot-first taken-out _ _ _ _ _ (start .pre .1 .0) _ (start .pre .1 .1 .1) _ (at-slot .slot .ensures)))
+    (form-kept taken-out _ _ _ _ _ (start .pre .1 .0) _ _ (start .pre .1 .1 .1 .0) _ (at-slot .slot .ensures) _ refl _ _ _ _ (at-take-out .take-out .ensures .0) (at-if1 .if1 .left) _ _ (c .before .p .given .1) (omega (arith, slot-first taken-out _ _ _ _ _ (start .pre .1 .0) _ (start .pre .1 .1 .1 .0) _ (at-slot .slot .ensures))), index-at _ _ _ _ _ _ (c .before .p .given .1) (at-take-out .take-out .ensures .1))
 
 take-out-slice-reshare-prefix-normal-view :
     (t : ℕ) → take-out-lts.Need-slice-reshare-prefix-normal-view (take-out-calls t) (take-out-at t) take-out.Post
@@ -292,21 +293,21 @@ take-out-enum-known-view t c = search needs
 
 take-out-prenex-forall-requires : (t : ℕ) → take-out-lts.Need-prenex-forall-requires (take-out-calls t) (take-out-at t) take-out.Post
 take-out-prenex-forall-requires t c κs =
-    let at-view = c .before .before .before .before .before in
+    let at-view = c .before .before .before .before .before .before in
     let at-normal-view = at-view .before .before in
     let start = at-normal-view .before .before .before .before .before .before .before in
-    let h = forall-below _ _ _ _ _ (start .pre .1 .0) _ (start .pre .1 .1 .1) _ (at-normal-view .normal-view .ensures) _ (at-view .view .given .1) in
-    (omega (arith, start .pre .0), (start .pre .1 .0, (start .pre .1 .1 .0, omega (arith, start .pre .1 .1 .1))))
+    let h = forall-below _ _ _ _ _ (start .pre .1 .0) _ (start .pre .1 .1 .1 .0) _ (at-normal-view .normal-view .ensures) _ (at-view .view .given .1) in
+    (omega (arith, start .pre .0), (start .pre .1 .0, (start .pre .1 .1 .0, (omega (arith, start .pre .1 .1 .1 .0), start .pre .1 .1 .1 .1))))
 
 take-out-enum-known-view-2 : (t : ℕ) → take-out-lts.Need-enum-known-view-2 (take-out-calls t) (take-out-at t) take-out.Post
 take-out-enum-known-view-2 t c = search needs
 
 take-out-operand-forms-requires : (t : ℕ) → take-out-lts.Need-operand-forms-requires (take-out-calls t) (take-out-at t) take-out.Post
 take-out-operand-forms-requires t c κs =
-    let at-view2 = c .before .before .before .before .before in
+    let at-view2 = c .before .before .before .before .before .before in
     let at-normal-view = at-view2 .before .before in
     let start = at-normal-view .before .before .before .before .before .before .before in
-    (omega (arith, start .pre .0), (start .pre .1 .0, (start .pre .1 .1 .0, (start .pre .1 .1 .1, connective-before _ _ _ _ _ (start .pre .1 .0) _ (start .pre .1 .1 .1) _ (at-normal-view .normal-view .ensures) _ (at-view2 .view2 .given .1)))))
+    (omega (arith, start .pre .0), (start .pre .1 .0, (start .pre .1 .1 .0, (start .pre .1 .1 .1 .0, (connective-before _ _ _ _ _ (start .pre .1 .0) _ (start .pre .1 .1 .1 .0) _ (at-normal-view .normal-view .ensures) _ (at-view2 .view2 .given .1), start .pre .1 .1 .1 .1)))))
 
 take-out-enum-known-m : (t : ℕ) → take-out-lts.Need-enum-known-m (take-out-calls t) (take-out-at t) take-out.Post
 take-out-enum-known-m t c = search needs
@@ -327,15 +328,20 @@ take-out-same-length-4 : (t : ℕ) → take-out-lts.Need-same-length-4 (take-out
 take-out-same-length-4 t c = search needs
 
 take-out-returns : (t : ℕ) → take-out-lts.Need-returns (take-out-calls t) (take-out-at t) take-out.Post
-take-out-returns t c = search takes
+take-out-returns t c =
+    let at-operand-forms = c .before .before .before .before .before .before .before .before .before .before in
+    let at-view2 = at-operand-forms .before .before .before .before .before .before .before in
+    let at-normal-view = at-view2 .before .before in
+    let start = at-normal-view .before .before .before .before .before .before .before in
+    (take-full _ _ _ _ _ (start .pre .1 .0) _ (start .pre .1 .1 .1 .0) _ (at-normal-view .normal-view .ensures) _ (at-view2 .view2 .given .1) _ _ _ _ (at-operand-forms .operand-forms .ensures .0) (c .enum-told2 .given .1), tt)
 
 take-out-put-many-requires : (t : ℕ) → take-out-lts.Need-put-many-requires (take-out-calls t) (take-out-at t) take-out.Post
 take-out-put-many-requires t c κs =
-    let at-m = c .before .before .before .before .before in
+    let at-m = c .before .before .before .before .before .before in
     let at-scratch2 = at-m .before .before .before in
     let at-operand-forms = at-scratch2 .before .before .before .before .before .before .before in
-    let start = at-operand-forms .before .before .before .before .before .before .before .before .before .before .before .before .before .before .before in
-    (state-after taken-out _ _ _ _ _ _ _ _ _ (at-operand-forms .operand-forms .ensures .builds) _ _ (at-m .m .given .1), (omega (arith, at-scratch2 .scratch2 .given, start .pre .1 .1 .0), start .pre .1 .1 .1))
+    let start = at-operand-forms .before .before .before .before .before .before .before .before .before .before .before .before .before .before .before .before in
+    (state-after taken-out _ _ _ _ _ _ _ _ _ (at-operand-forms .operand-forms .ensures .0 .builds) _ _ (at-m .m .given .1), (omega (arith, at-scratch2 .scratch2 .given, start .pre .1 .1 .0), (start .pre .1 .1 .1 .0, index-at _ _ _ _ _ _ (at-m .m .given .1) (at-operand-forms .operand-forms .ensures .1))))
 
 take-out-same-length-5 : (t : ℕ) → take-out-lts.Need-same-length-5 (take-out-calls t) (take-out-at t) take-out.Post
 take-out-same-length-5 t c = search needs
@@ -344,7 +350,7 @@ take-out-same-length-6 : (t : ℕ) → take-out-lts.Need-same-length-6 (take-out
 take-out-same-length-6 t c = search needs
 
 take-out-returns-2 : (t : ℕ) → take-out-lts.Need-returns-2 (take-out-calls t) (take-out-at t) take-out.Post
-take-out-returns-2 t c = search takes
+take-out-returns-2 t c = search (takes, indexings)
 
 take-out-same-length-7 : (t : ℕ) → take-out-lts.Need-same-length-7 (take-out-calls t) (take-out-at t) take-out.Post
 take-out-same-length-7 t c = search needs
@@ -359,7 +365,7 @@ take-out-same-length-10 : (t : ℕ) → take-out-lts.Need-same-length-10 (take-o
 take-out-same-length-10 t c = search needs
 
 take-out-returns-3 : (t : ℕ) → take-out-lts.Need-returns-3 (take-out-calls t) (take-out-at t) take-out.Post
-take-out-returns-3 t c = search takes
+take-out-returns-3 t c = search (takes, indexings)
 
 take-out-same-length-11 : (t : ℕ) → take-out-lts.Need-same-length-11 (take-out-calls t) (take-out-at t) take-out.Post
 take-out-same-length-11 t c = search needs
@@ -376,12 +382,12 @@ take-out-same-length-14 t c = search needs
 take-out-returns-4 : (t : ℕ) → take-out-lts.Need-returns-4 (take-out-calls t) (take-out-at t) take-out.Post
 take-out-returns-4 t c =
     let at-put-many = c .before .before .before .before .before .before in
-    let at-m = at-put-many .before .before .before .before .before .before in
+    let at-m = at-put-many .before .before .before .before .before .before .before in
     let at-operand-forms = at-m .before .before .before .before .before .before .before .before .before .before in
-    let at-view2 = at-operand-forms .before .before .before .before .before .before in
+    let at-view2 = at-operand-forms .before .before .before .before .before .before .before in
     let at-normal-view = at-view2 .before .before in
     let start = at-normal-view .before .before .before .before .before .before .before in
-    take-put _ _ _ _ _ (start .pre .1 .0) _ (start .pre .1 .1 .1) _ (at-normal-view .normal-view .ensures) _ (at-view2 .view2 .given .1) _ _ _ _ (at-operand-forms .operand-forms .ensures) _ _ (at-m .m .given .1) _ _ _ (at-put-many .put-many .ensures)
+    (take-put _ _ _ _ _ (start .pre .1 .0) _ (start .pre .1 .1 .1 .0) _ (at-normal-view .normal-view .ensures) _ (at-view2 .view2 .given .1) _ _ _ _ (at-operand-forms .operand-forms .ensures .0) _ _ (at-m .m .given .1) _ _ _ (at-put-many .put-many .ensures .0), at-put-many .put-many .ensures .1)
 
 pub +operand-forms+prenex-forall+take-out-spec : {M : Type 1} → statement M
 +operand-forms+prenex-forall+take-out-spec =
@@ -419,7 +425,7 @@ pub +operand-forms+prenex-forall+take-out-spec : {M : Type 1} → statement M
     (prenex-forall-slot-requires t)
     (prenex-forall-mul-known t)
     (prenex-forall-slice-read-known t)
-    (prenex-forall-sub-t16 t)
+    (prenex-forall-sub-t17 t)
     (prenex-forall-returns t)
     (prenex-forall-take-out-requires t)
     (prenex-forall-enum-known-p t)

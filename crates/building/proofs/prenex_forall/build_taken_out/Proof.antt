@@ -1,3 +1,4 @@
+use Rattle.building.proofs.build.Indexing.{indexings}
 use native.Mathlib.Omega.{arith}
 use Rattle.building.proofs.prenex_forall.Laws.{taken-built}
 use Rattle.building.specs.Walk.{taken-out}
@@ -13,7 +14,7 @@ slice-aggregate-prenex-forall-2 : tie.Need-slice-aggregate-prenex-forall-2
 slice-aggregate-prenex-forall-2 c = search needs
 
 prenex-forall-requires : tie.Need-prenex-forall-requires
-prenex-forall-requires c κs = (ready-first _ _ _ (c .before .before .before .before .before .before .pre .0) taken-out 8192 (omega arith), (zeros-long 8192, c .before .before .before .before .before .before .pre .1))
+prenex-forall-requires c κs = (ready-first _ _ _ (c .before .before .before .before .before .before .before .pre .0) taken-out 8192 (omega arith), (zeros-long 8192, c .before .before .before .before .before .before .before .pre .1))
 
 same-length : tie.Need-same-length
 same-length c = search needs
@@ -22,7 +23,7 @@ same-length-2 : tie.Need-same-length-2
 same-length-2 c = search needs
 
 returns : tie.Need-returns
-returns c = search taken-built
+returns c = search (taken-built, indexings)
 
 pub build-taken-out-spec : {M : Type 1} → statement M
 build-taken-out-spec =

@@ -6,6 +6,9 @@ use Rattle.clauses.proofs.clause_list.list_counted.Tie as tie
 list-totals-requires : tie.Need-list-totals-requires
 list-totals-requires c κs = search needs
 
+refused-requires : tie.Need-refused-requires
+refused-requires c κs = search needs
+
 same-length : tie.Need-same-length
 same-length c = search needs
 
@@ -14,6 +17,9 @@ same-length-2 c = search needs
 
 returns : tie.Need-returns
 returns c = search counted-answers
+
+refused-requires-2 : tie.Need-refused-requires-2
+refused-requires-2 c κs = search needs
 
 same-length-3 : tie.Need-same-length-3
 same-length-3 c = search needs
@@ -24,8 +30,11 @@ same-length-4 c = search needs
 returns-2 : tie.Need-returns-2
 returns-2 c = search counted-answers
 
-write-clauses-requires : tie.Need-write-clauses-requires
-write-clauses-requires c κs = search fits-ask
+write-list-requires : tie.Need-write-list-requires
+write-list-requires c κs = search fits-ask
+
+accepted-requires : tie.Need-accepted-requires
+accepted-requires c κs = search needs
 
 same-length-5 : tie.Need-same-length-5
 same-length-5 c = search needs
@@ -47,13 +56,16 @@ list-counted-spec =
     tie.close
     (tie.spec
     list-totals-requires
+    refused-requires
     same-length
     same-length-2
     returns
+    refused-requires-2
     same-length-3
     same-length-4
     returns-2
-    write-clauses-requires
+    write-list-requires
+    accepted-requires
     same-length-5
     same-length-6
     same-length-7

@@ -9,6 +9,9 @@ cut-back-requires c κs = search needs
 empty-or-requires : tie.Need-empty-or-requires
 empty-or-requires c κs = search needs
 
+refused-requires : tie.Need-refused-requires
+refused-requires c κs = search needs
+
 same-length : tie.Need-same-length
 same-length c = search needs
 
@@ -19,7 +22,10 @@ returns : tie.Need-returns
 returns c = search list-answers
 
 list-counted-requires : tie.Need-list-counted-requires
-list-counted-requires c κs = search list-ready
+list-counted-requires c κs =
+    let cut = c .before .before .before .before .before .before .before .before .before .before in
+    let start = cut .before .before .before .before .before .before .before .before .before in
+    list-ready _ _ _ _ (cut .cut-back .ensures) _ _ _ _ (start .pre .0) (start .pre .1)
 
 same-length-3 : tie.Need-same-length-3
 same-length-3 c = search needs
@@ -42,6 +48,7 @@ list-with-spec =
     (tie.spec
     cut-back-requires
     empty-or-requires
+    refused-requires
     same-length
     same-length-2
     returns

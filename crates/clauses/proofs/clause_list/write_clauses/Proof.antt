@@ -1,29 +1,25 @@
 use borrow.Author.Needs.{needs}
 use Rattle.clauses.proofs.clause_list.Laws.{Wrote, wrotes, wrote-ask, wrote-place, wrote-fits}
 use Prim.Native.Nat.{_-_}
-use lib.ListN.{length}
 use Rattle.formulas.specs.Clauses.{cnf}
 use Rattle.clauses.specs.ClauseWalk.{formAt}
 use Rattle.clauses.proofs.clause_list.write_clauses.Statement.{statement}
 use Rattle.clauses.proofs.clause_list.write_clauses.Tie as tie
 
 abbrev Inv-loop : tie.InvT-loop
-Inv-loop tags values counts x total literals₀ ends₀ i₀ at₀ literals ends i at = Wrote (cnf (formAt tags values (x .0))) (length literals₀) (length ends₀) literals ends i at
+Inv-loop tags values counts x total literals₀ ends₀ k₀ i₀ at₀ literals ends k i at = Wrote (cnf (formAt tags values (x .0))) literals₀ ends₀ i₀ at₀ literals ends k i at
 
 abbrev μ-loop : tie.MeasureT-loop
-μ-loop tags values counts x total literals₀ ends₀ i₀ at₀ literals ends i at = total - i
+μ-loop tags values counts x total literals₀ ends₀ k₀ i₀ at₀ literals ends k i at = total - k
 
 loop-holds : tie.Need-loop-holds Inv-loop μ-loop
-loop-holds c = search wrotes
+loop-holds c = search (wrotes, needs)
 
 write-clause-requires : tie.Need-write-clause-requires Inv-loop μ-loop
 write-clause-requires c κs = search wrote-ask
 
 cast-ends : tie.Need-cast-ends Inv-loop μ-loop
 cast-ends c = search wrote-fits
-
-cast-ends-2 : tie.Need-cast-ends-2 Inv-loop μ-loop
-cast-ends-2 c = search needs
 
 mul-ends : tie.Need-mul-ends Inv-loop μ-loop
 mul-ends c = search needs
@@ -34,11 +30,14 @@ slice-write-ends c = search wrote-place
 add-i : tie.Need-add-i Inv-loop μ-loop
 add-i c = search needs
 
+add-k : tie.Need-add-k Inv-loop μ-loop
+add-k c = search needs
+
 loop-less : tie.Need-loop-less Inv-loop μ-loop
 loop-less c = search needs
 
 loop-again : tie.Need-loop-again Inv-loop μ-loop
-loop-again c = search wrotes
+loop-again c = search (wrotes, needs)
 
 same-length : tie.Need-same-length Inv-loop μ-loop
 same-length c = search needs
@@ -47,7 +46,7 @@ same-length-2 : tie.Need-same-length-2 Inv-loop μ-loop
 same-length-2 c = search needs
 
 returns : tie.Need-returns Inv-loop μ-loop
-returns c = search wrotes
+returns c = search (wrotes, needs)
 
 pub write-clauses-spec : {M : Type 1} → statement M
 write-clauses-spec =
@@ -58,10 +57,10 @@ write-clauses-spec =
     loop-holds
     write-clause-requires
     cast-ends
-    cast-ends-2
     mul-ends
     slice-write-ends
     add-i
+    add-k
     loop-less
     loop-again
     same-length

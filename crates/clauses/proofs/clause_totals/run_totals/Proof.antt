@@ -1,5 +1,5 @@
 use borrow.Author.Needs.{needs}
-use Rattle.clauses.proofs.clause_totals.Laws.{folds, Folded}
+use Rattle.clauses.proofs.clause_totals.Laws.{folds, fold-counted, Folded}
 use Rattle.clauses.specs.ClauseWalk.{asTotals, memoAt}
 use Rattle.clauses.proofs.clause_totals.run_totals.Statement.{statement}
 use Rattle.clauses.proofs.clause_totals.run_totals.Tie as tie
@@ -26,7 +26,7 @@ shared-slice-read-noted : tie.Need-shared-slice-read-noted Inv-loop μ-loop
 shared-slice-read-noted c = search needs
 
 noted-requires : tie.Need-noted-requires Inv-loop μ-loop
-noted-requires c κs = search needs
+noted-requires c κs = search fold-counted
 
 combine-requires : tie.Need-combine-requires Inv-loop μ-loop
 combine-requires c κs = search needs

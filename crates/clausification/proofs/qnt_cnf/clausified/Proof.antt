@@ -1,12 +1,13 @@
 use native.Mathlib.Omega.{arith}
 use Rattle.building.proofs.Clausal.{normal-state, normal-below}
 use Rattle.clausification.proofs.qnt_cnf.Clauses.{sides-state, sides-below, parts, source-within, source-within-values, source-part, source-part-values, lent, clausified-full, clausified-full-out, clausified-refused, clausified-follows}
+use Rattle.building.proofs.build.Indexing.{index-at}
 use borrow.Author.Needs.{needs}
 use Rattle.clausification.proofs.qnt_cnf.clausified.Statement.{statement}
 use Rattle.clausification.proofs.qnt_cnf.clausified.Tie as tie
 
 build-normal-form-requires : tie.Need-build-normal-form-requires
-build-normal-form-requires c κs = (search sides-state, search sides-below)
+build-normal-form-requires c κs = (search sides-state, (search sides-below, search needs))
 
 enum-known-x : tie.Need-enum-known-x
 enum-known-x c = search needs
@@ -27,7 +28,7 @@ returns : tie.Need-returns
 returns c = search clausified-full
 
 build-taken-out-requires : tie.Need-build-taken-out-requires
-build-taken-out-requires c κs = (search normal-state, search normal-below)
+build-taken-out-requires c κs = (search normal-state, (search normal-below, search index-at))
 
 enum-known-y : tie.Need-enum-known-y
 enum-known-y c = search needs
@@ -76,25 +77,25 @@ same-length-6 c = search needs
 
 returns-3 : tie.Need-returns-3
 returns-3 c =
-    clausified-refused _ _ _ _ _ _ _ (c .before .before .before .before .before .before .before .before .before .before .before .before .before .before .before .before .before .before .before .before .before .before .before .before .before .before .before .before .before .before .before .pre) _ _ _ (c .before .before .before .before .before .before .before .before .before .before .before .before .before .before .before .before .before .before .before .before .before .before .before .before .before .before .build-normal-form .ensures) _ _ (c .before .before .before .before .before .before .before .before .before .before .before .before .before .before .before .before .before .before .before .before .x .given .1)
-    _ _ _ (c .before .before .before .before .before .before .before .before .before .before .before .before .before .before .before .before .build-taken-out .ensures) (omega (arith, c .before .before .before .before .before .before .before .before .before .before .before .before .before .before .before .before .before .before .before .before .before .before .before .before .before .tags .given)) (omega (arith, c .before .before .before .before .before .before .before .before .before .before .before .before .before .before .before .before .before .before .before .before .before .before .before .values .given)) _ _ (c .before .before .before .before .before .before .before .before .before .before .y .given .1)
-    (omega (arith, c .before .before .before .before .before .before .before .before .before .before .before .before .before .before .before .before .before .before .before .before .before .before .before .before .before .tags .given, c .before .before .before .before .before .before .before .before .before .before .before .before .before .before .before .tags2 .given)) (omega (arith, c .before .before .before .before .before .before .before .before .before .before .before .before .before .before .before .before .before .before .before .before .before .before .before .values .given, c .before .before .before .before .before .before .before .before .before .before .before .before .before .values2 .given))
+    clausified-refused _ _ _ _ _ _ _ (c .before .before .before .before .before .before .before .before .before .before .before .before .before .before .before .before .before .before .before .before .before .before .before .before .before .before .before .before .before .before .before .before .before .before .pre .1) _ _ _ (c .before .before .before .before .before .before .before .before .before .before .before .before .before .before .before .before .before .before .before .before .before .before .before .before .before .before .before .build-normal-form .ensures .0) _ _ (c .before .before .before .before .before .before .before .before .before .before .before .before .before .before .before .before .before .before .before .before .before .x .given .1)
+    _ _ _ (c .before .before .before .before .before .before .before .before .before .before .before .before .before .before .before .before .build-taken-out .ensures .0) (omega (arith, c .before .before .before .before .before .before .before .before .before .before .before .before .before .before .before .before .before .before .before .before .before .before .before .before .before .before .tags .given)) (omega (arith, c .before .before .before .before .before .before .before .before .before .before .before .before .before .before .before .before .before .before .before .before .before .before .before .before .values .given)) _ _ (c .before .before .before .before .before .before .before .before .before .before .y .given .1)
+    (omega (arith, c .before .before .before .before .before .before .before .before .before .before .before .before .before .before .before .before .before .before .before .before .before .before .before .before .before .before .tags .given, c .before .before .before .before .before .before .before .before .before .before .before .before .before .before .before .tags2 .given)) (omega (arith, c .before .before .before .before .before .before .before .before .before .before .before .before .before .before .before .before .before .before .before .before .before .before .before .before .values .given, c .before .before .before .before .before .before .before .before .before .before .before .before .before .values2 .given))
     _ _ _ (c .before .before .before .before .list-clauses .ensures) (c .if1 .taken)
 
 cast-count : tie.Need-cast-count
 cast-count c = search needs
 
 slice-reshare-prefix-clause-follows : tie.Need-slice-reshare-prefix-clause-follows
-slice-reshare-prefix-clause-follows c = source-within _ _ _ _ _ _ _ (c .before .before .before .before .before .before .before .before .before .before .before .before .before .before .before .before .before .build-taken-out .ensures) _ _ (c .before .before .before .before .before .before .before .before .before .before .before .y .given .1)
+slice-reshare-prefix-clause-follows c = source-within _ _ _ _ _ _ _ (c .before .before .before .before .before .before .before .before .before .before .before .before .before .before .before .before .before .build-taken-out .ensures .0) _ _ (c .before .before .before .before .before .before .before .before .before .before .before .y .given .1)
 
 slice-aggregate-clause-follows : tie.Need-slice-aggregate-clause-follows
-slice-aggregate-clause-follows c = source-part _ _ _ _ _ _ _ (c .before .before .before .before .before .before .before .before .before .before .before .before .before .before .before .before .before .before .build-taken-out .ensures) _ _ (c .before .before .before .before .before .before .before .before .before .before .before .before .y .given .1)
+slice-aggregate-clause-follows c = source-part _ _ _ _ _ _ _ (c .before .before .before .before .before .before .before .before .before .before .before .before .before .before .before .before .before .before .build-taken-out .ensures .0) _ _ (c .before .before .before .before .before .before .before .before .before .before .before .before .y .given .1)
 
 slice-reshare-prefix-clause-follows-2 : tie.Need-slice-reshare-prefix-clause-follows-2
-slice-reshare-prefix-clause-follows-2 c = source-within-values _ _ _ _ _ _ _ (c .before .before .before .before .before .before .before .before .before .before .before .before .before .before .before .before .before .before .build-taken-out .ensures) _ _ (c .before .before .before .before .before .before .before .before .before .before .before .before .y .given .1)
+slice-reshare-prefix-clause-follows-2 c = source-within-values _ _ _ _ _ _ _ (c .before .before .before .before .before .before .before .before .before .before .before .before .before .before .before .before .before .before .build-taken-out .ensures .0) _ _ (c .before .before .before .before .before .before .before .before .before .before .before .before .y .given .1)
 
 slice-aggregate-clause-follows-2 : tie.Need-slice-aggregate-clause-follows-2
-slice-aggregate-clause-follows-2 c = source-part-values _ _ _ _ _ _ _ (c .before .before .before .before .before .before .before .before .before .before .before .before .before .before .before .before .before .before .before .build-taken-out .ensures) _ _ (c .before .before .before .before .before .before .before .before .before .before .before .before .before .y .given .1)
+slice-aggregate-clause-follows-2 c = source-part-values _ _ _ _ _ _ _ (c .before .before .before .before .before .before .before .before .before .before .before .before .before .before .before .before .before .before .before .build-taken-out .ensures .0) _ _ (c .before .before .before .before .before .before .before .before .before .before .before .before .before .y .given .1)
 
 slice-aggregate-clause-follows-3 : tie.Need-slice-aggregate-clause-follows-3
 slice-aggregate-clause-follows-3 c = search needs
@@ -106,16 +107,16 @@ clause-follows-requires : tie.Need-clause-follows-requires
 clause-follows-requires c κs = search needs
 
 same-length-7 : tie.Need-same-length-7
-same-length-7 c = omega (arith, c .before .before .before .before .before .before .before .before .before .before .before .before .before .before .before .before .before .before .before .before .before .before .before .before .before .before .before .before .before .before .before .tags .given, c .before .before .before .before .before .before .before .before .before .before .before .before .before .before .before .before .before .before .before .before .before .tags2 .given)
+same-length-7 c = omega (arith, c .before .before .before .before .before .before .before .before .before .before .before .before .before .before .before .before .before .before .before .before .before .before .before .before .before .before .before .before .before .before .before .before .tags .given, c .before .before .before .before .before .before .before .before .before .before .before .before .before .before .before .before .before .before .before .before .before .tags2 .given)
 
 same-length-8 : tie.Need-same-length-8
-same-length-8 c = omega (arith, c .before .before .before .before .before .before .before .before .before .before .before .before .before .before .before .before .before .before .before .before .before .before .before .before .before .before .before .before .before .values .given, c .before .before .before .before .before .before .before .before .before .before .before .before .before .before .before .before .before .before .before .values2 .given)
+same-length-8 c = omega (arith, c .before .before .before .before .before .before .before .before .before .before .before .before .before .before .before .before .before .before .before .before .before .before .before .before .before .before .before .before .before .before .values .given, c .before .before .before .before .before .before .before .before .before .before .before .before .before .before .before .before .before .before .before .values2 .given)
 
 returns-4 : tie.Need-returns-4
 returns-4 c =
-    clausified-follows _ _ _ _ _ _ _ (c .before .before .before .before .before .before .before .before .before .before .before .before .before .before .before .before .before .before .before .before .before .before .before .before .before .before .before .before .before .before .before .before .before .before .before .before .before .pre) _ _ _ (c .before .before .before .before .before .before .before .before .before .before .before .before .before .before .before .before .before .before .before .before .before .before .before .before .before .before .before .before .before .before .before .before .build-normal-form .ensures) _ _ (c .before .before .before .before .before .before .before .before .before .before .before .before .before .before .before .before .before .before .before .before .before .before .before .before .before .before .x .given .1)
-    _ _ _ (c .before .before .before .before .before .before .before .before .before .before .before .before .before .before .before .before .before .before .before .before .before .before .build-taken-out .ensures) (omega (arith, c .before .before .before .before .before .before .before .before .before .before .before .before .before .before .before .before .before .before .before .before .before .before .before .before .before .before .before .before .before .before .before .tags .given)) (omega (arith, c .before .before .before .before .before .before .before .before .before .before .before .before .before .before .before .before .before .before .before .before .before .before .before .before .before .before .before .before .before .values .given)) _ _ (c .before .before .before .before .before .before .before .before .before .before .before .before .before .before .before .before .y .given .1)
-    (omega (arith, c .before .before .before .before .before .before .before .before .before .before .before .before .before .before .before .before .before .before .before .before .before .before .before .before .before .before .before .before .before .before .before .tags .given, c .before .before .before .before .before .before .before .before .before .before .before .before .before .before .before .before .before .before .before .before .before .tags2 .given)) (omega (arith, c .before .before .before .before .before .before .before .before .before .before .before .before .before .before .before .before .before .before .before .before .before .before .before .before .before .before .before .before .before .values .given, c .before .before .before .before .before .before .before .before .before .before .before .before .before .before .before .before .before .before .before .values2 .given))
+    clausified-follows _ _ _ _ _ _ _ (c .before .before .before .before .before .before .before .before .before .before .before .before .before .before .before .before .before .before .before .before .before .before .before .before .before .before .before .before .before .before .before .before .before .before .before .before .before .before .before .before .pre .1) _ _ _ (c .before .before .before .before .before .before .before .before .before .before .before .before .before .before .before .before .before .before .before .before .before .before .before .before .before .before .before .before .before .before .before .before .before .build-normal-form .ensures .0) _ _ (c .before .before .before .before .before .before .before .before .before .before .before .before .before .before .before .before .before .before .before .before .before .before .before .before .before .before .before .x .given .1)
+    _ _ _ (c .before .before .before .before .before .before .before .before .before .before .before .before .before .before .before .before .before .before .before .before .before .before .build-taken-out .ensures .0) (omega (arith, c .before .before .before .before .before .before .before .before .before .before .before .before .before .before .before .before .before .before .before .before .before .before .before .before .before .before .before .before .before .before .before .before .tags .given)) (omega (arith, c .before .before .before .before .before .before .before .before .before .before .before .before .before .before .before .before .before .before .before .before .before .before .before .before .before .before .before .before .before .before .values .given)) _ _ (c .before .before .before .before .before .before .before .before .before .before .before .before .before .before .before .before .y .given .1)
+    (omega (arith, c .before .before .before .before .before .before .before .before .before .before .before .before .before .before .before .before .before .before .before .before .before .before .before .before .before .before .before .before .before .before .before .before .tags .given, c .before .before .before .before .before .before .before .before .before .before .before .before .before .before .before .before .before .before .before .before .before .tags2 .given)) (omega (arith, c .before .before .before .before .before .before .before .before .before .before .before .before .before .before .before .before .before .before .before .before .before .before .before .before .before .before .before .before .before .before .values .given, c .before .before .before .before .before .before .before .before .before .before .before .before .before .before .before .before .before .before .before .values2 .given))
     _ _ _ (c .before .before .before .before .before .before .before .before .before .before .list-clauses .ensures) (c .before .before .before .before .before .before .if1 .left) _ (c .clause-follows .ensures)
 
 pub clausified-spec : {M : Type 1} → statement M

@@ -17,25 +17,25 @@ use Rattle.clausification.proofs.taken_variables.note.Reads as note-rea
 use Rattle.clausification.proofs.taken_variables.+from_run+from_term.{statement}
 use Rattle.clausification.proofs.taken_variables.+from_run+from_term.Tie.{close}
 
-abbrev μ-from-run : Measures 5 from-run-kinds.ps ℕ
-μ-from-run κs a = a .1 .1 .1 .1 .1 .1 .0 * 2 ^ 65 + length (a .1 .1 .1 .1 .1 .1 .1 .0 .now)
+abbrev μ-from-run : Measures 6 from-run-kinds.ps ℕ
+μ-from-run κs a = a .1 .1 .1 .1 .1 .1 .1 .0 * 2 ^ 65 + length (a .1 .1 .1 .1 .1 .1 .1 .1 .0 .now)
 
-abbrev μ-from-term : Measures 4 from-term-kinds.ps ℕ
-μ-from-term κs a = a .1 .1 .1 .1 .1 .1 .0 * 2 ^ 65 + 2 ^ 64
+abbrev μ-from-term : Measures 5 from-term-kinds.ps ℕ
+μ-from-term κs a = a .1 .1 .1 .1 .1 .1 .1 .0 * 2 ^ 65 + 2 ^ 64
 
-abbrev from-run-at : ℕ → In 5 from-run-kinds.ps
-from-run-at t = and 5 from-run-kinds.ps (is 5 from-run-kinds.ps μ-from-run t) from-run.Pre
+abbrev from-run-at : ℕ → In 6 from-run-kinds.ps
+from-run-at t = and 6 from-run-kinds.ps (is 6 from-run-kinds.ps μ-from-run t) from-run.Pre
 
-abbrev from-run-below : ℕ → In 5 from-run-kinds.ps
+abbrev from-run-below : ℕ → In 6 from-run-kinds.ps
 from-run-below t =
-    and 5 from-run-kinds.ps (falls 5 from-run-kinds.ps _<_ μ-from-run t) from-run.Pre
+    and 6 from-run-kinds.ps (falls 6 from-run-kinds.ps _<_ μ-from-run t) from-run.Pre
 
-abbrev from-term-at : ℕ → In 4 from-term-kinds.ps
-from-term-at t = and 4 from-term-kinds.ps (is 4 from-term-kinds.ps μ-from-term t) from-term.Pre
+abbrev from-term-at : ℕ → In 5 from-term-kinds.ps
+from-term-at t = and 5 from-term-kinds.ps (is 5 from-term-kinds.ps μ-from-term t) from-term.Pre
 
-abbrev from-term-below : ℕ → In 4 from-term-kinds.ps
+abbrev from-term-below : ℕ → In 5 from-term-kinds.ps
 from-term-below t =
-    and 4 from-term-kinds.ps (falls 4 from-term-kinds.ps _<_ μ-from-term t) from-term.Pre
+    and 5 from-term-kinds.ps (falls 5 from-term-kinds.ps _<_ μ-from-term t) from-term.Pre
 
 -- what the calls in `from-term` ask and tell, below the measure t
 abbrev from-term-calls : ℕ → from-term-lts.Claims
@@ -53,9 +53,9 @@ from-run-shared-slice-read-from-term t c = search needs
 
 from-run-from-term-requires : (t : ℕ) → from-run-lts.Need-from-term-requires (from-run-calls t) (from-run-at t) from-run.Post
 from-run-from-term-requires t c κs =
-    let start = c .before .before .before .before .before .before .before .before in
-    let h = head-before _ _ (start .pre .1 .1) (c .before .before .if1 .left) in
-    (omega (arith, start .pre .0), start .pre .1 .0)
+    let start = c .before .before .before .before .before .before .before .before .before in
+    let h = head-before _ _ (start .pre .1 .2) (c .before .before .if1 .left) in
+    (omega (arith, start .pre .0), (start .pre .1 .0, start .pre .1 .1))
 
 from-run-enum-known-f : (t : ℕ) → from-run-lts.Need-enum-known-f (from-run-calls t) (from-run-at t) from-run.Post
 from-run-enum-known-f t c = search needs
@@ -75,8 +75,8 @@ from-run-part-from-run-end t c = search needs
 from-run-from-run-requires : (t : ℕ) → from-run-lts.Need-from-run-requires (from-run-calls t) (from-run-at t) from-run.Post
 from-run-from-run-requires t c κs =
     let at-if1 = c .before .before .before .before .before .before .before .before .before in
-    let start = at-if1 .before .before .before .before .before .before in
-    (search needs, (search needs, rest-before _ _ (start .pre .1 .1) (at-if1 .if1 .left)))
+    let start = at-if1 .before .before .before .before .before .before .before in
+    (search needs, (start .pre .1 .0, search needs, rest-before _ _ (start .pre .1 .2) (at-if1 .if1 .left)))
 
 from-run-same-length : (t : ℕ) → from-run-lts.Need-same-length (from-run-calls t) (from-run-at t) from-run.Post
 from-run-same-length t c = search needs
@@ -122,7 +122,7 @@ from-term-operands-requires t c κs = search needs
 from-term-from-run-requires : (t : ℕ) → from-term-lts.Need-from-run-requires (from-term-calls t) (from-term-at t) from-term.Post
 from-term-from-run-requires t c κs =
     let at-told = c .before .before in
-    (search needs, (search needs, step-before _ _ _ _ _ (at-told .before .before .look .ensures) (at-told .enum-told2 .given .1) _ (c .before .operands .ensures)))
+    (search needs, (search needs, search needs, step-before _ _ _ _ _ (at-told .before .before .look .ensures) (at-told .enum-told2 .given .1) _ (c .before .operands .ensures)))
 
 from-term-note-requires-3 : (t : ℕ) → from-term-lts.Need-note-requires-3 (from-term-calls t) (from-term-at t) from-term.Post
 from-term-note-requires-3 t c κs = search needs

@@ -10,10 +10,10 @@ use Rattle.clausification.proofs.taken_variables.first_sought.Statement
 use Rattle.clausification.proofs.taken_variables.first_sought.Tie as tie
 
 abbrev Inv-loop : tie.InvT-loop
-Inv-loop tags values n right sought list i₀ i = (i ≤ length list) × (nameOf (firstOf (isSought tags values n (bindingsOf right) sought) (bindingsOf list)) ≡ nameOf (firstOf (isSought tags values n (bindingsOf right) sought) (bindingsOf (drop i list))))
+Inv-loop tags values n right sought names list i₀ i = (i ≤ length list) × (nameOf (firstOf (isSought tags values n (bindingsOf right) sought) (bindingsOf list)) ≡ nameOf (firstOf (isSought tags values n (bindingsOf right) sought) (bindingsOf (drop i list))))
 
 abbrev μ-loop : tie.MeasureT-loop
-μ-loop tags values n right sought list i₀ i = length list - i
+μ-loop tags values n right sought names list i₀ i = length list - i
 
 loop-holds : tie.Need-loop-holds Inv-loop μ-loop
 loop-holds c = search needs
@@ -39,15 +39,15 @@ shared-slice-read-is-sought-2 c = search needs
 is-sought-requires : tie.Need-is-sought-requires Inv-loop μ-loop
 is-sought-requires c κs = search needs
 
-mul-t17 : tie.Need-mul-t17 Inv-loop μ-loop
-mul-t17 c = search needs
+mul-t18 : tie.Need-mul-t18 Inv-loop μ-loop
+mul-t18 c = search needs
 
-shared-slice-read-t19 : tie.Need-shared-slice-read-t19 Inv-loop μ-loop
-shared-slice-read-t19 c = search needs
+shared-slice-read-t20 : tie.Need-shared-slice-read-t20 Inv-loop μ-loop
+shared-slice-read-t20 c = search needs
 
 returns : tie.Need-returns Inv-loop μ-loop
 returns c =
-    first-here _ _ (c .before .before .before .before .before .before .before .before .before .before .before .args .list .now) (c .before .before .before .before .before .before .loop .i) (c .before .before .before .before .before .before .loop .inv .1) (c .before .before .before .before .before .loop-test .taken) _ (c .before .before .is-sought .ensures) (c .before .if1 .taken)
+    first-here _ _ (c .before .before .before .before .before .before .before .before .before .before .before .before .args .list .now) (c .before .before .before .before .before .before .loop .i) (c .before .before .before .before .before .before .loop .inv .1) (c .before .before .before .before .before .loop-test .taken) _ (c .before .before .is-sought .ensures) (c .before .if1 .taken)
 
 add-i : tie.Need-add-i Inv-loop μ-loop
 add-i c = search needs
@@ -75,8 +75,8 @@ first-sought-spec =
     mul-is-sought-2
     shared-slice-read-is-sought-2
     is-sought-requires
-    mul-t17
-    shared-slice-read-t19
+    mul-t18
+    shared-slice-read-t20
     returns
     add-i
     loop-less

@@ -1,4 +1,4 @@
-use Rattle.clausification.proofs.taken_variables.Laws.{seeks}
+use Rattle.clausification.proofs.taken_variables.Laws.{seeks, tabled-missing}
 use borrow.Author.Needs.{needs}
 use Rattle.clausification.proofs.taken_variables.is_sought.Statement.{statement}
 use Rattle.clausification.proofs.taken_variables.is_sought.Tie as tie
@@ -18,8 +18,8 @@ has-requires c κs = search needs
 returns : tie.Need-returns
 returns c = search seeks
 
-is-free-in-requires : tie.Need-is-free-in-requires
-is-free-in-requires c κs = search needs
+is-free-by-requires : tie.Need-is-free-by-requires
+is-free-by-requires c κs = search tabled-missing
 
 returns-2 : tie.Need-returns-2
 returns-2 c = search seeks
@@ -36,6 +36,6 @@ is-sought-spec =
     enum-known-sought-2
     has-requires
     returns
-    is-free-in-requires
+    is-free-by-requires
     returns-2
     returns-3)

@@ -4,7 +4,7 @@ use mathlib.Core.Path.{_≡_}
 use Prim.Native.Nat.{_-_}
 use lib.ListN.{length}
 use Rattle.quantifiers.specs.Binding.{bindingsOf}
-use Rattle.miniscoping.specs.Used.{leftOf}
+use Rattle.used_pairs.specs.Used.{leftOf}
 use Rattle.miniscoping.specs.MiniscopeSplit.{splitAll}
 use Rattle.miniscoping.proofs.miniscope_split.split_all.Statement.{statement}
 use Rattle.miniscoping.proofs.miniscope_split.split_all.Tie as tie

@@ -1,4 +1,5 @@
 use Rattle.building.proofs.Clausal.{clausals, normal-state, normal-below}
+use Rattle.building.proofs.build.Indexing.{index-at}
 use borrow.Author.Needs.{needs}
 use Rattle.normal_form.proofs.call.build_clausal.Statement.{statement}
 use Rattle.normal_form.proofs.call.build_clausal.Tie as tie
@@ -22,7 +23,7 @@ returns : tie.Need-returns
 returns c = search clausals
 
 build-taken-out-requires : tie.Need-build-taken-out-requires
-build-taken-out-requires c κs = (search normal-state, search normal-below)
+build-taken-out-requires c κs = (search normal-state, (search normal-below, search index-at))
 
 same-length-3 : tie.Need-same-length-3
 same-length-3 c = search needs

@@ -21,8 +21,8 @@ refused-requires-4 c κs = search needs
 returns-2 : tie.Need-returns-2
 returns-2 c = search checks
 
-check-term-requires : tie.Need-check-term-requires
-check-term-requires c κs = search needs
+index-term-requires : tie.Need-index-term-requires
+index-term-requires c κs = search needs
 
 refused-requires-5 : tie.Need-refused-requires-5
 refused-requires-5 c κs = search needs
@@ -62,8 +62,13 @@ returns-4 c = search checks
 
 list-checked-requires : tie.Need-list-checked-requires
 list-checked-requires c κs =
-    list-checks _ _ _ _ _ _ _ (c .before .before .before .before .before .before .before .before .before .before .before .before .if1 .left) (c .before .before .before .before .before .before .before .before .before .before .before .if2 .left)
-    _ (c .before .before .before .before .before .before .before .before .check-term .ensures) (c .before .before .before .before .if4 .left)
+    let at-if4 = c .before .before .before .before .before in
+    let at-index-term = at-if4 .before .before .before .before in
+    let at-if2 = at-index-term .before .before .before .before in
+    let at-if1 = at-if2 .before in (
+      at-index-term .index-term .ensures .1 .passed (at-if4 .if4 .left),
+      list-checks _ _ _ _ _ _ _ (at-if1 .if1 .left) (at-if2 .if2 .left) _ (at-index-term .index-term .ensures .0) (at-if4 .if4 .left),
+    )
 
 same-length-7 : tie.Need-same-length-7
 same-length-7 c = search needs
@@ -90,7 +95,7 @@ clause-list-spec =
     refused-requires-3
     refused-requires-4
     returns-2
-    check-term-requires
+    index-term-requires
     refused-requires-5
     same-length
     same-length-2

@@ -6,7 +6,7 @@ use Rattle.normal_form.proofs.call.list_checked.Statement.{statement}
 use Rattle.normal_form.proofs.call.list_checked.Tie as tie
 
 build-clausal-requires : tie.Need-build-clausal-requires
-build-clausal-requires c κs = (search list-state, search list-below)
+build-clausal-requires c κs = (search list-state, (search list-below, search needs))
 
 enum-known-x : tie.Need-enum-known-x
 enum-known-x c = search needs
@@ -40,7 +40,7 @@ same-length-4 c = search needs
 
 returns : tie.Need-returns
 returns c =
-    list-full _ _ _ _ _ _ _ (c .before .before .before .before .before .before .before .before .before .before .before .before .before .before .before .before .before .before .before .before .before .before .before .before .before .before .before .before .before .pre)
+    list-full _ _ _ _ _ _ _ (c .before .before .before .before .before .before .before .before .before .before .before .before .before .before .before .before .before .before .before .before .before .before .before .before .before .before .before .before .before .before .pre .1)
     _ _ _ (c .before .before .before .before .before .before .before .before .before .before .before .before .before .before .before .before .before .before .before .before .before .before .build-clausal .ensures) (c .before .before .before .before .before .before .before .before .before .before .before .before .before .before .before .before .enum-told .given .1)
     _ _ _ _ (c .before .before .before .before .before .before .before .before .before .before .before .before .before .cut-back .ensures) (c .before .before .before .before .before .before .cut-back2 .ensures)
     _ (c .before .refused .ensures) _ (c .refused2 .ensures)
@@ -80,7 +80,7 @@ same-length-8 c = search needs
 
 returns-2 : tie.Need-returns-2
 returns-2 c =
-    list-none _ _ _ _ _ _ _ (c .before .before .before .before .before .before .before .before .before .before .before .before .before .before .before .before .before .before .before .before .before .before .before .before .before .before .before .before .before .before .before .before .before .pre)
+    list-none _ _ _ _ _ _ _ (c .before .before .before .before .before .before .before .before .before .before .before .before .before .before .before .before .before .before .before .before .before .before .before .before .before .before .before .before .before .before .before .before .before .before .pre .1)
     _ _ _ (c .before .before .before .before .before .before .before .before .before .before .before .before .before .before .before .before .before .before .before .before .before .before .before .before .before .before .build-clausal .ensures) _ _ (c .before .before .before .before .before .before .before .before .before .before .before .before .before .before .before .before .before .before .before .before .x .given .1)
     _ _ _ (c .before .before .before .before .before .before .before .before .before .before .before .before .before .before .list-clauses .ensures) (omega (arith, c .before .before .before .before .before .before .before .before .before .before .before .before .before .before .before .before .before .before .before .before .before .before .before .before .before .tags .given)) (omega (arith, c .before .before .before .before .before .before .before .before .before .before .before .before .before .before .before .before .before .before .before .before .before .before .before .values .given))
     _ _ (c .before .before .before .before .before .before .before .before .if1 .taken) (c .before .before .before .before .before .cut-back3 .ensures) _ (c .refused3 .ensures)
@@ -88,8 +88,8 @@ returns-2 c =
 cut-back-requires-4 : tie.Need-cut-back-requires-4
 cut-back-requires-4 c κs = search needs
 
-cast-t45 : tie.Need-cast-t45
-cast-t45 c = search count-fits
+cast-t47 : tie.Need-cast-t47
+cast-t47 c = search count-fits
 
 same-length-9 : tie.Need-same-length-9
 same-length-9 c = search needs
@@ -104,7 +104,11 @@ same-length-12 : tie.Need-same-length-12
 same-length-12 c = search needs
 
 returns-3 : tie.Need-returns-3
-returns-3 c = search list-made
+returns-3 c =
+    list-made _ _ _ _ _ _ _ (c .before .before .before .before .before .before .before .before .before .before .before .before .before .before .before .before .before .before .before .before .before .before .before .before .before .before .before .before .before .before .before .before .before .pre .1)
+    _ _ _ (c .before .before .before .before .before .before .before .before .before .before .before .before .before .before .before .before .before .before .before .before .before .before .before .before .before .build-clausal .ensures) _ _ (c .before .before .before .before .before .before .before .before .before .before .before .before .before .before .before .before .before .before .before .x .given .1)
+    _ _ _ (c .before .before .before .before .before .before .before .before .before .before .before .before .before .list-clauses .ensures) (omega (arith, c .before .before .before .before .before .before .before .before .before .before .before .before .before .before .before .before .before .before .before .before .before .before .before .before .tags .given)) (omega (arith, c .before .before .before .before .before .before .before .before .before .before .before .before .before .before .before .before .before .before .before .before .before .before .values .given))
+    _ _ (c .before .before .before .before .before .before .before .if1 .left) (c .before .before .before .before .cut-back4 .ensures)
 
 pub list-checked-spec : {M : Type 1} → statement M
 list-checked-spec =
@@ -135,7 +139,7 @@ list-checked-spec =
     same-length-8
     returns-2
     cut-back-requires-4
-    cast-t45
+    cast-t47
     same-length-9
     same-length-10
     same-length-11

@@ -3,8 +3,8 @@ use borrow.Author.Needs.{needs}
 use Rattle.normal_form.proofs.call.normal_form.Statement.{statement}
 use Rattle.normal_form.proofs.call.normal_form.Tie as tie
 
-check-term-requires : tie.Need-check-term-requires
-check-term-requires c κs = search needs
+index-term-requires : tie.Need-index-term-requires
+index-term-requires c κs = search needs
 
 same-length : tie.Need-same-length
 same-length c = search needs
@@ -28,7 +28,11 @@ returns-2 : tie.Need-returns-2
 returns-2 c = search normals
 
 build-normal-form-requires : tie.Need-build-normal-form-requires
-build-normal-form-requires c κs = checked-ready _ _ _ _ _ _ (c .before .before .before .before .before .before .check-term .ensures) (c .before .before .if2 .left)
+build-normal-form-requires c κs =
+    let at-if2 = c .before .before .before in
+    let at-index-term = at-if2 .before .before .before .before in
+    let (state, within) = checked-ready _ _ _ _ _ _ (at-index-term .index-term .ensures .0) (at-if2 .if2 .left) in
+    (state, (within, at-index-term .index-term .ensures .1 .passed (at-if2 .if2 .left)))
 
 enum-known-p : tie.Need-enum-known-p
 enum-known-p c = search needs
@@ -73,7 +77,7 @@ pub normal-form-spec : {M : Type 1} → statement M
 normal-form-spec =
     tie.close
     (tie.spec
-    check-term-requires
+    index-term-requires
     same-length
     same-length-2
     returns

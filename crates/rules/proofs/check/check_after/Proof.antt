@@ -4,7 +4,7 @@ use Rattle.rules.proofs.check.check_after.Statement.{statement}
 use Rattle.rules.proofs.check.check_after.Tie as tie
 use Rattle.rules.proofs.check.check_after.Reads as reads
 use Rattle.rules.proofs.check.check_after.Lts as lts
-use Rattle.headers.proofs.description.cut_back.Reads as cut-back-reads
+use Rattle.descriptions.proofs.description.cut_back.Reads as cut-back-reads
 use Rattle.rules.proofs.check.judge.Reads as judge-reads
 
 judge-requires : tie.Need-judge-requires

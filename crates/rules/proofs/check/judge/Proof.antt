@@ -1,11 +1,11 @@
-use Rattle.rules.proofs.check.Laws.{judges, conclusion-ready}
+use Rattle.rules.proofs.check.Laws.{judges, index-ready, conclusion-ready}
 use borrow.Author.Needs.{needs}
 use Rattle.rules.proofs.check.judge.Statement.{statement}
 use Rattle.rules.proofs.check.judge.Tie as tie
 use Rattle.rules.proofs.check.judge.Reads as reads
 use Rattle.rules.proofs.check.judge.Lts as lts
 use Rattle.headers.proofs.well_formed.is_term.Reads as is-term-reads
-use Rattle.pool.proofs.Answer.refused.Reads as refused-reads
+use Rattle.answers.proofs.Answer.refused.Reads as refused-reads
 use Rattle.rules.proofs.check.apply.Reads as apply-reads
 use Rattle.rules.proofs.check.carried.Reads as carried-reads
 use Rattle.rules.proofs.check.is_rule.Reads as is-rule-reads
@@ -31,8 +31,8 @@ refused-requires-2 c κs = search needs
 returns-3 : tie.Need-returns-3
 returns-3 c = search judges
 
-shared-slice-read-t14 : tie.Need-shared-slice-read-t14
-shared-slice-read-t14 c = search needs
+shared-slice-read-t15 : tie.Need-shared-slice-read-t15
+shared-slice-read-t15 c = search needs
 
 is-term-requires : tie.Need-is-term-requires
 is-term-requires c κs = search needs
@@ -47,7 +47,7 @@ returns-4 : tie.Need-returns-4
 returns-4 c = search judges
 
 apply-requires : tie.Need-apply-requires
-apply-requires c κs = search conclusion-ready
+apply-requires c κs = (search index-ready, search conclusion-ready)
 
 same-length-2 : tie.Need-same-length-2
 same-length-2 c = search needs
@@ -69,7 +69,7 @@ judge-spec =
     carried-requires
     refused-requires-2
     returns-3
-    shared-slice-read-t14
+    shared-slice-read-t15
     is-term-requires
     refused-requires-3
     same-length

@@ -1,4 +1,5 @@
 use Rattle.sorts.proofs.compute_sort.Laws.{term-sorts}
+use Rattle.list_sorts.specs.ListRule.{byList}
 use borrow.Author.Needs.{needs}
 use Rattle.sorts.proofs.compute_sort.states_sort.Statement.{statement}
 use Rattle.sorts.proofs.compute_sort.states_sort.Tie as tie
@@ -39,10 +40,11 @@ returns-3 c = search term-sorts
 operands-requires : tie.Need-operands-requires
 operands-requires c κs = search needs
 
-application-requires : tie.Need-application-requires
-application-requires c κs = search needs
+by-list-requires : tie.Need-by-list-requires
+by-list-requires c κs = search needs
 
 returns-4 : tie.Need-returns-4
+unfolding byList
 returns-4 c = search term-sorts
 
 is-plain-requires-2 : tie.Need-is-plain-requires-2
@@ -57,10 +59,11 @@ choice-requires c κs = search needs
 returns-6 : tie.Need-returns-6
 returns-6 c = search term-sorts
 
-lambda-requires : tie.Need-lambda-requires
-lambda-requires c κs = search needs
+by-list-requires-2 : tie.Need-by-list-requires-2
+by-list-requires-2 c κs = search needs
 
 returns-7 : tie.Need-returns-7
+unfolding byList
 returns-7 c = search term-sorts
 
 first-sort-requires : tie.Need-first-sort-requires
@@ -97,13 +100,13 @@ states-sort-spec =
     returns-2
     returns-3
     operands-requires
-    application-requires
+    by-list-requires
     returns-4
     is-plain-requires-2
     returns-5
     choice-requires
     returns-6
-    lambda-requires
+    by-list-requires-2
     returns-7
     first-sort-requires
     returns-8

@@ -12,14 +12,14 @@ add-cells-from c = search needs
 cells-from-requires-2 : tie.Need-cells-from-requires-2
 cells-from-requires-2 c κs = search needs
 
-slice-aggregate-check-pool : tie.Need-slice-aggregate-check-pool
-slice-aggregate-check-pool c = search needs
+slice-aggregate-index-pool : tie.Need-slice-aggregate-index-pool
+slice-aggregate-index-pool c = search needs
 
-slice-aggregate-check-pool-2 : tie.Need-slice-aggregate-check-pool-2
-slice-aggregate-check-pool-2 c = search needs
+slice-aggregate-index-pool-2 : tie.Need-slice-aggregate-index-pool-2
+slice-aggregate-index-pool-2 c = search needs
 
-check-pool-requires : tie.Need-check-pool-requires
-check-pool-requires c κs = search needs
+index-pool-requires : tie.Need-index-pool-requires
+index-pool-requires c κs = search needs
 
 slice-aggregate-put-lines : tie.Need-slice-aggregate-put-lines
 slice-aggregate-put-lines c = search needs
@@ -28,7 +28,7 @@ slice-aggregate-put-lines-2 : tie.Need-slice-aggregate-put-lines-2
 slice-aggregate-put-lines-2 c = search needs
 
 put-lines-requires : tie.Need-put-lines-requires
-put-lines-requires c κs = search made-ready
+put-lines-requires c κs = (search made-ready, search needs)
 
 same-length : tie.Need-same-length
 same-length c = search needs
@@ -43,9 +43,9 @@ answer-steps-spec =
     cells-from-requires
     add-cells-from
     cells-from-requires-2
-    slice-aggregate-check-pool
-    slice-aggregate-check-pool-2
-    check-pool-requires
+    slice-aggregate-index-pool
+    slice-aggregate-index-pool-2
+    index-pool-requires
     slice-aggregate-put-lines
     slice-aggregate-put-lines-2
     put-lines-requires

@@ -4,17 +4,17 @@ use Prim.Native.Nat.{_-_, _*_, _≤_}
 use mathlib.Core.Path.{_≡_, refl}
 use lib.ListN.{length}
 use Rattle.step_files.specs.StepFile.{lines}
-use Rattle.step_files.specs.Text.{Put}
-use Rattle.step_files.proofs.lines.Laws.{checked-now, answer-is, tags-same, values-same, lines-none, lines-next, lines-all}
+use Rattle.answer_lines.specs.Text.{Put}
+use Rattle.step_files.proofs.lines.Laws.{checked-now, indexed-now, answer-is, tags-same, values-same, lines-none, lines-next, lines-all}
 use Rattle.step_files.proofs.lines.put_lines.Statement.{statement}
 use Rattle.step_files.proofs.lines.put_lines.Tie as tie
 
 abbrev Inv-loop : tie.InvT-loop
-Inv-loop input checked tags₀ values₀ n steps out₀ rules places at₀ k₀ tags values out at k =
+Inv-loop input checked tags₀ values₀ index n steps out₀ rules places at₀ k₀ tags values out at k =
     (tags ≡ tags₀) × (values ≡ values₀) × (k ≤ steps) × (length out ≡ length out₀) × Put (lines input k) (44 * k) 0 out₀ at out
 
 abbrev μ-loop : tie.MeasureT-loop
-μ-loop input checked tags₀ values₀ n steps out₀ rules places at₀ k₀ tags values out at k = steps - k
+μ-loop input checked tags₀ values₀ index n steps out₀ rules places at₀ k₀ tags values out at k = steps - k
 
 mul-rules : tie.Need-mul-rules Inv-loop μ-loop
 mul-rules c = search needs
@@ -50,7 +50,7 @@ slice-aggregate-check-after : tie.Need-slice-aggregate-check-after Inv-loop μ-l
 slice-aggregate-check-after c = search needs
 
 check-after-requires : tie.Need-check-after-requires Inv-loop μ-loop
-check-after-requires c κs = search checked-now
+check-after-requires c κs = (search checked-now, search indexed-now)
 
 add-number : tie.Need-add-number Inv-loop μ-loop
 add-number c = search needs

@@ -1,0 +1,3 @@
+mod Decimals
+mod Sets
+pub mod Laws

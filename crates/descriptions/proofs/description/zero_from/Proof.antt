@@ -1,0 +1,51 @@
+use borrow.Author.Needs.{needs}
+use Rattle.descriptions.proofs.description.Laws.{Zeroing, zeros}
+use Prim.Native.Nat.{_-_}
+use lib.ListN.{length}
+use Rattle.descriptions.proofs.description.zero_from.Statement.{statement}
+use Rattle.descriptions.proofs.description.zero_from.Tie as tie
+
+abbrev Inv-loop : tie.InvT-loop
+Inv-loop a₀ n i₀ a i = Zeroing n a₀ a i
+
+abbrev μ-loop : tie.MeasureT-loop
+μ-loop a₀ n i₀ a i = length a₀ - i
+
+loop-holds : tie.Need-loop-holds Inv-loop μ-loop
+loop-holds c = search zeros
+
+mul-a : tie.Need-mul-a Inv-loop μ-loop
+mul-a c = search needs
+
+slice-write-a : tie.Need-slice-write-a Inv-loop μ-loop
+slice-write-a c = search needs
+
+add-i : tie.Need-add-i Inv-loop μ-loop
+add-i c = search needs
+
+loop-less : tie.Need-loop-less Inv-loop μ-loop
+loop-less c = search needs
+
+loop-again : tie.Need-loop-again Inv-loop μ-loop
+loop-again c = search zeros
+
+same-length : tie.Need-same-length Inv-loop μ-loop
+same-length c = search needs
+
+returns : tie.Need-returns Inv-loop μ-loop
+returns c = search zeros
+
+pub zero-from-spec : {M : Type 1} → statement M
+zero-from-spec =
+    tie.close
+    (tie.spec
+    Inv-loop
+    μ-loop
+    loop-holds
+    mul-a
+    slice-write-a
+    add-i
+    loop-less
+    loop-again
+    same-length
+    returns)

@@ -1,0 +1,4 @@
+-- Laws of the index.
+pub mod Laws
+pub mod Entries
+pub mod Adding

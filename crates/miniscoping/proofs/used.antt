@@ -1,2 +1,0 @@
--- The laws of `used`.
-pub mod Laws

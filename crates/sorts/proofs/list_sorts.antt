@@ -1,2 +1,0 @@
--- The laws that the proofs of `list_sorts` cite.
-pub mod Laws

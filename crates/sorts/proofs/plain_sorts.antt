@@ -1,2 +1,0 @@
--- The laws that the proofs of `plain_sorts` cite.
-pub mod Laws

@@ -1,0 +1,5 @@
+pub mod Sort
+pub mod Term
+pub mod Tree
+pub mod FreeTree
+pub mod SortTree

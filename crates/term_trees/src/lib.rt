@@ -1,0 +1,1 @@
+// Sorts and terms as trees: definitions and theorems alone.
