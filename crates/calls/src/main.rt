@@ -1,13 +1,12 @@
 // The check of a step and the public calls of the pool and of normal forms from a shell: a call file on standard input, or the call files that the
 // arguments name, each after a line with its name.
-mod call_file;
 mod report;
 
 ghost use Prim.Native.Nat.{_≤_};
 ghost use mathlib.Core.Path.{_≡_};
 ghost use lib.ListN.{length};
-ghost use Rattle.calls.specs.Format.{Bounded};
-use call_file::Head;
+ghost use Rattle.call_files.specs.Format.{Bounded};
+use call_files::Head;
 use libc::STDIN_FILENO;
 use libc::STDOUT_FILENO;
 use normal_form::call::Listed;
@@ -68,7 +67,7 @@ fn check_step(bytes: &[u8], head: Head)
 {
     let t = head.tags;
     let v = head.values;
-    let x = call_file::conclusion_count(head);
+    let x = call_files::conclusion_count(head);
     let mut tags = cells();
     let mut values = cells();
     let mut conclusion = cells();
@@ -225,8 +224,8 @@ fn run(bytes: &[u8]) {
         bad_file();
         return;
     }
-    let head = call_file::read_head(bytes);
-    if !call_file::is_whole(bytes, head) {
+    let head = call_files::read_head(bytes);
+    if !call_files::is_whole(bytes, head) {
         bad_file();
         return;
     }

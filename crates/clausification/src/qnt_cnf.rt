@@ -1,9 +1,6 @@
 // Rule 3, `qnt_cnf`. The left body's normal form and its form with foralls taken out are built after the pool, and cut back at
 // the end.
 use crate::clause_search::any_clause;
-use crate::taken_list::first_unbound;
-use crate::taken_variables::Sought;
-use crate::taken_variables::first_taken;
 use building::build::Built;
 use building::negation_normal_form::build_normal_form;
 use building::prenex_forall::build_taken_out;
@@ -22,6 +19,9 @@ use pool::description::cut_back;
 use quantifiers::binding::FirstName;
 use quantifiers::outcome::accept;
 use quantifiers::outcome::refuse;
+use taken_out::taken_list::first_unbound;
+use taken_out::taken_variables::Sought;
+use taken_out::taken_variables::first_taken;
 ghost use mathlib.Core.Path.{_≡_};
 ghost use Rattle.descriptions.specs.Index.{Index};
 ghost use Rattle.sort_rules.specs.Table.{builtIn};

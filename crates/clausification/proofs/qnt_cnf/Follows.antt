@@ -22,8 +22,8 @@ use Rattle.quantifiers.specs.declared.binding.FirstName.{FirstName}
 use Rattle.quantifiers.specs.declared.binding.FirstName.the-variants.{Name, Nothing}
 use Rattle.quantifiers.proofs.outcome.Laws.{answers, unless-name, unless-none}
 use Rattle.clausification.specs.QntCnf.{isClause, anyClause, takenFrom, clausesFrom, leftAndTaken, clauseFollows}
-use Rattle.clausification.specs.TakenSearch.{isSought}
-use Rattle.clausification.specs.declared.taken_variables.Sought.the-variants.{Missing}
+use Rattle.taken_out.specs.TakenSearch.{isSought}
+use Rattle.taken_out.specs.declared.taken_variables.Sought.the-variants.{Missing}
 use Rattle.clausification.specs.Promises.{forallAt, followsIn}
 use Rattle.clausification.proofs.Kept.{pairs-kept, clause-kept, binding-kept}
 

@@ -1,0 +1,2 @@
+pub mod TakenList
+pub mod TakenSearch
