@@ -1,9 +1,8 @@
 // Rule 3, `qnt_cnf`. The left body's normal form and its form with foralls taken out are built after the pool, and cut back at
 // the end.
+use crate::clausal_forms::Forms;
+use crate::clausal_forms::build_forms;
 use crate::clause_search::any_clause;
-use building::build::Built;
-use building::negation_normal_form::build_normal_form;
-use building::prenex_forall::build_taken_out;
 use clauses::clause_list::list_clauses;
 use forms::One;
 use forms::Quantified;
@@ -88,7 +87,7 @@ fn clause_follows(
 fn clausified(
     tags: &mut [u32],
     values: &mut [u32],
-    index: &[u32; 12288],
+    index: &mut [u32; 12288],
     n: usize,
     left: Forall,
     right: Forall,
@@ -96,13 +95,9 @@ fn clausified(
     requires { ⌜ Index (now tags) (now values) n (now index) ⌝ }
     requires { ⌜ Sides (now tags) (now values) n (left .place) (left .body) (right .place) (right .body) ⌝ }
     ensures { λ a. ⌜ Leaves n (now (tags .entry)) (now (values .entry)) (clausified (now (tags .entry)) (now (values .entry)) n (forallAt (now (tags .entry)) (now (values .entry)) (left .place) (left .body)) (forallAt (now (tags .entry)) (now (values .entry)) (right .place) (right .body))) a (now (tags .exit)) (now (values .exit)) ⌝ }
+    ensures { λ _. ⌜ Index (now (tags .entry)) (now (values .entry)) n (now (index .exit)) ⌝ }
 {
-    let mut grown = *index;
-    let Built::At(x, m) = build_normal_form(tags, values, &mut grown, n, TermPlace(left.body), true)
-    else {
-        return refuse(31, 0, 0);
-    };
-    let Built::At(y, k) = build_taken_out(tags, values, &mut grown, m, x) else {
+    let Forms::At(x, m, y, k) = build_forms(tags, values, index, n, TermPlace(left.body)) else {
         return refuse(31, 0, 0);
     };
     let mut literals = [0u32; 8192];
@@ -136,13 +131,14 @@ fn clausified(
 fn checks(
     tags: &mut [u32],
     values: &mut [u32],
-    index: &[u32; 12288],
+    index: &mut [u32; 12288],
     n: usize,
     x: TermPlace,
 ) -> Answer
     requires { ⌜ Index (now tags) (now values) n (now index) ⌝ }
     requires { ⌜ checkTerm (now tags) (now values) builtIn n (x .0) .code ≡ 0 ⌝ }
     ensures { λ a. ⌜ Leaves n (now (tags .entry)) (now (values .entry)) (qntCnf (now (tags .entry)) (now (values .entry)) n (x .0)) a (now (tags .exit)) (now (values .exit)) ⌝ }
+    ensures { λ _. ⌜ Index (now (tags .entry)) (now (values .entry)) n (now (index .exit)) ⌝ }
 {
     let Two::Are(l, r) = implication_at(tags, values, x.0) else {
         return refuse(2, x.0, 0);
@@ -174,13 +170,14 @@ fn checks(
 pub fn qnt_cnf(
     tags: &mut [u32],
     values: &mut [u32],
-    index: &[u32; 12288],
+    index: &mut [u32; 12288],
     n: usize,
     x: TermPlace,
 ) -> Answer
     requires { ⌜ Index (now tags) (now values) n (now index) ⌝ }
     requires { ⌜ checkTerm (now tags) (now values) builtIn n (x .0) .code ≡ 0 ⌝ }
     ensures { λ a. ⌜ Clausified (now (tags .entry)) (now (values .entry)) n (x .0) a (now (tags .exit)) (now (values .exit)) ⌝ }
+    ensures { λ _. ⌜ Index (now (tags .entry)) (now (values .entry)) n (now (index .exit)) ⌝ }
 {
     let answer = checks(tags, values, index, n, x);
     cut_back(tags, values, n);

@@ -7,7 +7,8 @@ use mathlib.Core.Path.{_≡_}
 use mathlib.Core.Bool.{Bool, cond}
 use mathlib.Core.List.{List, [], _∷_}
 use lib.ListN.{length, getD, set}
-use Rattle.cells.specs.Cell.{isAt}
+use lib.Dec.{eqb}
+use Rattle.cells.specs.Cell.{cellsOf, isAt}
 use Rattle.descriptions.specs.Description.{find, firstRepeat}
 use Rattle.headers.specs.WellFormed.{firstBad}
 use Rattle.cells.specs.declared.Found.{Found}
@@ -49,15 +50,25 @@ lookUp tags values index tag cells = asFound (onChain index (λ q. isAt tags val
 pub record PointsBack (index : List ℕ) : Type 0 where
   pub back : (i : ℕ) → getD index i 0 ≤ i
 
--- a header at q whose cells stand below p
-pub record Within (values : List ℕ) (p q : ℕ) : Type 0 where
-  pub before : q < p
-  pub fits : getD values q 0 < p - q
-
 -- the places that the walk over the headers reaches
 pub data Reached (values : List ℕ) : ℕ → Type 0 where
   start : Reached values 0
   next : {p : ℕ} → Reached values p → Reached values (p + (1 + getD values p 0))
+
+-- a header at q whose cells stand below p
+pub record Within (values : List ℕ) (p q : ℕ) : Type 0 where
+  pub before : q < p
+  pub fits : getD values q 0 < p - q
+  pub header : Reached values q
+
+-- the bucket of the header at q
+abbrev pub bucketAt : List ℕ → List ℕ → ℕ → ℕ
+bucketAt tags values q = bucketOf (getD tags q 0) (cellsOf values q)
+
+-- a link at i, to q: i is a header below p, in the bucket of q
+pub record Linked (tags values : List ℕ) (p i q : ℕ) : Type 0 where
+  pub from : Within values p i
+  pub bucket : bucketAt tags values q ≡ bucketAt tags values i
 
 -- the index of the headers below p: it has of every description what the scan of them finds
 pub record Index (tags values : List ℕ) (p : ℕ) (index : List ℕ) : Type 0 where
@@ -65,11 +76,23 @@ pub record Index (tags values : List ℕ) (p : ℕ) (index : List ℕ) : Type 0 
   pub reached : Reached values p
   pub links-back : PointsBack index
   pub entry : (i q : ℕ) → getD index i 0 ≡ suc q → Within values p q
+  pub link : (i q : ℕ) → i < 8192 → getD index i 0 ≡ suc q → Linked tags values p i q
+  pub head : (b q : ℕ) → headOf index b ≡ suc q → bucketAt tags values q ≡ b
   pub holds : (tag : ℕ) (cells : List ℕ) → lookUp tags values index tag cells ≡ find tags values p tag cells
 
 -- the index with the header at p in front of the chain of bucket b
 unfoldable pub entered : List ℕ → ℕ → ℕ → List ℕ
 entered index p b = set (set index p (headOf index b)) (8192 + b) (p + 1)
+
+-- the index without the header at p, which is the last one, of bucket b
+unfoldable pub without : List ℕ → ℕ → ℕ → List ℕ
+without index p b = set (cond (eqb (headOf index b) (p + 1)) (set index (8192 + b) (getD index p 0)) index) p 0
+
+-- p is a place from which headers are to be taken out of an index of those below m
+pub record Earlier (values : List ℕ) (p m : ℕ) : Type 0 where
+  pub reached : Reached values p
+  pub before : p ≤ m
+  pub small : m ≤ 8192
 
 -- after check 15: a well-formed pool without repeats is in the index
 pub record Indexes (tags values : List ℕ) (n : ℕ) (index : List ℕ) : Type 0 where

@@ -2,6 +2,7 @@
 use crate::description::Added;
 use crate::description::is_full;
 use crate::description::put;
+use crate::description::zero_from;
 use cells::Found;
 use cells::run;
 ghost use mathlib.Core.Path.{_≡_};
@@ -10,7 +11,7 @@ ghost use Prim.Native.Nat.{_+_, _≤_, _<_};
 ghost use lib.ListN.{getD};
 ghost use Rattle.cells.specs.Cell.{isAt};
 ghost use Rattle.descriptions.specs.Description.{repeats, firstRepeat, Added-is};
-ghost use Rattle.descriptions.specs.Index.{bucketOf, headOf, onChain, asFound, PointsBack, Index, entered, Indexes, countAfter};
+ghost use Rattle.descriptions.specs.Index.{bucketOf, headOf, onChain, asFound, PointsBack, Index, entered, without, Earlier, Indexes, countAfter};
 
 // The bucket of a description.
 fn bucket(tag: u32, cells: &[u32]) -> usize
@@ -129,6 +130,50 @@ pub(crate) fn first_repeat(
         p += 1 + k;
     }
     Found::Nothing
+}
+
+// Makes the index of the headers below n anew.
+pub fn index_headers(tags: &[u32], values: &[u32], n: usize, index: &mut [u32; 12288])
+    requires { ⌜ Earlier (now values) n n ⌝ }
+    ensures { λ _. ⌜ Index (now (tags .entry)) (now (values .entry)) n (now (index .exit)) ⌝ }
+{
+    zero_from(index, 0);
+    let mut p: usize = 0;
+    while p < n {
+        enter_header(tags, values, p, index);
+        let k = run::cell(values, p) as usize;
+        p += 1 + k;
+    }
+}
+
+// Takes the header at p, the last one, of bucket b, out of the index.
+fn leave(index: &mut [u32; 12288], p: usize, b: usize)
+    requires { ⌜ p < 8192 ⌝ }
+    requires { ⌜ b < 4093 ⌝ }
+    ensures { λ _. ⌜ now (index .exit) ≡ without (now (index .entry)) p b ⌝ }
+{
+    if run::wide(index[8192 + b]) != p + 1 {
+        index[p] = 0;
+        return;
+    }
+    let last = index[p];
+    index[8192 + b] = last;
+    index[p] = 0;
+}
+
+// Takes the headers from p on out of an index of those below m, the last one first.
+pub fn forget(tags: &[u32], values: &[u32], index: &mut [u32; 12288], p: usize, m: usize)
+    requires { ⌜ Index (now tags) (now values) m (now index) ⌝ }
+    requires { ⌜ Earlier (now values) p m ⌝ }
+    ensures { λ _. ⌜ Index (now (tags .entry)) (now (values .entry)) p (now (index .exit)) ⌝ }
+{
+    if m <= p {
+        return;
+    }
+    let b = bucket(run::cell(tags, p), run::cells(values, p));
+    let k = run::cell(values, p) as usize;
+    forget(tags, values, index, p + 1 + k, m);
+    leave(index, p, b);
 }
 
 // Adds a description to the n cells in use, at most 8,192 of them, whose headers the index has: where it stands already,

@@ -42,7 +42,7 @@ fn carried(k: usize) -> u32
 fn apply(
     tags: &mut [u32],
     values: &mut [u32],
-    index: &[u32; 12288],
+    index: &mut [u32; 12288],
     n: usize,
     rule: u32,
     x: TermPlace,
@@ -50,6 +50,7 @@ fn apply(
     requires { ⌜ Index (now tags) (now values) n (now index) ⌝ }
     requires { ⌜ checkTerm (now tags) (now values) builtIn n (x .0) .code ≡ 0 ⌝ }
     ensures { λ r. ⌜ Judged n rule (answerOf (ruleOutcome (now (tags .entry)) (now (values .entry)) n rule (x .0))) r (now (tags .entry)) (now (values .entry)) (now (tags .exit)) (now (values .exit)) ⌝ }
+    ensures { λ _. ⌜ Index (now (tags .entry)) (now (values .entry)) n (now (index .exit)) ⌝ }
 {
     if rule == 1 {
         return qnt_join(tags, values, x);
@@ -74,7 +75,7 @@ fn judge(
     checked: Answer,
     tags: &mut [u32],
     values: &mut [u32],
-    index: &[u32; 12288],
+    index: &mut [u32; 12288],
     n: usize,
     rule: u32,
     conclusion: &[u32],
@@ -82,6 +83,7 @@ fn judge(
     requires { ⌜ checked ≡ checkPool (now tags) (now values) builtIn n ⌝ }
     requires { ⌜ Indexed (now tags) (now values) n checked (now index) ⌝ }
     ensures { λ r. ⌜ Judged n rule (stepAnswer (now (tags .entry)) (now (values .entry)) builtIn n rule (now (conclusion .entry))) r (now (tags .entry)) (now (values .entry)) (now (tags .exit)) (now (values .exit)) ⌝ }
+    ensures { λ _. ⌜ Indexed (now (tags .entry)) (now (values .entry)) n checked (now (index .exit)) ⌝ }
 {
     if checked.code != 0 {
         return checked;
@@ -105,7 +107,7 @@ pub fn check_after(
     checked: Answer,
     tags: &mut [u32],
     values: &mut [u32],
-    index: &[u32; 12288],
+    index: &mut [u32; 12288],
     count: usize,
     rule: u32,
     conclusion: &[u32],
@@ -113,6 +115,7 @@ pub fn check_after(
     requires { ⌜ checked ≡ checkPool (now tags) (now values) builtIn count ⌝ }
     requires { ⌜ Indexed (now tags) (now values) count checked (now index) ⌝ }
     ensures { λ r. ⌜ Step (now (tags .entry)) (now (values .entry)) builtIn count rule (now (conclusion .entry)) r (now (tags .exit)) (now (values .exit)) ⌝ }
+    ensures { λ _. ⌜ Indexed (now (tags .entry)) (now (values .entry)) count checked (now (index .exit)) ⌝ }
 {
     let answer = judge(checked, tags, values, index, count, rule, conclusion);
     if rule != 3 {
@@ -137,5 +140,5 @@ pub fn check(
 {
     let mut index = [0u32; 12288];
     let checked = index_pool(tags, values, count, &mut index);
-    check_after(checked, tags, values, &index, count, rule, conclusion)
+    check_after(checked, tags, values, &mut index, count, rule, conclusion)
 }

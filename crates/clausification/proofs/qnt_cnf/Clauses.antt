@@ -1,7 +1,7 @@
 -- Laws of the clauses of the left body: what each call starts from, and one law for each answer.
 -- Assumes nothing.
 use Prim.Native.Nat.{ℕ, _+_, _≤_, _<_}
-use mathlib.Core.Path.{_≡_, sym, ap, ap₂, _∙_}
+use mathlib.Core.Path.{_≡_, refl, sym, ap, ap₂, _∙_}
 use mathlib.Core.Bool.{true, false, not, _&&_}
 use mathlib.Core.List.{List}
 use lib.ListN.{length, getD, take}
@@ -19,14 +19,16 @@ use Rattle.formulas.specs.Clauses.{cnf, emptyOr, literalTotal}
 use Rattle.formulas.specs.Built.{Placed, normalAt, takenOut}
 use Rattle.clauses.specs.ClauseWalk.{formAt}
 use Rattle.clauses.specs.ClauseList.{Lent, Answered, countAnswer, listAnswer, held}
-use Rattle.building.specs.declared.build.Built.{Built}
-use Rattle.building.specs.declared.build.Built.the-variants.{At, Full}
+use Rattle.building.specs.declared.build.Built.the-variants as stands
 use Rattle.building.specs.Arrays.{poolOf, fits, normalIn, clausalIn, clausalFormIn}
 use Rattle.building.specs.Walk.{State, Left, Holds, NormalBuilt}
-use Rattle.building.proofs.Clausal.{passed-state, tags-kept, values-kept, taken-on, clausal-on, clausal-full, normal-holds, normal-state, clausal-then}
+use Rattle.building.proofs.Clausal.{passed-state, tags-kept, values-kept, taken-on, clausal-on, normal-state, clausal-then}
 use Rattle.quantifiers.specs.Outcome.{Outcome, refuse, _>>_, guard, answerOf}
 use Rattle.clausification.specs.QntCnf.{withinLimits, clausesFrom, clausified}
 use Rattle.clausification.specs.ClauseSearch.{clausesIn}
+use Rattle.clausification.specs.ClausalForms.{Both, FormsBuilt}
+use Rattle.clausification.specs.declared.clausal_forms.Forms.{Forms}
+use Rattle.clausification.specs.declared.clausal_forms.Forms.the-variants.{At, Full}
 use Rattle.clausification.specs.Promises.{forallAt, followsIn, Sides, Leaves}
 use Rattle.clausification.proofs.clause_search.Laws.{clauses-listed}
 use Rattle.clausification.proofs.qnt_cnf.Follows.{follows-kept}
@@ -53,17 +55,21 @@ module _ (f : Normal (List ℕ) ℕ) (a : Answer) (is : a ≡ listAnswer f) wher
       never : (k : ℕ) → k + 1 ≡ 0 → ⊥
       never k e = omega arith
 
--- ---- the parts of arrays that hold a form
-module _ (m : ℕ) (tags₁ values₁ : List ℕ) (o : Placed) (b : Built) (tags₂ values₂ : List ℕ) (built : NormalBuilt m tags₁ values₁ o b tags₂ values₂)
-    (y k : ℕ) (e : b ≡ At y k) where
-  holds : Holds m o y k tags₂ values₂
-  holds = let (h, room) = rw e at built in h
+-- ---- the two forms
+module _ (n t : ℕ) (tags values : List ℕ) (f : Forms) (tags₂ values₂ : List ℕ) (built : FormsBuilt n t tags values f tags₂ values₂)
+    (x m y k : ℕ) (e : f ≡ At x m y k) where
+  both : Both n t tags values x m y k tags₂ values₂
+  both = rw e at built
+
+  -- the arrays up to the second form, whose clauses are listed
+  source : Holds m (takenOut (poolOf (both .tags₁) (both .values₁) m) x) y k tags₂ values₂
+  source = let (h, room) = both .taken in h
 
   pub all-within : k ≤ length tags₂
-  all-within = holds .state .within
+  all-within = source .state .within
 
   pub all-within-values : k ≤ length values₂
-  all-within-values = omega (arith, holds .state .within, holds .state .size)
+  all-within-values = omega (arith, source .state .within, source .state .size)
 
   pub all-part : k ≡ length (take k tags₂)
   all-part = sym (length-take-le k tags₂ all-within)
@@ -72,14 +78,14 @@ module _ (m : ℕ) (tags₁ values₁ : List ℕ) (o : Placed) (b : Built) (tags
   all-part-values = sym (length-take-le k values₂ all-within-values)
 
   pub lent : Lent (length (take k tags₂)) 8192 2048
-  lent = record { small = omega (arith, all-part, holds .state .small); literals = omega arith; ends = omega arith }
+  lent = record { small = omega (arith, all-part, source .state .small); literals = omega arith; ends = omega arith }
 
-  -- the cells before it
+  -- the arrays up to the first form
   pub source-within : m ≤ length tags₂
-  source-within = omega (arith, holds .state .source, all-within)
+  source-within = omega (arith, source .state .source, all-within)
 
   pub source-within-values : m ≤ length values₂
-  source-within-values = omega (arith, holds .state .source, all-within-values)
+  source-within-values = omega (arith, source .state .source, all-within-values)
 
   pub source-part : m ≡ length (take m tags₂)
   source-part = sym (length-take-le m tags₂ source-within)
@@ -87,7 +93,13 @@ module _ (m : ℕ) (tags₁ values₁ : List ℕ) (o : Placed) (b : Built) (tags
   pub source-part-values : m ≡ length (take m values₂)
   source-part-values = sym (length-take-le m values₂ source-within-values)
 
-pub ruleset parts = (all-within, all-within-values, all-part, all-part-values)
+  pub tags-long : length tags₂ ≡ length tags
+  tags-long = both .tags-size
+
+  pub values-long : length values₂ ≡ length values
+  values-long = both .values-size
+
+pub ruleset parts = (all-within, all-within-values, all-part, all-part-values, source-within, source-within-values, source-part, source-part-values)
 
 -- ---- the answers
 cell-same : (n : ℕ) (l l′ : List ℕ) → take n l′ ≡ take n l → (i : ℕ) → i < n → getD l′ i 0 ≡ getD l i 0
@@ -110,94 +122,88 @@ module _ (tags values : List ℕ) (n l left r right : ℕ) (ask : Sides tags val
   unfolding clausified guard _>>_
   no-room e = rw e
 
-  module _ (b : Built) (tags₁ values₁ : List ℕ) (built : NormalBuilt n tags values (normalIn tags values n left true) b tags₁ values₁) where
-    pub clausified-full : b ≡ Full → (a : Answer) → a ≡ answerOf (refuse 31 0 0) → Leaves n tags values outcome a tags₁ values₁
-    clausified-full e a is =
-        let (kept, full) = clausal-full tags values n left b tags₁ values₁ built e in
-        record { answer = is ∙ ap answerOf (no-room full); left = kept }
+  module _ (f : Forms) (tags₂ values₂ : List ℕ) (built : FormsBuilt n left tags values f tags₂ values₂) where
+    pub clausified-full : f ≡ Full → (a : Answer) → a ≡ answerOf (refuse 31 0 0) → Leaves n tags values outcome a tags₂ values₂
+    clausified-full e a is = let (kept, full) = rw e at built in record { answer = is ∙ ap answerOf (no-room full); left = kept }
 
-    module _ (x m : ℕ) (e : b ≡ At x m) (b₂ : Built) (tags₂ values₂ : List ℕ)
-        (out : NormalBuilt m tags₁ values₁ (takenOut (poolOf tags₁ values₁ m) x) b₂ tags₂ values₂)
-        (size : length tags₁ ≡ length tags) (size₂ : length values₁ ≡ length values) where
-      both-built : NormalBuilt n tags values (clausalIn tags values n left) b₂ tags₂ values₂
-      both-built = clausal-then tags values n left b tags₁ values₁ built x m e sides-state size size₂ b₂ tags₂ values₂ out
+    module _ (x m y k : ℕ) (e : f ≡ At x m y k) (a : Answer) (literals ends : List ℕ)
+        (listed : Answered (listAnswer (formAt (take k tags₂) (take k values₂) y)) (cnf (formAt (take k tags₂) (take k values₂) y)) 8192 2048 a literals ends) where
+      forms : Both n left tags values x m y k tags₂ values₂
+      forms = rw e at built
 
-      pub clausified-full-out : b₂ ≡ Full → (a : Answer) → a ≡ answerOf (refuse 31 0 0) → Leaves n tags values outcome a tags₂ values₂
-      clausified-full-out f a is =
-          let (kept, full) = rw f at both-built in
-          record { answer = is ∙ ap answerOf (no-room full); left = kept }
+      first : Holds n (normalIn tags values n left true) x m (forms .tags₁) (forms .values₁)
+      first = let (h, room) = forms .normal in h
 
-      module _ (y k : ℕ) (f : b₂ ≡ At y k) (size′ : length tags₂ ≡ length tags) (size₂′ : length values₂ ≡ length values)
-          (a : Answer) (literals ends : List ℕ)
-          (listed : Answered (listAnswer (formAt (take k tags₂) (take k values₂) y)) (cnf (formAt (take k tags₂) (take k values₂) y)) 8192 2048 a literals ends) where
-        clausal-holds : Holds n (clausalIn tags values n left) y k tags₂ values₂
-        clausal-holds = let (h, room) = rw f at both-built in h
+      both-built : NormalBuilt n tags values (clausalIn tags values n left) (stands.At y k) tags₂ values₂
+      both-built =
+          clausal-then tags values n left (stands.At x m) (forms .tags₁) (forms .values₁) (forms .normal) x m refl sides-state (forms .first-tags) (forms .first-values)
+          (stands.At y k) tags₂ values₂ (forms .taken)
 
-        room : fits (clausalIn tags values n left .pool) (length tags) ≡ true
-        room = let (h, fit) = rw f at both-built in fit
+      clausal-holds : Holds n (clausalIn tags values n left) y k tags₂ values₂
+      clausal-holds = let (h, room) = both-built in h
 
-        kept : Left n tags values tags₂ values₂
-        kept =
-            let s = sides-state in
-            let on = clausal-on tags values n left s in
-            record {
-              tags-size = size′;
-              values-size = size₂′;
-              tags-kept = tags-kept n tags values s _ on y k tags₂ values₂ clausal-holds;
-              values-kept = values-kept n tags values s _ on y k tags₂ values₂ clausal-holds;
-            }
+      room : fits (clausalIn tags values n left .pool) (length tags) ≡ true
+      room = let (h, fit) = both-built in fit
 
-        form-is : formAt (take k tags₂) (take k values₂) y ≡ clausalFormIn tags values n left
-        form-is = ap₂ normalAt (clausal-holds .pool-is) (clausal-holds .place-is)
-
-        lists : Answered (listAnswer (clausalFormIn tags values n left)) (cnf (clausalFormIn tags values n left)) 8192 2048 a literals ends
-        lists = rw form-is at listed
-
-        pub clausified-refused : (a .code ≡ 0 → ⊥) → Leaves n tags values outcome a tags₂ values₂
-        unfolding clausified guard _>>_
-        clausified-refused z = record { answer = rw room (list-refused (clausalFormIn tags values n left) a (lists .answer) z _); left = kept }
-
-        module _ (z : a .code ≡ 0) where
-          clauses-are : clausesIn literals ends 0 (a .first) ≡ clausesFrom tags values n left
-          unfolding clausesFrom held
-          clauses-are =
-              let (some, limits, number) = list-made (clausalFormIn tags values n left) a (lists .answer) z in
-              clauses-listed (cnf (clausalFormIn tags values n left)) 8192 2048 literals ends (a .first)
-              (rw (eq-eqb _ _ z) at (lists .literals-are)) (rw (eq-eqb _ _ z) at (lists .ends-are)) number
-
-          -- the first m cells hold the normal form alone
-          source : Holds m (takenOut (poolOf tags₁ values₁ m) x) y k tags₂ values₂
-          source = let (h, fit) = rw f at out in h
-
-          normal : Holds n (normalIn tags values n left true) x m tags₁ values₁
-          normal = normal-holds tags values n left b tags₁ values₁ built x m e
-
-          first-pool : poolOf tags₂ values₂ m ≡ normalIn tags values n left true .pool
-          first-pool =
-              let s = normal-state tags values n left b tags₁ values₁ built x m e in
-              let on = taken-on m tags₁ values₁ x s in
-              ap₂ (λ (p q : List ℕ). record { tags = p; values = q })
-              (tags-kept m tags₁ values₁ s _ on y k tags₂ values₂ source) (values-kept m tags₁ values₁ s _ on y k tags₂ values₂ source)
-              ∙ normal .pool-is
-
-          normal-form : formAt (take m tags₂) (take m values₂) x ≡ normalAt (normalIn tags values n left true .pool) (normalIn tags values n left true .place)
-          normal-form = ap₂ normalAt first-pool (normal .place-is)
-
-          same : Same n tags values (take m tags₂) (take m values₂)
-          same = record {
-            long = passed .whole;
-            long′ = omega (arith, source-part-values m tags₁ values₁ _ b₂ tags₂ values₂ out y k f, normal .state .source);
-            tags-same = λ i h. getD-take m tags₂ i 0 (omega (arith, normal .state .source)) ∙ cell-same n tags tags₂ (kept .tags-kept) i h;
-            values-same = λ i h. getD-take m values₂ i 0 (omega (arith, normal .state .source)) ∙ cell-same n values values₂ (kept .values-kept) i h;
+      kept : Left n tags values tags₂ values₂
+      kept =
+          let s = sides-state in
+          let on = clausal-on tags values n left s in
+          record {
+            tags-size = forms .tags-size;
+            values-size = forms .values-size;
+            tags-kept = tags-kept n tags values s _ on y k tags₂ values₂ clausal-holds;
+            values-kept = values-kept n tags values s _ on y k tags₂ values₂ clausal-holds;
           }
 
-          pub clausified-follows : (p : Answer) → p ≡ answerOf (followsIn (take m tags₂) (take m values₂) n x l r right (clausesIn literals ends 0 (a .first)))
-              → Leaves n tags values outcome p tags₂ values₂
-          unfolding clausified guard _>>_
-          clausified-follows p is =
-              let (some, limits, number) = list-made (clausalFormIn tags values n left) a (lists .answer) z in
-              record {
-                answer = is ∙ ap answerOf (follows-kept n tags values (take m tags₂) (take m values₂) same (passed .formed) l left r right x
-                    (ask .left-place) (ask .right-place) (ask .right-body) normal-form _ clauses-are ∙ sym (rw (room, some, limits)));
-                left = kept;
-              }
+      form-is : formAt (take k tags₂) (take k values₂) y ≡ clausalFormIn tags values n left
+      form-is = ap₂ normalAt (clausal-holds .pool-is) (clausal-holds .place-is)
+
+      lists : Answered (listAnswer (clausalFormIn tags values n left)) (cnf (clausalFormIn tags values n left)) 8192 2048 a literals ends
+      lists = rw form-is at listed
+
+      pub clausified-refused : (a .code ≡ 0 → ⊥) → Leaves n tags values outcome a tags₂ values₂
+      unfolding clausified guard _>>_
+      clausified-refused z = record { answer = rw room (list-refused (clausalFormIn tags values n left) a (lists .answer) z _); left = kept }
+
+      module _ (z : a .code ≡ 0) where
+        clauses-are : clausesIn literals ends 0 (a .first) ≡ clausesFrom tags values n left
+        unfolding clausesFrom held
+        clauses-are =
+            let (some, limits, number) = list-made (clausalFormIn tags values n left) a (lists .answer) z in
+            clauses-listed (cnf (clausalFormIn tags values n left)) 8192 2048 literals ends (a .first)
+            (rw (eq-eqb _ _ z) at (lists .literals-are)) (rw (eq-eqb _ _ z) at (lists .ends-are)) number
+
+        -- the first m cells hold the normal form alone
+        first-pool : poolOf tags₂ values₂ m ≡ normalIn tags values n left true .pool
+        first-pool =
+            let s = normal-state tags values n left (stands.At x m) (forms .tags₁) (forms .values₁) (forms .normal) x m refl in
+            let on = taken-on m (forms .tags₁) (forms .values₁) x s in
+            let (h, fit) = forms .taken in
+            ap₂ (λ (p q : List ℕ). record { tags = p; values = q })
+            (tags-kept m (forms .tags₁) (forms .values₁) s _ on y k tags₂ values₂ h) (values-kept m (forms .tags₁) (forms .values₁) s _ on y k tags₂ values₂ h)
+            ∙ first .pool-is
+
+        normal-form : formAt (take m tags₂) (take m values₂) x ≡ normalAt (normalIn tags values n left true .pool) (normalIn tags values n left true .place)
+        normal-form = ap₂ normalAt first-pool (first .place-is)
+
+        same : Same n tags values (take m tags₂) (take m values₂)
+        same = record {
+          long = passed .whole;
+          long′ = omega (arith, source-part-values n left tags values f tags₂ values₂ built x m y k e, first .state .source);
+          tags-same = λ i h. getD-take m tags₂ i 0 (omega (arith, first .state .source)) ∙ cell-same n tags tags₂ (kept .tags-kept) i h;
+          values-same = λ i h. getD-take m values₂ i 0 (omega (arith, first .state .source)) ∙ cell-same n values values₂ (kept .values-kept) i h;
+        }
+
+        pub clausified-follows : (p : Answer) → p ≡ answerOf (followsIn (take m tags₂) (take m values₂) n x l r right (clausesIn literals ends 0 (a .first)))
+            → Leaves n tags values outcome p tags₂ values₂
+        unfolding clausified guard _>>_
+        clausified-follows p is =
+            let (some, limits, number) = list-made (clausalFormIn tags values n left) a (lists .answer) z in
+            record {
+              answer = is ∙ ap answerOf (follows-kept n tags values (take m tags₂) (take m values₂) same (passed .formed) l left r right x
+                  (ask .left-place) (ask .right-place) (ask .right-body) normal-form _ clauses-are ∙ sym (rw (room, some, limits)));
+              left = kept;
+            }
+
+pub ruleset answers-of = (clausified-full, clausified-refused, clausified-follows)

@@ -52,7 +52,7 @@ run-long l p k h = length-take-le k (drop (p + 1) l) (rw length-drop (omega arit
 
 module _ (n : ℕ) (tags values tags′ values′ : List ℕ) (s : Same n tags values tags′ values′) where
   module _ (p : ℕ) (h : p < n) (w : getD values p 0 < n - p) where
-    cells-same : cellsOf values′ p ≡ cellsOf values p
+    pub cells-same : cellsOf values′ p ≡ cellsOf values p
     unfolding cellsOf
     cells-same =
         let k : ℕ = getD values p 0 in

@@ -9,15 +9,15 @@ use lib.Seq.{sets, getD-set-same, getD-set-other}
 use lib.Dec.{eqb}
 use native.Mathlib.Omega.{arith}
 use native.Mathlib.Numerals.{add-one}
-use borrow.Author.Tests.{eqb-true, eqb-false}
+use borrow.Author.Tests.{eq-eqb, eqb-true, eqb-false}
 use Rattle.cells.specs.ByPlace.{by-test}
 use Rattle.cells.specs.Cell.{cellsOf, isAt}
 use Rattle.cells.specs.Headers.{firstIn, firstFrom, firstHeader}
 use Rattle.descriptions.specs.Description.{find, isFound, repeats, firstRepeat, zeroFrom}
-use Rattle.descriptions.specs.Index.{bucketOf, headOf, chainIn, onChain, asFound, lookUp, PointsBack, Within, Reached, start, next, Index, entered, Indexes}
+use Rattle.descriptions.specs.Index.{bucketOf, headOf, chainIn, onChain, asFound, lookUp, PointsBack, Reached, start, next, Within, bucketAt, Linked, Index, entered, Indexes}
 use Rattle.cells.specs.declared.Found.{Found}
 use Rattle.cells.specs.declared.Found.the-variants.{At, Nothing}
-use Rattle.cells.proofs.Cells.{same-eq}
+use Rattle.cells.proofs.Cells.{same-eq, same-refl}
 use Rattle.cells.proofs.Walks.{first-end, first-here, first-next, first-last}
 use Rattle.descriptions.proofs.description.Fills.{Fills, filled, more, orElse, fills-grown, header-grown, well-formed-fills}
 use Rattle.descriptions.proofs.index.Laws.{chain-suc, on-or, on-same}
@@ -33,7 +33,7 @@ module _ (values : List ℕ) where
   reached-fills start = filled
   reached-fills (next {p = p} r) = fills-next p (reached-fills r)
 
-  reached-same : (values′ : List ℕ) (p : ℕ) → ((q : ℕ) → q < p → getD values′ q 0 ≡ getD values q 0)
+  pub reached-same : (values′ : List ℕ) (p : ℕ) → ((q : ℕ) → q < p → getD values′ q 0 ≡ getD values q 0)
       → {q : ℕ} → Reached values q → q ≤ p → Reached values′ q
   reached-same values′ p same start h = start
   reached-same values′ p same (next {p = q} r) h =
@@ -55,6 +55,8 @@ index-start tags values index old l e =
       reached = start;
       links-back = record { back = λ i. omega (arith, z i) };
       entry = λ i q e′. absurd (omega (arith, z i));
+      link = λ i q h e′. absurd (omega (arith, z i));
+      head = λ b q e′. absurd (omega (arith, z (8192 + b)));
       holds = λ tag cells. rw (z (8192 + bucketOf tag cells));
     }
 
@@ -64,6 +66,10 @@ at-same tags values p tag cells e =
     by-test (eqb (getD tags p 0) tag)
     (λ o. (eqb-true _ _ o, same-eq (cellsOf values p) cells (rw o at e)))
     (λ o. let z : false ≡ true = rw o at e in let y : _≡_ {A = ℕ} 0 1 = cc in absurd (omega arith))
+
+at-own : (tags values : List ℕ) (q : ℕ) → isAt tags values q (getD tags q 0) (cellsOf values q) ≡ true
+unfolding isAt
+at-own tags values q = rw (eq-eqb (getD tags q 0) (getD tags q 0) refl) (same-refl (cellsOf values q))
 
 -- ---- one header more, at p: tags′ and values′ are as the arrays before at every header below p
 module _ (tags values : List ℕ) (p : ℕ) (index : List ℕ) (s : Index tags values p index) (h : p < 8192) (tags′ values′ : List ℕ)
@@ -78,6 +84,23 @@ module _ (tags values : List ℕ) (p : ℕ) (index : List ℕ) (s : Index tags v
       below : (c : ℕ) → getD index i 0 ≡ c → c ≤ p
       below zero e = omega arith
       below (suc q) e = let w : q < p = s .entry i q e .before in omega arith
+
+  -- a header below p is one of the new arrays, in the same bucket
+  here⁺ : Reached values′ p
+  here⁺ = reached-same values values′ p same (s .reached) (omega arith)
+
+  within-same : (q : ℕ) → Within values p q → Within values′ p′ q
+  within-same q w = record {
+    before = omega (arith, w .before);
+    fits = rw (same q (w .before)) (omega (arith, w .fits));
+    header = reached-same values values′ p same (w .header) (omega (arith, w .before));
+  }
+
+  bucket-same : (q : ℕ) → Within values p q → bucketAt tags′ values′ q ≡ bucketAt tags values q
+  bucket-same q w =
+      let (x, y) = at-same tags′ values′ q (getD tags q 0) (cellsOf values q)
+      (agree q (w .before) (w .fits) (getD tags q 0) (cellsOf values q) ∙ at-own tags values q) in
+      rw (x, y)
 
   -- what is found below p, and at p
   found-next : (tag : ℕ) (cells : List ℕ)
@@ -128,10 +151,41 @@ module _ (tags values : List ℕ) (p : ℕ) (index : List ℕ) (s : Index tags v
     within⁺ i q = by-entry (λ j c. c ≡ suc q → Within values′ p′ q) here (old (8192 + b)) old i
       where
         here : p + 1 ≡ suc q → Within values′ p′ q
-        here e = let z : p ≡ q = omega arith in rw (← z) (record { before = omega arith; fits = omega arith })
+        here e = let z : p ≡ q = omega arith in rw (← z) (record { before = omega arith; fits = omega arith; header = here⁺ })
 
         old : (j : ℕ) → getD index j 0 ≡ suc q → Within values′ p′ q
-        old j e = record { before = omega (arith, s .entry j q e .before); fits = rw (same q (s .entry j q e .before)) (omega (arith, s .entry j q e .fits)) }
+        old j e = within-same q (s .entry j q e)
+
+    module _ (bucket : b ≡ bucketOf (getD tags′ p 0) (cellsOf values′ p)) where
+      link⁺ : (i q : ℕ) → i < 8192 → getD index⁺ i 0 ≡ suc q → Linked tags′ values′ p′ i q
+      link⁺ i q l e =
+          by-test (eqb p i)
+          (λ o. let z : p ≡ i = eqb-true p i o in rw (← z) (first (sym link-here ∙ ap (λ j. getD index⁺ j 0) z ∙ e)))
+          (λ o. old (sym (other i (eqb-false p i o) (λ z. absurd (omega arith))) ∙ e))
+        where
+          first : headOf index b ≡ suc q → Linked tags′ values′ p′ p q
+          first z = record {
+            from = record { before = omega arith; fits = omega arith; header = here⁺ };
+            bucket = bucket-same q (s .entry (8192 + b) q z) ∙ s .head b q z ∙ bucket;
+          }
+
+          old : getD index i 0 ≡ suc q → Linked tags′ values′ p′ i q
+          old z = record {
+            from = within-same i (s .link i q l z .from);
+            bucket = bucket-same q (s .entry i q z) ∙ s .link i q l z .bucket ∙ sym (bucket-same i (s .link i q l z .from));
+          }
+
+      head⁺ : (d q : ℕ) → headOf index⁺ d ≡ suc q → bucketAt tags′ values′ q ≡ d
+      head⁺ d q e =
+          by-test (eqb b d)
+          (λ o. let z : b ≡ d = eqb-true b d o in first z (sym head-here ∙ ap (headOf index⁺) z ∙ e))
+          (λ o. old (sym (other (8192 + d) (λ z. absurd (omega arith)) (λ z. eqb-false b d o (omega arith))) ∙ e))
+        where
+          first : b ≡ d → p + 1 ≡ suc q → bucketAt tags′ values′ q ≡ d
+          first z y = let w : p ≡ q = omega arith in rw (← w) (sym bucket ∙ z)
+
+          old : headOf index d ≡ suc q → bucketAt tags′ values′ q ≡ d
+          old z = bucket-same q (s .entry (8192 + d) q z) ∙ s .head d q z
 
     module _ (bucket : b ≡ bucketOf (getD tags′ p 0) (cellsOf values′ p)) (tag : ℕ) (cells : List ℕ) where
       abbrev test′ : ℕ → Bool
@@ -181,6 +235,8 @@ module _ (tags values : List ℕ) (p : ℕ) (index : List ℕ) (s : Index tags v
       reached = next (reached-same values values′ p same (s .reached) (omega arith));
       links-back = back⁺;
       entry = within⁺;
+      link = link⁺ bucket;
+      head = head⁺ bucket;
       holds = holds⁺ bucket;
     }
 

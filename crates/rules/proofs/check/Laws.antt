@@ -239,3 +239,6 @@ pub ruleset steps = (step-other, step-30, step-zeroed)
 
 pub index-ready : (tags values : List ℕ) (n : ℕ) (a : Answer) (index : List ℕ) → Indexed tags values n a index → a .code ≡ 0 → Index tags values n index
 index-ready tags values n a index i ok = i .passed ok
+
+pub indexed-after : (tags values : List ℕ) (n : ℕ) (a : Answer) (index : List ℕ) → Index tags values n index → Indexed tags values n a index
+indexed-after tags values n a index i = record { passed = λ ok. i }

@@ -77,6 +77,9 @@ module _ (bytes : List ℕ) (n steps room : ℕ) (checked : Answer) (tags₀ val
   pub indexed-now : (index : List ℕ) → Indexed tags₀ values₀ n checked index → Indexed tags values n checked index
   indexed-now index i = rw (same-tags, same-values) i
 
+  pub indexed-then : (index : List ℕ) → Indexed tags values n checked index → Indexed tags₀ values₀ n checked index
+  indexed-then index i = rw (← same-tags, ← same-values) i
+
   module _ (k i s rule place : ℕ) (i-is : i ≡ k) (s-is : s ≡ steps) (rule-is : rule ≡ wordAt bytes (2 + 2 * n + i))
       (place-is : place ≡ wordAt bytes (2 + 2 * n + s + i)) (a : Answer) (tags′ values′ : List ℕ)
       (step : Step tags values builtIn n rule (place ∷ []) a tags′ values′) where

@@ -1,5 +1,5 @@
-use borrow.Author.Needs.{needs}
 use Rattle.clausification.proofs.qnt_cnf.Laws.{matching, leaves-all, leaves-after, sides-right, sides-rest, sides-are}
+use borrow.Author.Needs.{needs}
 use Rattle.clausification.proofs.qnt_cnf.checks.Statement.{statement}
 use Rattle.clausification.proofs.qnt_cnf.checks.Tie as tie
 
@@ -22,7 +22,7 @@ same-length-2 : tie.Need-same-length-2
 same-length-2 c = search needs
 
 returns : tie.Need-returns
-returns c = search matching
+returns c = (search matching, search needs)
 
 quantified-at-requires : tie.Need-quantified-at-requires
 quantified-at-requires c κs = search needs
@@ -43,7 +43,7 @@ same-length-4 : tie.Need-same-length-4
 same-length-4 c = search needs
 
 returns-2 : tie.Need-returns-2
-returns-2 c = search matching
+returns-2 c = (search matching, search needs)
 
 quantified-at-requires-2 : tie.Need-quantified-at-requires-2
 quantified-at-requires-2 c κs = search needs
@@ -64,9 +64,11 @@ same-length-6 : tie.Need-same-length-6
 same-length-6 c = search needs
 
 returns-3 : tie.Need-returns-3
-returns-3 c =
-    leaves-all _ _ _ _ _ _ (c .refuse3 .ensures) (sides-right _ _ _ _ _ (c .before .before .before .before .before .before .before .before .before .before .before .before .before .before .before .implication-at .ensures) _ _ (c .before .before .before .before .before .before .before .before .before .before .before .before .before .l .given .1)
-    _ (c .before .before .before .before .before .before .before .before .before .quantified-at .ensures) _ _ (c .before .before .before .before .before .before .before .left-kind .given .1) _ (c .before .before .before .quantified-at2 .ensures) (c .before .enum-told3 .given .1))
+returns-3 c = (
+  leaves-all _ _ _ _ _ _ (c .refuse3 .ensures) (sides-right _ _ _ _ _ (c .before .before .before .before .before .before .before .before .before .before .before .before .before .before .before .implication-at .ensures) _ _ (c .before .before .before .before .before .before .before .before .before .before .before .before .before .l .given .1)
+      _ (c .before .before .before .before .before .before .before .before .before .quantified-at .ensures) _ _ (c .before .before .before .before .before .before .before .left-kind .given .1) _ (c .before .before .before .quantified-at2 .ensures) (c .before .enum-told3 .given .1)),
+  search needs,
+)
 
 refuse-requires-4 : tie.Need-refuse-requires-4
 refuse-requires-4 c κs = search needs
@@ -78,7 +80,7 @@ same-length-8 : tie.Need-same-length-8
 same-length-8 c = search needs
 
 returns-4 : tie.Need-returns-4
-returns-4 c = search matching
+returns-4 c = (search matching, search needs)
 
 refuse-requires-5 : tie.Need-refuse-requires-5
 refuse-requires-5 c κs = search needs
@@ -90,13 +92,13 @@ same-length-10 : tie.Need-same-length-10
 same-length-10 c = search needs
 
 returns-5 : tie.Need-returns-5
-returns-5 c = search matching
+returns-5 c = (search matching, search needs)
 
 clausified-requires : tie.Need-clausified-requires
 clausified-requires c κs = (
-  c .before .before .before .before .before .before .before .before .before .before .before .before .before .before .before .before .before .before .before .before .before .before .before .before .pre .0,
-  sides-are _ _ _ _ _ (c .before .before .before .before .before .before .before .before .before .before .before .before .before .before .before .before .before .before .before .implication-at .ensures) _ _ (c .before .before .before .before .before .before .before .before .before .before .before .before .before .before .before .before .before .l .given .1) _ (c .before .before .before .before .before .before .before .before .before .before .before .before .before .quantified-at .ensures) _ _ (c .before .before .before .before .before .before .before .before .before .before .before .left-kind .given .1)
-      _ (c .before .before .before .before .before .before .before .quantified-at2 .ensures) _ _ (c .before .before .before .before .before .right-kind .given .1) (c .before .before .before .before .before .before .before .before .before .before .before .before .before .before .before .before .before .before .before .before .before .before .before .before .pre .1),
+  c .before .before .before .before .before .before .before .before .before .before .before .before .before .before .before .before .before .before .before .before .before .before .before .before .before .pre .0,
+  sides-are _ _ _ _ _ (c .before .before .before .before .before .before .before .before .before .before .before .before .before .before .before .before .before .before .before .before .implication-at .ensures) _ _ (c .before .before .before .before .before .before .before .before .before .before .before .before .before .before .before .before .before .before .l .given .1) _ (c .before .before .before .before .before .before .before .before .before .before .before .before .before .before .quantified-at .ensures) _ _ (c .before .before .before .before .before .before .before .before .before .before .before .before .left-kind .given .1)
+      _ (c .before .before .before .before .before .before .before .before .quantified-at2 .ensures) _ _ (c .before .before .before .before .before .before .right-kind .given .1) (c .before .before .before .before .before .before .before .before .before .before .before .before .before .before .before .before .before .before .before .before .before .before .before .before .before .pre .1),
 )
 
 same-length-11 : tie.Need-same-length-11
@@ -106,10 +108,11 @@ same-length-12 : tie.Need-same-length-12
 same-length-12 c = search needs
 
 returns-6 : tie.Need-returns-6
-returns-6 c =
-    leaves-after _ _ _ _ _ _ _ _ (c .before .before .before .before .clausified .ensures) (sides-rest _ _ _ _ _ (c .before .before .before .before .before .before .before .before .before .before .before .before .before .before .before .before .before .before .before .before .before .before .before .before .implication-at .ensures) _ _ (c .before .before .before .before .before .before .before .before .before .before .before .before .before .before .before .before .before .before .before .before .before .before .l .given .1)
-    _ (c .before .before .before .before .before .before .before .before .before .before .before .before .before .before .before .before .before .before .quantified-at .ensures) _ _ (c .before .before .before .before .before .before .before .before .before .before .before .before .before .before .before .before .left-kind .given .1) _ (c .before .before .before .before .before .before .before .before .before .before .before .before .quantified-at2 .ensures) _ _ (c .before .before .before .before .before .before .before .before .before .before .right-kind .given .1)
-    (c .before .before .before .before .before .before .before .before .if1 .left) (c .before .before .before .before .before .before .before .if2 .left))
+returns-6 c = (
+  leaves-after _ _ _ _ _ _ _ _ (c .before .before .before .before .clausified .ensures .0) (sides-rest _ _ _ _ _ (c .before .before .before .before .before .before .before .before .before .before .before .before .before .before .before .before .before .before .before .before .before .before .before .before .before .implication-at .ensures) _ _ (c .before .before .before .before .before .before .before .before .before .before .before .before .before .before .before .before .before .before .before .before .before .before .before .l .given .1)
+      _ (c .before .before .before .before .before .before .before .before .before .before .before .before .before .before .before .before .before .before .before .quantified-at .ensures) _ _ (c .before .before .before .before .before .before .before .before .before .before .before .before .before .before .before .before .before .left-kind .given .1) _ (c .before .before .before .before .before .before .before .before .before .before .before .before .before .quantified-at2 .ensures) _ _ (c .before .before .before .before .before .before .before .before .before .before .before .right-kind .given .1) (c .before .before .before .before .before .before .before .before .before .if1 .left) (c .before .before .before .before .before .before .before .before .if2 .left)),
+  c .before .before .before .before .clausified .ensures .1,
+)
 
 pub checks-spec : {M : Type 1} → statement M
 checks-spec =

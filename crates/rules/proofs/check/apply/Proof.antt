@@ -21,7 +21,7 @@ same-length-2 : tie.Need-same-length-2
 same-length-2 c = search needs
 
 returns : tie.Need-returns
-returns c = search applies
+returns c = (search applies, search needs)
 
 qnt-rm-unused-requires : tie.Need-qnt-rm-unused-requires
 qnt-rm-unused-requires c κs = search needs
@@ -33,7 +33,7 @@ same-length-4 : tie.Need-same-length-4
 same-length-4 c = search needs
 
 returns-2 : tie.Need-returns-2
-returns-2 c = search applies
+returns-2 c = (search applies, search needs)
 
 qnt-cnf-requires : tie.Need-qnt-cnf-requires
 qnt-cnf-requires c κs = search needs
@@ -45,7 +45,7 @@ same-length-6 : tie.Need-same-length-6
 same-length-6 c = search needs
 
 returns-3 : tie.Need-returns-3
-returns-3 c = search applies
+returns-3 c = (search applies, search needs)
 
 miniscope-distribute-requires : tie.Need-miniscope-distribute-requires
 miniscope-distribute-requires c κs = search needs
@@ -57,7 +57,7 @@ same-length-8 : tie.Need-same-length-8
 same-length-8 c = search needs
 
 returns-4 : tie.Need-returns-4
-returns-4 c = search applies
+returns-4 c = (search applies, search needs)
 
 miniscope-split-requires : tie.Need-miniscope-split-requires
 miniscope-split-requires c κs = search left-fits
@@ -69,7 +69,7 @@ same-length-10 : tie.Need-same-length-10
 same-length-10 c = search needs
 
 returns-5 : tie.Need-returns-5
-returns-5 c = search applies
+returns-5 c = (search applies, search needs)
 
 miniscope-ite-requires : tie.Need-miniscope-ite-requires
 miniscope-ite-requires c κs = search needs
@@ -81,7 +81,7 @@ same-length-12 : tie.Need-same-length-12
 same-length-12 c = search needs
 
 returns-6 : tie.Need-returns-6
-returns-6 c = search applies
+returns-6 c = (search applies, search needs)
 
 pub apply-spec : {M : Type 1} → statement M
 apply-spec =

@@ -17,7 +17,7 @@ same-length-2 : tie.Need-same-length-2
 same-length-2 c = search needs
 
 returns : tie.Need-returns
-returns c = search steps
+returns c = (search steps, search needs)
 
 same-length-3 : tie.Need-same-length-3
 same-length-3 c = search needs
@@ -26,7 +26,7 @@ same-length-4 : tie.Need-same-length-4
 same-length-4 c = search needs
 
 returns-2 : tie.Need-returns-2
-returns-2 c = search steps
+returns-2 c = (search steps, search needs)
 
 cut-back-requires : tie.Need-cut-back-requires
 cut-back-requires c κs = search needs
@@ -38,7 +38,7 @@ same-length-6 : tie.Need-same-length-6
 same-length-6 c = search needs
 
 returns-3 : tie.Need-returns-3
-returns-3 c = search steps
+returns-3 c = (search steps, search needs)
 
 pub check-after-spec : {M : Type 1} → statement M
 check-after-spec =

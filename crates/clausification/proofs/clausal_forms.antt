@@ -1,0 +1,2 @@
+-- Laws of the two forms that are built.
+pub mod Laws
