@@ -124,7 +124,7 @@ pub(crate) fn put(tags: &mut [u32], values: &mut [u32], n: usize, tag: u32, cell
 }
 
 // Writes 0 to every cell from n on.
-pub(crate) fn zero_from(a: &mut [u32], n: usize)
+pub fn zero_from(a: &mut [u32], n: usize)
     ensures { λ _. ⌜ now (a .exit) ≡ zeroFrom n (now (a .entry)) ⌝ }
 {
     let mut i = n;

@@ -1,17 +1,12 @@
--- What the functions of `lines` ask of their arguments, and what a new array holds.
+-- What the functions of `lines` ask of their arguments.
 -- Rests on StepFile and pool's Check.
 use Prim.Native.Nat.{ℕ, _≤_}
 use mathlib.Core.Path.{_≡_}
 use mathlib.Core.List.{List}
-use lib.ListN.{replicate}
 use Rattle.sort_rules.specs.Table.{builtIn}
 use Rattle.pool_checks.specs.Check.{checkPool}
 use Rattle.answers.specs.declared.Answer.{Answer}
 use Rattle.step_files.specs.StepFile.{cellCount, stepCount, fileTags, fileValues}
-
--- the cells before a file is read
-unfoldable pub noCells : List ℕ
-noCells = replicate 8192 0
 
 module _ (bytes : List ℕ) (n steps room : ℕ) where
   -- n and steps are the file's N and R and in bounds, and there is room for the text

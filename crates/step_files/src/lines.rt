@@ -4,11 +4,12 @@ ghost use mathlib.Core.Path.{_≡_};
 ghost use lib.ListN.{length};
 ghost use Rattle.pool_checks.specs.Check.{Indexed};
 ghost use Rattle.step_files.specs.StepFile.{cellsFrom, lines};
-ghost use Rattle.step_files.specs.Steps.{noCells, Sized, Ready};
+ghost use Rattle.step_files.specs.Steps.{Sized, Ready};
 ghost use Rattle.answer_lines.specs.Text.{Put};
 use answer_lines::put_line;
 use pool::Answer;
 use pool::call::index_pool;
+use pool::description::zero_from;
 use rules::check::check_after;
 use words::read_words;
 use words::word;
@@ -19,20 +20,14 @@ pub(crate) fn wide(x: u32) -> usize
     x as usize
 }
 
-fn no_cells() -> [u32; 8192]
-    ensures { λ r. ⌜ r ≡ noCells ⌝ }
-{
-    [0; 8192]
-}
-
-// An array of n words of the file from position start on, and zeroes.
-fn cells_from(input: &[u8], start: usize, n: usize) -> [u32; 8192]
+// Reads n words of the file from position start on, with zeroes after them.
+fn read_cells(input: &[u8], start: usize, n: usize, cells: &mut [u32])
     requires { ⌜ n ≤ 8192 ⌝ }
-    ensures { λ r. ⌜ r ≡ cellsFrom (now (input .entry)) start n ⌝ }
+    requires { ⌜ length (now cells) ≡ 8192 ⌝ }
+    ensures { λ _. ⌜ now (cells .exit) ≡ cellsFrom (now (input .entry)) start n ⌝ }
 {
-    let mut cells = no_cells();
+    zero_from(cells, n);
     read_words(input, start, &mut cells[..n]);
-    cells
 }
 
 // The line of every step, over the file's arrays and the answer of the pool check on them. Each step leaves the cells as they were.
@@ -72,8 +67,10 @@ pub(crate) fn answer_steps(input: &[u8], n: usize, steps: u32, out: &mut [u8]) -
     requires { ⌜ Sized (now input) n steps (length (now out)) ⌝ }
     ensures { λ r. ⌜ Put (lines (now (input .entry)) steps) 11264 0 (now (out .entry)) r (now (out .exit)) ⌝ }
 {
-    let mut tags = cells_from(input, 2, n);
-    let mut values = cells_from(input, 2 + n, n);
+    let mut tags = [0u32; 8192];
+    read_cells(input, 2, n, &mut tags);
+    let mut values = [0u32; 8192];
+    read_cells(input, 2 + n, n, &mut values);
     let mut index = [0u32; 12288];
     let checked = index_pool(&tags, &values, n, &mut index);
     put_lines(

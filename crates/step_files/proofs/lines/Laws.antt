@@ -5,7 +5,7 @@ use mathlib.Core.Path.{_≡_, refl, sym, ap, _∙_}
 use mathlib.Core.Bool.{Bool, true, false, not, _&&_, cond}
 use mathlib.Core.List.{List, [], _∷_, _++_}
 use lib.ListN.{length, take, drop, replicate, length-append, length-replicate}
-use lib.Seq.{take-at, length-take-le}
+use lib.Seq.{take-at, drop-at, length-take-le}
 use lib.Dec.{eqb}
 use native.Mathlib.Omega.{arith}
 use native.Mathlib.Numerals.{add-one}
@@ -18,29 +18,32 @@ use Rattle.pool_checks.specs.Check.{checkPool, Indexed}
 use Rattle.answers.specs.declared.Answer.{Answer}
 use Rattle.rules.specs.Step.{stepAnswer, cellsLeft, Step}
 use Rattle.step_files.specs.StepFile.{cellsFrom, cellCount, stepCount, fileTags, fileValues, answerTo, lines}
-use Rattle.step_files.specs.Steps.{noCells, Sized, Ready}
+use Rattle.step_files.specs.Steps.{Sized, Ready}
 use Rattle.answer_lines.specs.Text.{line, Put}
 use Rattle.answer_lines.proofs.Laws.{put-append}
 
 -- ---- the arrays
-drop-replicate : (m n : ℕ) → _≡_ {A = List ℕ} (drop m (replicate n 0)) (replicate (n - m) 0)
-drop-replicate zero n = let e : n - 0 ≡ n = omega arith in rw e
-drop-replicate (suc m) zero = let e : 0 - suc m ≡ 0 = omega arith in rw e
-drop-replicate (suc m) (suc n) = let e : suc n - suc m ≡ n - m = omega arith in rw e (drop-replicate m n)
+-- the array l, zeroed from n on
+module _ (n : ℕ) (l cells : List ℕ) (e : cells ≡ zeroFrom n l) (long : length l ≡ 8192) (fits : n ≤ 8192) where
+  zeroed-length : length cells ≡ 8192
+  unfolding zeroFrom
+  zeroed-length = rw (e, length-append, length-take-le n l (omega arith), length-replicate) (omega arith)
 
-pub length-none : length noCells ≡ 8192
-unfolding noCells
-length-none = length-replicate {A = ℕ} 8192 0
+  pub part-within : n ≤ length cells
+  part-within = rw zeroed-length fits
 
--- the part that a call reads into
-pub part-read : (n : ℕ) (cells : List ℕ) → cells ≡ noCells → n ≤ 8192 → n ≡ length (take n cells)
-part-read n cells e h = sym (length-take-le n cells (rw (e, length-none) h))
+  -- the part that a call reads into
+  pub part-read : n ≡ length (take n cells)
+  part-read = sym (length-take-le n cells part-within)
 
--- an array whose first n cells are read
-pub cells-read : (bytes : List ℕ) (start n k : ℕ) (cells words : List ℕ) → cells ≡ noCells → words ≡ wordsFrom bytes start k → n ≡ k
-    → words ++ drop n cells ≡ cellsFrom bytes start n
-unfolding cellsFrom noCells
-cells-read bytes start n k cells words none e same = rw (e, ← same, none, drop-replicate n 8192)
+  -- what it holds once its first n cells are read
+  pub cells-read : (bytes : List ℕ) (start k : ℕ) (words : List ℕ) → words ≡ wordsFrom bytes start k → n ≡ k → words ++ drop n cells ≡ cellsFrom bytes start n
+  unfolding cellsFrom zeroFrom
+  cells-read bytes start k words w same =
+      let d : drop n (take n l ++ replicate (length l - n) 0) ≡ replicate (length l - n) 0 = drop-at (take n l) (replicate (length l - n) 0) n (length-take-le n l (omega arith)) in
+      rw (w, ← same, e, d, long)
+
+pub ruleset cells-from = (part-within, part-read, cells-read)
 
 module _ (bytes : List ℕ) (start n : ℕ) (fits : n ≤ 8192) where
   pub length-cells : length (cellsFrom bytes start n) ≡ 8192

@@ -1,16 +1,22 @@
-use borrow.Author.Needs.{needs}
 use Rattle.step_files.proofs.lines.Laws.{made-ready}
+use borrow.Author.Needs.{needs}
 use Rattle.step_files.proofs.lines.answer_steps.Statement.{statement}
 use Rattle.step_files.proofs.lines.answer_steps.Tie as tie
 
-cells-from-requires : tie.Need-cells-from-requires
-cells-from-requires c κs = search needs
+slice-aggregate-read-cells : tie.Need-slice-aggregate-read-cells
+slice-aggregate-read-cells c = search needs
 
-add-cells-from : tie.Need-add-cells-from
-add-cells-from c = search needs
+read-cells-requires : tie.Need-read-cells-requires
+read-cells-requires c κs = search needs
 
-cells-from-requires-2 : tie.Need-cells-from-requires-2
-cells-from-requires-2 c κs = search needs
+add-read-cells : tie.Need-add-read-cells
+add-read-cells c = search needs
+
+slice-aggregate-read-cells-2 : tie.Need-slice-aggregate-read-cells-2
+slice-aggregate-read-cells-2 c = search needs
+
+read-cells-requires-2 : tie.Need-read-cells-requires-2
+read-cells-requires-2 c κs = search needs
 
 slice-aggregate-index-pool : tie.Need-slice-aggregate-index-pool
 slice-aggregate-index-pool c = search needs
@@ -40,9 +46,11 @@ pub answer-steps-spec : {M : Type 1} → statement M
 answer-steps-spec =
     tie.close
     (tie.spec
-    cells-from-requires
-    add-cells-from
-    cells-from-requires-2
+    slice-aggregate-read-cells
+    read-cells-requires
+    add-read-cells
+    slice-aggregate-read-cells-2
+    read-cells-requires-2
     slice-aggregate-index-pool
     slice-aggregate-index-pool-2
     index-pool-requires
