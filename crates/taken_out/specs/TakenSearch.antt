@@ -7,7 +7,7 @@ use mathlib.Core.Bool.{Bool, true, not, _&&_}
 use mathlib.Core.List.{List}
 use lib.ListN.{getD, set}
 use Rattle.cells.specs.Cell.{operandsOf}
-use Rattle.free_vars.specs.Names.{freeIn, Listed}
+use Rattle.term_names.specs.Names.{freeIn, Listed}
 use Rattle.formulas.specs.Formula.{allBefore}
 use Rattle.formulas.specs.Normal.{taken, takens}
 use Rattle.formulas.specs.Built.{normalsOf}

@@ -6,7 +6,7 @@ use formulas::view::NormalView;
 use formulas::view::normal_view;
 use free_lists::is_free_by;
 use pool::TermPlace;
-use pool::names::mark_names;
+use pool::mark_names;
 use pool::run::operands;
 use quantifiers::binding::FirstName;
 use quantifiers::binding::has;

@@ -13,13 +13,13 @@ use borrow.Author.Tests.{eqb-true, eqb-false, ltb-true, ltb-false}
 use Rattle.cells.specs.Cell.{sortOf, operandsOf}
 use Rattle.cells.specs.ByPlace.{by-test}
 use Rattle.cells.specs.declared.TermPlace.{TermPlace}
 use Rattle.free_vars.specs.Free.{isFree}
 use Rattle.free_vars.specs.FreeMemo.{pairsBind}
-use Rattle.free_vars.specs.Names.{bucketOf, mayBeFree, freeIn, Listed}
-use Rattle.free_vars.specs.NamesWalk.{freeAmong, Within, Means, Right, Grown, Walked}
-use Rattle.free_vars.specs.declared.names.Below.{Below}
-use Rattle.free_vars.specs.declared.names.Below.the-variants.{Nothing, Variable, Body, Run}
+use Rattle.term_names.specs.Names.{bucketOf, mayBeFree, freeIn, Listed}
+use Rattle.term_names.specs.NamesWalk.{freeAmong, Within, Means, Right, Grown, Walked}
+use Rattle.term_names.specs.declared.Below.{Below}
+use Rattle.term_names.specs.declared.Below.the-variants.{Nothing, Variable, Body, Run}
 use Rattle.free_vars.proofs.Laws.{zeros, any-none, any-is, below-is, below-not, look-low, look-application, look-operator, look-bound, look-late, look-body}
 
 clash : {C : Type 0} → false ≡ true → C
 clash e = absurd (let z : _≡_ {A = ℕ} 0 1 = cc in omega arith)

@@ -1,18 +1,18 @@
 // A table of the names that a term has, made in one walk: a filter before the walks for single variables. A name with a sort has
 // a bucket, by a hash. Binders take no name out of the table. A memo, a byte for each place, keeps the places whose names
 // are in it; a place past the memo's end is walked anew.
-use crate::noted_at;
 use cells::TermPlace;
 use cells::run::cell;
 use cells::run::operands;
 use cells::run::sort_of;
 use cells::run::wide;
+use free_vars::noted_at;
 ghost use mathlib.Core.Path.{_≡_};
 ghost use Prim.Native.Nat.{_+_};
 ghost use lib.ListN.{getD, set};
 ghost use Rattle.cells.specs.Cell.{sortOf};
-ghost use Rattle.free_vars.specs.Names.{bucketOf, mayBeFree, freeIn, Listed};
-ghost use Rattle.free_vars.specs.NamesWalk.{freeAmong, Means, Right, Walked};
+ghost use Rattle.term_names.specs.Names.{bucketOf, mayBeFree, freeIn, Listed};
+ghost use Rattle.term_names.specs.NamesWalk.{freeAmong, Means, Right, Walked};
 
 // The bucket of a name with a sort.
 fn bucket(name: u32, sort: u32) -> usize

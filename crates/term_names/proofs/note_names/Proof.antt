@@ -1,7 +1,7 @@
-use Rattle.free_vars.proofs.names.Laws.{sets}
+use Rattle.term_names.proofs.Laws.{sets}
 use borrow.Author.Needs.{needs}
-use Rattle.free_vars.proofs.names.note_names.Statement.{statement}
-use Rattle.free_vars.proofs.names.note_names.Tie as tie
+use Rattle.term_names.proofs.note_names.Statement.{statement}
+use Rattle.term_names.proofs.note_names.Tie as tie
 
 cast-at : tie.Need-cast-at
 cast-at c = search needs

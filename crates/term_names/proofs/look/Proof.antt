@@ -1,7 +1,7 @@
-use Rattle.free_vars.proofs.names.Laws.{finds}
+use Rattle.term_names.proofs.Laws.{finds}
 use borrow.Author.Needs.{needs}
-use Rattle.free_vars.proofs.names.look.Statement.{statement}
-use Rattle.free_vars.proofs.names.look.Tie as tie
+use Rattle.term_names.proofs.look.Statement.{statement}
+use Rattle.term_names.proofs.look.Tie as tie
 
 cast-at : tie.Need-cast-at
 cast-at c = search needs

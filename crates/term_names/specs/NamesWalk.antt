@@ -7,11 +7,11 @@ use mathlib.Core.List.{List}
 use lib.ListN.{getD}
 use lib.Dec.{eqb}
 use Rattle.cells.specs.Cell.{operandsOf}
 use Rattle.free_vars.specs.Free.{anyOf}
 use Rattle.free_vars.specs.FreeMemo.{freeBelow}
-use Rattle.free_vars.specs.Names.{mayBeFree, freeIn, Listed}
-use Rattle.free_vars.specs.declared.names.Below.{Below}
-use Rattle.free_vars.specs.declared.names.Below.the-variants.{Nothing, Variable, Body, Run}
+use Rattle.term_names.specs.Names.{mayBeFree, freeIn, Listed}
+use Rattle.term_names.specs.declared.Below.{Below}
+use Rattle.term_names.specs.declared.Below.the-variants.{Nothing, Variable, Body, Run}
 
 -- the variable at v is free in a term of the run that stands before t, as a test of v
 unfoldable pub freeAmong : List ℕ → List ℕ → ℕ → List ℕ → ℕ → Bool

@@ -1,23 +1,23 @@
 use borrow.Author.Needs.{needs}
-use Rattle.free_vars.proofs.names.Laws.{walks, walk-run, body-below}
+use Rattle.term_names.proofs.Laws.{walks, walk-run, body-below}
 use native.Mathlib.Omega.{arith}
 use lib.ListN.{length}
 use Prim.Native.Nat.{ℕ, _<_, _*_, _+_, _^_}
 use borrow.Fn.Kinds.{In}
 use borrow.Fn.PlainCycle.{Measures, is, falls, and}
-use Rattle.free_vars.proofs.names.names_of_run.Reads as names-of-run
-use Rattle.free_vars.proofs.names.names_of_run.Kinds as names-of-run-kinds
-use Rattle.free_vars.proofs.names.+names_of_run+names_of_term.Lts-names_of_run as names-of-run-lts
-use Rattle.free_vars.proofs.names.names_of_term.Reads as names-of-term
-use Rattle.free_vars.proofs.names.names_of_term.Kinds as names-of-term-kinds
-use Rattle.free_vars.proofs.names.+names_of_run+names_of_term.Lts-names_of_term as names-of-term-lts
+use Rattle.term_names.proofs.names_of_run.Reads as names-of-run
+use Rattle.term_names.proofs.names_of_run.Kinds as names-of-run-kinds
+use Rattle.term_names.proofs.+names_of_run+names_of_term.Lts-names_of_run as names-of-run-lts
+use Rattle.term_names.proofs.names_of_term.Reads as names-of-term
+use Rattle.term_names.proofs.names_of_term.Kinds as names-of-term-kinds
+use Rattle.term_names.proofs.+names_of_run+names_of_term.Lts-names_of_term as names-of-term-lts
 use Rattle.cells.proofs.run.operands.Reads as operands-reads
-use Rattle.free_vars.proofs.names.look.Reads as look-reads
-use Rattle.free_vars.proofs.names.mark_name.Reads as mark-name-reads
-use Rattle.free_vars.proofs.names.note_names.Reads as note-names-reads
+use Rattle.term_names.proofs.look.Reads as look-reads
+use Rattle.term_names.proofs.mark_name.Reads as mark-name-reads
+use Rattle.term_names.proofs.note_names.Reads as note-names-reads
 use Rattle.free_vars.proofs.noted_at.Reads as noted-at-reads
-use Rattle.free_vars.proofs.names.+names_of_run+names_of_term.{statement}
-use Rattle.free_vars.proofs.names.+names_of_run+names_of_term.Tie.{close}
+use Rattle.term_names.proofs.+names_of_run+names_of_term.{statement}
+use Rattle.term_names.proofs.+names_of_run+names_of_term.Tie.{close}
 
 abbrev μ-names-of-run : Measures 5 names-of-run-kinds.ps ℕ
 μ-names-of-run κs a = a .1 .1 .1 .1 .0 .0 * 2 ^ 65 + length (a .1 .1 .1 .1 .1 .0 .now)
