@@ -17,7 +17,7 @@ ghost use mathlib.Core.List.{_++_};
 ghost use lib.ListN.{getD};
 ghost use Rattle.formulas.specs.Formula.{allBefore};
 ghost use Rattle.formulas.specs.Normal.{taken};
-ghost use Rattle.clauses.specs.ClauseWalk.{formAt};
+ghost use Rattle.clause_totals.specs.ClauseWalk.{formAt};
 ghost use Rattle.quantifiers.specs.Binding.{bindingsOf, has, firstOf};
 ghost use Rattle.quantifiers.specs.BindingAnswer.{pair, nameOf};
 ghost use Rattle.taken_out.specs.TakenSearch.{isSought, Tabled, foundAt, foundIn, Means, Right, Answered, Noted};
