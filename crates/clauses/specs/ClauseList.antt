@@ -15,7 +15,7 @@ use Rattle.formulas.specs.Normal.{Normal, Normals}
 use Rattle.formulas.specs.Clauses.{cnf, cnfAnd, cnfOr, literalTotal, emptyOr}
 use Rattle.formulas.specs.Built.{normalsOf}
 use Rattle.clauses.specs.Lists.{emptyOrReached, tooManyClauses, padded, clausePlaces, literalPlaces, clauseEnds}
-use Rattle.clauses.specs.ClauseWalk.{formAt, Memo}
+use Rattle.clause_totals.specs.ClauseWalk.{formAt, Memo}
 use Rattle.clauses.specs.declared.conjunctive_normal_form.Chosen.{Chosen}
 use Rattle.clauses.specs.declared.conjunctive_normal_form.Digits.{Digits}
 use Rattle.clauses.specs.declared.clause_list.Filled.{Filled}

@@ -1,5 +1,3 @@
 // Clauses of a term in normal form whose foralls are taken out, after `conjunctive_normal_form`.
 pub mod clause_list;
-mod clause_totals;
 mod conjunctive_normal_form;
-mod empty_or;

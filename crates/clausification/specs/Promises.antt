@@ -1,5 +1,5 @@
 -- What the functions of rule 3 promise each other.
--- Rests on QntCnf, on pool's Check, and on building's Walk and clauses' ClauseWalk.
+-- Rests on QntCnf, on pool's Check, and on building's Walk and clause_totals' ClauseWalk.
 use Prim.Native.Nat.{ℕ, _<_}
 use mathlib.Core.Path.{_≡_}
 use mathlib.Core.Bool.{true, not, _&&_}
@@ -9,7 +9,7 @@ use Rattle.descriptions.specs.Description.{zeroFrom}
 use Rattle.pool_checks.specs.Check.{checkPool}
 use Rattle.answers.specs.declared.Answer.{Answer}
 use Rattle.formulas.specs.Normal.{taken}
-use Rattle.clauses.specs.ClauseWalk.{formAt}
+use Rattle.clause_totals.specs.ClauseWalk.{formAt}
 use Rattle.building.specs.Walk.{Left}
 use Rattle.quantifiers.specs.Outcome.{Outcome, _>>_, guard, unless, answerOf}
 use Rattle.quantifiers.specs.Binding.{Binding, bindingsOf, has, firstOf, bindingFree}

@@ -16,9 +16,9 @@ use Rattle.cells.specs.declared.Found.the-variants as found
 use Rattle.cells.proofs.Cells.{same-eq}
 use Rattle.descriptions.specs.Description.{find}
 use Rattle.free_vars.specs.Free.{isFree}
-use Rattle.free_vars.specs.Names.{mayBeFree, freeIn, Listed}
+use Rattle.term_names.specs.Names.{mayBeFree, freeIn, Listed}
 use Rattle.free_vars.proofs.Laws.{later-not}
-use Rattle.free_vars.proofs.names.Laws.{not-listed}
+use Rattle.term_names.proofs.Laws.{not-listed}
 use Rattle.term_trees.proofs.Walk.{found-holds}
 use Rattle.quantifiers.specs.Binding.{freeAt, bindingFree}
 use Rattle.quantifiers.specs.BindingAnswer.{pair}

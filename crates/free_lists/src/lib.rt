@@ -4,13 +4,13 @@ use pool::Found;
 use pool::TermPlace;
 use pool::description::find;
 use pool::is_free;
-use pool::names::mark_names;
-use pool::names::may_be_free;
+use pool::mark_names;
+use pool::may_be_free;
 use quantifiers::binding::FirstName;
 use quantifiers::binding::has;
 ghost use mathlib.Core.Path.{_≡_};
 ghost use mathlib.Core.Bool.{not, _&&_};
-ghost use Rattle.free_vars.specs.Names.{freeIn, Listed};
+ghost use Rattle.term_names.specs.Names.{freeIn, Listed};
 ghost use Rattle.quantifiers.specs.Binding.{bindingsOf, has, firstOf, bindingFree};
 ghost use Rattle.quantifiers.specs.BindingAnswer.{pair, nameOf};
 

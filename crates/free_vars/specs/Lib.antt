@@ -1,4 +1,2 @@
 pub mod Free
 pub mod FreeMemo
-pub mod Names
-pub mod NamesWalk

@@ -1,7 +1,5 @@
 // Free variables, after `compute_free_vars`. A memo, a byte for each place, keeps the answers for one variable, so that
 // its walk takes time linear in the pool however terms are shared. A place past the memo's end is walked anew.
-pub mod names;
-
 use cells::TermPlace;
 use cells::run::cell;
 use cells::run::operands;
@@ -53,7 +51,7 @@ pub enum Step {
 }
 
 // The memo's entry for a place, and 0 past its end.
-fn noted_at(memo: &[u8], i: usize) -> u8
+pub fn noted_at(memo: &[u8], i: usize) -> u8
     ensures { λ r. ⌜ r ≡ getD (now (memo .entry)) i 0 ⌝ }
 {
     if i < memo.len() { memo[i] } else { 0 }

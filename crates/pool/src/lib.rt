@@ -10,5 +10,6 @@ pub use cells::run;
 pub use descriptions::description;
 pub use descriptions::index;
 pub use free_vars::is_free;
-pub use free_vars::names;
 pub use headers::well_formed;
+pub use term_names::mark_names;
+pub use term_names::may_be_free;

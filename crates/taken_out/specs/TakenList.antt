@@ -8,7 +8,7 @@ use mathlib.Core.List.{List}
 use lib.ListN.{getD, drop}
 use Rattle.formulas.specs.Normal.{taken, takens}
 use Rattle.formulas.specs.Built.{normalsOf}
-use Rattle.clauses.specs.ClauseWalk.{formAt}
+use Rattle.clause_totals.specs.ClauseWalk.{formAt}
 use Rattle.quantifiers.specs.Binding.{Binding, bindingsOf, has}
 use Rattle.taken_out.specs.declared.taken_list.Collected.{Collected}
 use Rattle.taken_out.specs.declared.taken_list.Collected.the-variants.{From, Full}

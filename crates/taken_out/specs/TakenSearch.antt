@@ -7,11 +7,11 @@ use mathlib.Core.Bool.{Bool, true, not, _&&_}
 use mathlib.Core.List.{List}
 use lib.ListN.{getD, set}
 use Rattle.cells.specs.Cell.{operandsOf}
-use Rattle.free_vars.specs.Names.{freeIn, Listed}
+use Rattle.term_names.specs.Names.{freeIn, Listed}
 use Rattle.formulas.specs.Formula.{allBefore}
 use Rattle.formulas.specs.Normal.{taken, takens}
 use Rattle.formulas.specs.Built.{normalsOf}
-use Rattle.clauses.specs.ClauseWalk.{formAt}
+use Rattle.clause_totals.specs.ClauseWalk.{formAt}
 use Rattle.quantifiers.specs.Binding.{Binding, bindingsOf, same, has, firstOf, bindingFree}
 use Rattle.quantifiers.specs.BindingAnswer.{pair, nameOf}
 use Rattle.quantifiers.specs.declared.binding.FirstName.{FirstName}

@@ -17,7 +17,7 @@ ghost use Prim.Native.Nat.{_≤_};
 ghost use lib.ListN.{length, set};
 ghost use Rattle.formulas.specs.Formula.{allBefore};
 ghost use Rattle.formulas.specs.Normal.{taken};
-ghost use Rattle.clauses.specs.ClauseWalk.{formAt};
+ghost use Rattle.clause_totals.specs.ClauseWalk.{formAt};
 ghost use Rattle.quantifiers.specs.Binding.{bindingsOf, has, firstOf};
 ghost use Rattle.quantifiers.specs.BindingAnswer.{pair, nameOf};
 ghost use Rattle.taken_out.specs.TakenList.{pairsFrom, takenAt, takenIn, Put, Right, Walked};

@@ -19,7 +19,7 @@ use Rattle.formulas.specs.Normal.{Normal, lit, nmany, prenex, prenexes}
 use Rattle.formulas.specs.Built.{put, tagOfMany, intern, normalsOf, normalView, takenOut}
 use Rattle.building.specs.Arrays.{poolOf}
 use Rattle.building.specs.Walk.{Puts, placesIn, taken-out, formOf, runOf, entryForm, Ready, Formed, Known, operandForms, OperandsKnown, Before, NormalBuilt}
-use Rattle.clauses.proofs.Reading.{before-at, read-literal, read-forall, read-connective, run-before}
+use Rattle.clause_totals.proofs.Reading.{before-at, read-literal, read-forall, read-connective, run-before}
 use Rattle.building.proofs.build.Building.{builds-stood}
 use Rattle.building.proofs.build.Walks.{connective-full, connective-put, whole-built}
 

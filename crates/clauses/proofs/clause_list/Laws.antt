@@ -13,14 +13,14 @@ use borrow.Author.Tests.{le-leb, lt-leb}
 use Rattle.descriptions.specs.Description.{zeroFrom, Cut}
 use Rattle.answers.specs.Answer.{accepted}
 use Rattle.answers.specs.declared.Answer.{Answer}
-use Rattle.clauses.specs.declared.clause_totals.Totals as code
+use Rattle.clause_totals.specs.declared.totals.Totals as code
 use Rattle.formulas.specs.Normal.{Normal}
 use Rattle.formulas.specs.Clauses.{cnf, literalTotal, emptyOr}
 use Rattle.clauses.specs.Lists.{emptyOrReached, tooManyClauses, padded, literalPlace, clausePlaces, literalPlaces, clauseEnds}
-use Rattle.clauses.specs.ClauseWalk.{formAt, Memo, TermCounted}
+use Rattle.clause_totals.specs.ClauseWalk.{formAt, Memo, TermCounted}
 use Rattle.clauses.specs.ClauseList.{Ask, Written, AskMore, Adds, Listed, Answered, Lent, Ready, countAnswer, listAnswer, held}
 use Rattle.clauses.specs.declared.clause_list.Filled.{Filled}
-use Rattle.clauses.proofs.clause_totals.Laws.{clauses-cut, literals-cut}
+use Rattle.clause_totals.proofs.totals.Laws.{clauses-cut, literals-cut}
 use Rattle.clauses.proofs.conjunctive_normal_form.Laws.{places-length, counts-one}
 
 -- ---- a padded array

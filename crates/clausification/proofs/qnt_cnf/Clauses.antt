@@ -17,7 +17,7 @@ use Rattle.term_trees.proofs.Passed.{Passed, pool-passes, pool-accepts}
 use Rattle.formulas.specs.Normal.{Normal}
 use Rattle.formulas.specs.Clauses.{cnf, emptyOr, literalTotal}
 use Rattle.formulas.specs.Built.{Placed, normalAt, takenOut}
-use Rattle.clauses.specs.ClauseWalk.{formAt}
+use Rattle.clause_totals.specs.ClauseWalk.{formAt}
 use Rattle.clauses.specs.ClauseList.{Lent, Answered, countAnswer, listAnswer, held}
 use Rattle.building.specs.declared.build.Built.the-variants as stands
 use Rattle.building.specs.Arrays.{poolOf, fits, normalIn, clausalIn, clausalFormIn}

@@ -12,7 +12,7 @@ use Rattle.headers.specs.WellFormed.{firstBad}
 use Rattle.descriptions.proofs.description.Growth.{Same}
 use Rattle.formulas.specs.Normal.{taken}
 use Rattle.formulas.specs.Built.{normalAt}
-use Rattle.clauses.specs.ClauseWalk.{formAt}
+use Rattle.clause_totals.specs.ClauseWalk.{formAt}
 use Rattle.building.specs.Arrays.{normalIn}
 use Rattle.quantifiers.specs.Outcome.{Outcome, pass, refuse, _>>_, guard, unless}
 use Rattle.quantifiers.specs.Binding.{Binding, bindingsOf, has, firstOf, bindingFree}

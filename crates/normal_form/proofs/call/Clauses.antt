@@ -24,7 +24,7 @@ use Rattle.clauses.specs.Lists.{literalPlaces, clauseEnds}
 use Rattle.building.specs.Arrays.{fits}
 use Rattle.normal_form.specs.Calls.{noRoom, clausal, clausalForm, clauseAnswer, listLeft, countLeft, ClauseList}
 use Rattle.building.specs.Walk.{State, Holds, NormalBuilt}
-use Rattle.clauses.specs.ClauseWalk.{formAt}
+use Rattle.clause_totals.specs.ClauseWalk.{formAt}
 use Rattle.clauses.specs.ClauseList.{Lent, Answered, countAnswer, listAnswer, held}
 use Rattle.normal_form.specs.ClauseCall.{Checked, unlisted}
 use Rattle.building.proofs.Clausal.{zero-kept, tags-kept, values-kept, clausal-on}

@@ -16,8 +16,8 @@ use Rattle.formulas.specs.declared.view.NormalView.the-variants.{Literal, Conne
 use Rattle.formulas.specs.Formula.{allBefore}
 use Rattle.formulas.specs.Normal.{taken}
 use Rattle.formulas.specs.Built.{normalView}
-use Rattle.clauses.specs.ClauseWalk.{formAt}
-use Rattle.clauses.proofs.Reading.{read-literal, read-forall, read-connective, run-before}
+use Rattle.clause_totals.specs.ClauseWalk.{formAt}
+use Rattle.clause_totals.proofs.Reading.{read-literal, read-forall, read-connective, run-before}
 use Rattle.quantifiers.specs.Binding.{Binding, bindingsOf, same, has, firstOf}
 use Rattle.quantifiers.specs.BindingAnswer.{pair, nameOf}
 use Rattle.forms.specs.FormAnswer.{pairsOf}

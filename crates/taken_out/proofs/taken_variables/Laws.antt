@@ -12,14 +12,14 @@ use native.Mathlib.Omega.{arith}
 use borrow.Author.Tests.{lt-ltb, eqb-true, eqb-false, ltb-true, ltb-false}
 use Rattle.cells.specs.ByPlace.{by-test}
 use Rattle.cells.specs.Cell.{operandsOf}
-use Rattle.free_vars.specs.Names.{freeIn, Listed}
+use Rattle.term_names.specs.Names.{freeIn, Listed}
 use Rattle.formulas.specs.declared.view.NormalView.{NormalView}
 use Rattle.formulas.specs.declared.view.NormalView.the-variants.{Literal, Connective, Forall}
 use Rattle.formulas.specs.Formula.{allBefore}
 use Rattle.formulas.specs.Normal.{taken}
 use Rattle.formulas.specs.Built.{normalView}
-use Rattle.clauses.specs.ClauseWalk.{formAt}
-use Rattle.clauses.proofs.Reading.{before-at, before-tail, read-literal, read-forall, read-connective, run-before}
+use Rattle.clause_totals.specs.ClauseWalk.{formAt}
+use Rattle.clause_totals.proofs.Reading.{before-at, before-tail, read-literal, read-forall, read-connective, run-before}
 use Rattle.building.proofs.prenex_forall.Laws.{body-before}
 use Rattle.quantifiers.specs.Binding.{Binding, bindingsOf, same, has, firstOf, bindingFree}
 use Rattle.quantifiers.specs.BindingAnswer.{pair, nameOf}

@@ -1,4 +1,4 @@
-use Rattle.clauses.proofs.clause_totals.Laws.{fresh}
+use Rattle.clause_totals.proofs.totals.Laws.{fresh}
 use borrow.Author.Needs.{needs}
 use Rattle.clauses.proofs.clause_list.list_clauses.Statement.{statement}
 use Rattle.clauses.proofs.clause_list.list_clauses.Tie as tie

@@ -1,4 +1,4 @@
-use Rattle.free_vars.proofs.names.Laws.{sets}
+use Rattle.term_names.proofs.Laws.{sets}
 use borrow.Author.Needs.{needs}
 use Rattle.taken_out.proofs.taken_list.note_taken.Statement.{statement}
 use Rattle.taken_out.proofs.taken_list.note_taken.Tie as tie

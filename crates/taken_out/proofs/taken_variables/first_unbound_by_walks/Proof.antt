@@ -1,7 +1,7 @@
 use Rattle.quantifiers.proofs.binding.Laws.{first, first-here, first-next}
 use Rattle.quantifiers.specs.BindingAnswer.{nameOf}
 use Rattle.quantifiers.specs.Binding.{bindingsOf, has, firstOf}
-use Rattle.clauses.specs.ClauseWalk.{formAt}
+use Rattle.clause_totals.specs.ClauseWalk.{formAt}
 use Rattle.formulas.specs.Normal.{taken}
 use lib.ListN.{length, drop}
 use Prim.Native.Nat.{_-_, _≤_}

@@ -1,0 +1,272 @@
+use borrow.Author.Needs.{needs}
+use Rattle.term_names.proofs.Laws.{walks, walk-run, body-below}
+use native.Mathlib.Omega.{arith}
+use lib.ListN.{length}
+use Prim.Native.Nat.{ℕ, _<_, _*_, _+_, _^_}
+use borrow.Fn.Kinds.{In}
+use borrow.Fn.PlainCycle.{Measures, is, falls, and}
+use Rattle.term_names.proofs.names_of_run.Reads as names-of-run
+use Rattle.term_names.proofs.names_of_run.Kinds as names-of-run-kinds
+use Rattle.term_names.proofs.+names_of_run+names_of_term.Lts-names_of_run as names-of-run-lts
+use Rattle.term_names.proofs.names_of_term.Reads as names-of-term
+use Rattle.term_names.proofs.names_of_term.Kinds as names-of-term-kinds
+use Rattle.term_names.proofs.+names_of_run+names_of_term.Lts-names_of_term as names-of-term-lts
+use Rattle.cells.proofs.run.operands.Reads as operands-reads
+use Rattle.term_names.proofs.look.Reads as look-reads
+use Rattle.term_names.proofs.mark_name.Reads as mark-name-reads
+use Rattle.term_names.proofs.note_names.Reads as note-names-reads
+use Rattle.free_vars.proofs.noted_at.Reads as noted-at-reads
+use Rattle.term_names.proofs.+names_of_run+names_of_term.{statement}
+use Rattle.term_names.proofs.+names_of_run+names_of_term.Tie.{close}
+
+abbrev μ-names-of-run : Measures 5 names-of-run-kinds.ps ℕ
+μ-names-of-run κs a = a .1 .1 .1 .1 .0 .0 * 2 ^ 65 + length (a .1 .1 .1 .1 .1 .0 .now)
+
+abbrev μ-names-of-term : Measures 4 names-of-term-kinds.ps ℕ
+μ-names-of-term κs a = a .1 .1 .1 .1 .0 .0 * 2 ^ 65 + 2 ^ 64
+
+abbrev names-of-run-at : ℕ → In 5 names-of-run-kinds.ps
+names-of-run-at t =
+    and 5 names-of-run-kinds.ps (is 5 names-of-run-kinds.ps μ-names-of-run t) names-of-run.Pre
+
+abbrev names-of-run-below : ℕ → In 5 names-of-run-kinds.ps
+names-of-run-below t =
+    and
+    5
+    names-of-run-kinds.ps
+    (falls 5 names-of-run-kinds.ps _<_ μ-names-of-run t)
+    names-of-run.Pre
+
+abbrev names-of-term-at : ℕ → In 4 names-of-term-kinds.ps
+names-of-term-at t =
+    and 4 names-of-term-kinds.ps (is 4 names-of-term-kinds.ps μ-names-of-term t) names-of-term.Pre
+
+abbrev names-of-term-below : ℕ → In 4 names-of-term-kinds.ps
+names-of-term-below t =
+    and
+    4
+    names-of-term-kinds.ps
+    (falls 4 names-of-term-kinds.ps _<_ μ-names-of-term t)
+    names-of-term.Pre
+
+-- what the calls in `names-of-run` ask and tell, below the measure t
+abbrev names-of-run-calls : ℕ → names-of-run-lts.Claims
+names-of-run-calls t = (names-of-run-below t, names-of-run.Post, names-of-term-below t, names-of-term.Post)
+
+names-of-run-returns : (t : ℕ) → names-of-run-lts.Need-returns (names-of-run-calls t) (names-of-run-at t) names-of-run.Post
+names-of-run-returns t c = search walks
+
+names-of-run-shared-slice-read-u : (t : ℕ) → names-of-run-lts.Need-shared-slice-read-u (names-of-run-calls t) (names-of-run-at t) names-of-run.Post
+names-of-run-shared-slice-read-u t c = search needs
+
+names-of-run-sub-names-of-run : (t : ℕ) → names-of-run-lts.Need-sub-names-of-run (names-of-run-calls t) (names-of-run-at t) names-of-run.Post
+names-of-run-sub-names-of-run t c = search needs
+
+names-of-run-part-names-of-run-start : (t : ℕ) → names-of-run-lts.Need-part-names-of-run-start (names-of-run-calls t) (names-of-run-at t) names-of-run.Post
+names-of-run-part-names-of-run-start t c = search needs
+
+names-of-run-part-names-of-run-end : (t : ℕ) → names-of-run-lts.Need-part-names-of-run-end (names-of-run-calls t) (names-of-run-at t) names-of-run.Post
+names-of-run-part-names-of-run-end t c = search needs
+
+names-of-run-names-of-run-requires : (t : ℕ) → names-of-run-lts.Need-names-of-run-requires (names-of-run-calls t) (names-of-run-at t) names-of-run.Post
+names-of-run-names-of-run-requires t c κs = search needs
+
+names-of-run-same-length : (t : ℕ) → names-of-run-lts.Need-same-length (names-of-run-calls t) (names-of-run-at t) names-of-run.Post
+names-of-run-same-length t c = search needs
+
+names-of-run-same-length-2 : (t : ℕ) → names-of-run-lts.Need-same-length-2 (names-of-run-calls t) (names-of-run-at t) names-of-run.Post
+names-of-run-same-length-2 t c = search needs
+
+names-of-run-returns-2 : (t : ℕ) → names-of-run-lts.Need-returns-2 (names-of-run-calls t) (names-of-run-at t) names-of-run.Post
+names-of-run-returns-2 t c = search walks
+
+names-of-run-names-of-term-requires : (t : ℕ) → names-of-run-lts.Need-names-of-term-requires (names-of-run-calls t) (names-of-run-at t) names-of-run.Post
+names-of-run-names-of-term-requires t c κs = search needs
+
+names-of-run-sub-names-of-run-2 : (t : ℕ) → names-of-run-lts.Need-sub-names-of-run-2 (names-of-run-calls t) (names-of-run-at t) names-of-run.Post
+names-of-run-sub-names-of-run-2 t c = search needs
+
+names-of-run-part-names-of-run-start-2 : (t : ℕ) → names-of-run-lts.Need-part-names-of-run-start-2 (names-of-run-calls t) (names-of-run-at t) names-of-run.Post
+names-of-run-part-names-of-run-start-2 t c = search needs
+
+names-of-run-part-names-of-run-end-2 : (t : ℕ) → names-of-run-lts.Need-part-names-of-run-end-2 (names-of-run-calls t) (names-of-run-at t) names-of-run.Post
+names-of-run-part-names-of-run-end-2 t c = search needs
+
+names-of-run-names-of-run-requires-2 : (t : ℕ) → names-of-run-lts.Need-names-of-run-requires-2 (names-of-run-calls t) (names-of-run-at t) names-of-run.Post
+names-of-run-names-of-run-requires-2 t c κs = search needs
+
+names-of-run-same-length-3 : (t : ℕ) → names-of-run-lts.Need-same-length-3 (names-of-run-calls t) (names-of-run-at t) names-of-run.Post
+names-of-run-same-length-3 t c = search needs
+
+names-of-run-same-length-4 : (t : ℕ) → names-of-run-lts.Need-same-length-4 (names-of-run-calls t) (names-of-run-at t) names-of-run.Post
+names-of-run-same-length-4 t c = search needs
+
+names-of-run-returns-3 : (t : ℕ) → names-of-run-lts.Need-returns-3 (names-of-run-calls t) (names-of-run-at t) names-of-run.Post
+names-of-run-returns-3 t c = search walks
+
+-- what the calls in `names-of-term` ask and tell, below the measure t
+abbrev names-of-term-calls : ℕ → names-of-term-lts.Claims
+names-of-term-calls t = (noted-at-reads.Asked, noted-at-reads.Learnt, look-reads.Asked, look-reads.Learnt, note-names-reads.Asked, note-names-reads.Learnt, mark-name-reads.Asked, mark-name-reads.Learnt, names-of-term-below t, names-of-term.Post, operands-reads.Asked, operands-reads.Learnt, names-of-run-below t, names-of-run.Post)
+
+names-of-term-cast-at : (t : ℕ) → names-of-term-lts.Need-cast-at (names-of-term-calls t) (names-of-term-at t) names-of-term.Post
+names-of-term-cast-at t c = search needs
+
+names-of-term-noted-at-requires : (t : ℕ) → names-of-term-lts.Need-noted-at-requires (names-of-term-calls t) (names-of-term-at t) names-of-term.Post
+names-of-term-noted-at-requires t c κs = search needs
+
+names-of-term-same-length : (t : ℕ) → names-of-term-lts.Need-same-length (names-of-term-calls t) (names-of-term-at t) names-of-term.Post
+names-of-term-same-length t c = search needs
+
+names-of-term-returns : (t : ℕ) → names-of-term-lts.Need-returns (names-of-term-calls t) (names-of-term-at t) names-of-term.Post
+names-of-term-returns t c = search walks
+
+names-of-term-look-requires : (t : ℕ) → names-of-term-lts.Need-look-requires (names-of-term-calls t) (names-of-term-at t) names-of-term.Post
+names-of-term-look-requires t c κs = search needs
+
+names-of-term-enum-told : (t : ℕ) → names-of-term-lts.Need-enum-told (names-of-term-calls t) (names-of-term-at t) names-of-term.Post
+names-of-term-enum-told t c = search needs
+
+names-of-term-note-names-requires : (t : ℕ) → names-of-term-lts.Need-note-names-requires (names-of-term-calls t) (names-of-term-at t) names-of-term.Post
+names-of-term-note-names-requires t c κs = search needs
+
+names-of-term-enum-told-2 : (t : ℕ) → names-of-term-lts.Need-enum-told-2 (names-of-term-calls t) (names-of-term-at t) names-of-term.Post
+names-of-term-enum-told-2 t c = search needs
+
+names-of-term-mark-name-requires : (t : ℕ) → names-of-term-lts.Need-mark-name-requires (names-of-term-calls t) (names-of-term-at t) names-of-term.Post
+names-of-term-mark-name-requires t c κs = search needs
+
+names-of-term-note-names-requires-2 : (t : ℕ) → names-of-term-lts.Need-note-names-requires-2 (names-of-term-calls t) (names-of-term-at t) names-of-term.Post
+names-of-term-note-names-requires-2 t c κs = search needs
+
+names-of-term-enum-known-below : (t : ℕ) → names-of-term-lts.Need-enum-known-below (names-of-term-calls t) (names-of-term-at t) names-of-term.Post
+names-of-term-enum-known-below t c = search needs
+
+names-of-term-names-of-term-requires : (t : ℕ) → names-of-term-lts.Need-names-of-term-requires (names-of-term-calls t) (names-of-term-at t) names-of-term.Post
+names-of-term-names-of-term-requires t c κs =
+    let h = body-below _ _ _ _ (c .before .before .before .before .before .look .ensures) _ (c .before .before .before .below .given .1) in
+    (omega arith, search needs)
+
+names-of-term-note-names-requires-3 : (t : ℕ) → names-of-term-lts.Need-note-names-requires-3 (names-of-term-calls t) (names-of-term-at t) names-of-term.Post
+names-of-term-note-names-requires-3 t c κs = search needs
+
+names-of-term-enum-told-3 : (t : ℕ) → names-of-term-lts.Need-enum-told-3 (names-of-term-calls t) (names-of-term-at t) names-of-term.Post
+names-of-term-enum-told-3 t c = search needs
+
+names-of-term-operands-requires : (t : ℕ) → names-of-term-lts.Need-operands-requires (names-of-term-calls t) (names-of-term-at t) names-of-term.Post
+names-of-term-operands-requires t c κs = search needs
+
+names-of-term-names-of-run-requires : (t : ℕ) → names-of-term-lts.Need-names-of-run-requires (names-of-term-calls t) (names-of-term-at t) names-of-term.Post
+names-of-term-names-of-run-requires t c κs = search needs
+
+names-of-term-note-names-requires-4 : (t : ℕ) → names-of-term-lts.Need-note-names-requires-4 (names-of-term-calls t) (names-of-term-at t) names-of-term.Post
+names-of-term-note-names-requires-4 t c κs = search needs
+
+names-of-term-same-length-2 : (t : ℕ) → names-of-term-lts.Need-same-length-2 (names-of-term-calls t) (names-of-term-at t) names-of-term.Post
+names-of-term-same-length-2 t c = search needs
+
+names-of-term-returns-2 : (t : ℕ) → names-of-term-lts.Need-returns-2 (names-of-term-calls t) (names-of-term-at t) names-of-term.Post
+names-of-term-returns-2 t c = search walks
+
+names-of-term-same-length-3 : (t : ℕ) → names-of-term-lts.Need-same-length-3 (names-of-term-calls t) (names-of-term-at t) names-of-term.Post
+names-of-term-same-length-3 t c = search needs
+
+names-of-term-same-length-4 : (t : ℕ) → names-of-term-lts.Need-same-length-4 (names-of-term-calls t) (names-of-term-at t) names-of-term.Post
+names-of-term-same-length-4 t c = search needs
+
+names-of-term-returns-3 : (t : ℕ) → names-of-term-lts.Need-returns-3 (names-of-term-calls t) (names-of-term-at t) names-of-term.Post
+names-of-term-returns-3 t c = search walks
+
+names-of-term-same-length-5 : (t : ℕ) → names-of-term-lts.Need-same-length-5 (names-of-term-calls t) (names-of-term-at t) names-of-term.Post
+names-of-term-same-length-5 t c = search needs
+
+names-of-term-same-length-6 : (t : ℕ) → names-of-term-lts.Need-same-length-6 (names-of-term-calls t) (names-of-term-at t) names-of-term.Post
+names-of-term-same-length-6 t c = search needs
+
+names-of-term-returns-4 : (t : ℕ) → names-of-term-lts.Need-returns-4 (names-of-term-calls t) (names-of-term-at t) names-of-term.Post
+names-of-term-returns-4 t c = search walks
+
+names-of-term-same-length-7 : (t : ℕ) → names-of-term-lts.Need-same-length-7 (names-of-term-calls t) (names-of-term-at t) names-of-term.Post
+names-of-term-same-length-7 t c = search needs
+
+names-of-term-same-length-8 : (t : ℕ) → names-of-term-lts.Need-same-length-8 (names-of-term-calls t) (names-of-term-at t) names-of-term.Post
+names-of-term-same-length-8 t c = search needs
+
+names-of-term-returns-5 : (t : ℕ) → names-of-term-lts.Need-returns-5 (names-of-term-calls t) (names-of-term-at t) names-of-term.Post
+names-of-term-returns-5 t c =
+    let at-run = c .before .before .before .before .before .before .before .before in
+    let at-told = at-run .before .before .before .before in
+    walk-run _ _ _ _ (at-told .before .before .look .ensures) _ _ _ (at-told .enum-told3 .given .1) _ (at-run .before .operands .ensures) (at-run .names-of-run .ensures) _ (c .before .before .note-names4 .ensures)
+
+pub +names-of-run+names-of-term-spec : {M : Type 1} → statement M
++names-of-run+names-of-term-spec =
+    close μ-names-of-run μ-names-of-term (λ t. names-of-run-lts.spec (
+      names-of-run-below t,
+      names-of-run.Post,
+      names-of-term-below t,
+      names-of-term.Post,
+    )
+    (names-of-run-at t)
+    names-of-run.Post
+    (names-of-run-returns t)
+    (names-of-run-shared-slice-read-u t)
+    (names-of-run-sub-names-of-run t)
+    (names-of-run-part-names-of-run-start t)
+    (names-of-run-part-names-of-run-end t)
+    (names-of-run-names-of-run-requires t)
+    (names-of-run-same-length t)
+    (names-of-run-same-length-2 t)
+    (names-of-run-returns-2 t)
+    (names-of-run-names-of-term-requires t)
+    (names-of-run-sub-names-of-run-2 t)
+    (names-of-run-part-names-of-run-start-2 t)
+    (names-of-run-part-names-of-run-end-2 t)
+    (names-of-run-names-of-run-requires-2 t)
+    (names-of-run-same-length-3 t)
+    (names-of-run-same-length-4 t)
+    (names-of-run-returns-3 t))
+    λ t. names-of-term-lts.spec (
+      noted-at-reads.Asked,
+      noted-at-reads.Learnt,
+      look-reads.Asked,
+      look-reads.Learnt,
+      note-names-reads.Asked,
+      note-names-reads.Learnt,
+      mark-name-reads.Asked,
+      mark-name-reads.Learnt,
+      names-of-term-below t,
+      names-of-term.Post,
+      operands-reads.Asked,
+      operands-reads.Learnt,
+      names-of-run-below t,
+      names-of-run.Post,
+    )
+    (names-of-term-at t)
+    names-of-term.Post
+    (names-of-term-cast-at t)
+    (names-of-term-noted-at-requires t)
+    (names-of-term-same-length t)
+    (names-of-term-returns t)
+    (names-of-term-look-requires t)
+    (names-of-term-enum-told t)
+    (names-of-term-note-names-requires t)
+    (names-of-term-enum-told-2 t)
+    (names-of-term-mark-name-requires t)
+    (names-of-term-note-names-requires-2 t)
+    (names-of-term-enum-known-below t)
+    (names-of-term-names-of-term-requires t)
+    (names-of-term-note-names-requires-3 t)
+    (names-of-term-enum-told-3 t)
+    (names-of-term-operands-requires t)
+    (names-of-term-names-of-run-requires t)
+    (names-of-term-note-names-requires-4 t)
+    (names-of-term-same-length-2 t)
+    (names-of-term-returns-2 t)
+    (names-of-term-same-length-3 t)
+    (names-of-term-same-length-4 t)
+    (names-of-term-returns-3 t)
+    (names-of-term-same-length-5 t)
+    (names-of-term-same-length-6 t)
+    (names-of-term-returns-4 t)
+    (names-of-term-same-length-7 t)
+    (names-of-term-same-length-8 t)
+    (names-of-term-returns-5 t)
