@@ -2,8 +2,6 @@
 // the end.
 use crate::clause_search::any_clause;
 use building::build::Built;
-use building::negation_normal_form::build_normal_form;
-use building::prenex_forall::build_taken_out;
 use clauses::clause_list::list_clauses;
 use forms::One;
 use forms::Quantified;
@@ -13,9 +11,11 @@ use forms::one_operand;
 use forms::quantified_at;
 use forms::two_operands;
 use free_lists::first_missing;
+use negation_normal_form::build_normal_form;
 use pool::Answer;
 use pool::TermPlace;
 use pool::description::cut_back;
+use prenex_forall::build_taken_out;
 use quantifiers::binding::FirstName;
 use quantifiers::outcome::accept;
 use quantifiers::outcome::refuse;
