@@ -55,10 +55,10 @@ abbrev pub Indexed : Built → List ℕ → List ℕ → List ℕ → Type 0
 Indexed (At p m) tags values index = Index tags values m index
 Indexed Full tags values index = Unit {0}
 
--- the first k cells of the scratch are these
-pub record Cells (cells : List ℕ) (k : ℕ) (scratch : List ℕ) : Type 0 where
-  pub within : k ≤ length scratch
-  pub are : take k scratch ≡ cells
+-- the first k cells of the row are these
+pub record Cells (cells : List ℕ) (k : ℕ) (row : List ℕ) : Type 0 where
+  pub within : k ≤ length row
+  pub are : take k row ≡ cells
 
 -- ---- the memo
 -- its index of a term and a polarity: the forms at true polarity come first

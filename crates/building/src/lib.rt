@@ -1,4 +1,3 @@
-// Terms built into the pool, after its count: the negation normal form of a term, and the form whose foralls are taken out.
+// Terms built into the pool, after its count, by walks that keep where the forms of terms stand.
 pub mod build;
-pub mod negation_normal_form;
-pub mod prenex_forall;
+pub mod terms;

@@ -1,12 +1,12 @@
 // The public calls: the normal form of a term, and the clause list of a term.
 use building::build::Built;
-use building::negation_normal_form::build_normal_form;
-use building::prenex_forall::build_taken_out;
 use clauses::clause_list::list_clauses;
+use negation_normal_form::build_normal_form;
 use pool::Answer;
 use pool::TermPlace;
 use pool::call::index_term;
 use pool::description::cut_back;
+use prenex_forall::build_taken_out;
 ghost use Prim.Native.Nat.{_<_};
 ghost use mathlib.Core.Path.{_≡_};
 ghost use lib.ListN.{length};

@@ -20,7 +20,7 @@ use Rattle.formulas.specs.Normal.{taken}
 use Rattle.formulas.specs.Built.{normalView}
 use Rattle.clause_totals.specs.ClauseWalk.{formAt}
 use Rattle.clause_totals.proofs.Reading.{before-at, before-tail, read-literal, read-forall, read-connective, run-before}
-use Rattle.building.proofs.prenex_forall.Laws.{body-before}
+use Rattle.prenex_forall.proofs.Laws.{body-before}
 use Rattle.quantifiers.specs.Binding.{Binding, bindingsOf, same, has, firstOf, bindingFree}
 use Rattle.quantifiers.specs.BindingAnswer.{pair, nameOf}
 use Rattle.forms.specs.FormAnswer.{pairsOf}

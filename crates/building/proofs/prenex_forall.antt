@@ -1,2 +1,0 @@
--- Laws of the taken-out form.
-pub mod Laws

@@ -1,0 +1,2 @@
+-- Laws of one new term.
+pub mod Cells

@@ -1,0 +1,34 @@
+use Rattle.building.proofs.build.Indexing.{indexings}
+use Rattle.building.proofs.terms.Cells.{terms}
+use borrow.Author.Needs.{needs}
+use Rattle.building.proofs.terms.put_pair.Statement.{statement}
+use Rattle.building.proofs.terms.put_pair.Tie as tie
+
+tag-of-many-requires : tie.Need-tag-of-many-requires
+tag-of-many-requires c κs = search needs
+
+slice-aggregate-put : tie.Need-slice-aggregate-put
+slice-aggregate-put c = search needs
+
+put-requires : tie.Need-put-requires
+put-requires c κs = search needs
+
+same-length : tie.Need-same-length
+same-length c = search needs
+
+same-length-2 : tie.Need-same-length-2
+same-length-2 c = search needs
+
+returns : tie.Need-returns
+returns c = search (terms, indexings)
+
+pub put-pair-spec : {M : Type 1} → statement M
+put-pair-spec =
+    tie.close
+    (tie.spec
+    tag-of-many-requires
+    slice-aggregate-put
+    put-requires
+    same-length
+    same-length-2
+    returns)

@@ -1,0 +1,15 @@
+-- Law of the whole walk: it leaves the normal form.
+-- Assumes nothing.
+use Prim.Native.Nat.{ℕ}
+use mathlib.Core.Bool.{Bool}
+use mathlib.Core.List.{List}
+use Rattle.building.specs.declared.build.Built.{Built}
+use Rattle.formulas.specs.Built.{normalForm}
+use Rattle.building.specs.Arrays.{poolOf}
+use Rattle.building.specs.Walk.{normal, formOf, Known, NormalBuilt}
+use Rattle.building.proofs.build.Walks.{whole-built}
+
+pub normal-built : (n : ℕ) (tags values memo : List ℕ) (t : ℕ) (polarity : Bool) (r : Built) (tags′ values′ memo′ : List ℕ)
+    → Known normal n n tags values memo t polarity r tags′ values′ memo′ → NormalBuilt n tags values (normalForm (poolOf tags values n) t polarity) r tags′ values′
+unfolding normalForm formOf
+normal-built n tags values memo t polarity = whole-built normal n tags values memo t polarity
