@@ -24,7 +24,7 @@ use taken_out::taken_list::first_unbound;
 use taken_out::taken_variables::Sought;
 use taken_out::taken_variables::first_taken;
 ghost use mathlib.Core.Path.{_≡_};
-ghost use Rattle.descriptions.specs.Index.{Index};
+ghost use Rattle.description_index.specs.Index.{Index};
 ghost use Rattle.sort_rules.specs.Table.{builtIn};
 ghost use Rattle.pool_checks.specs.Check.{checkTerm};
 ghost use Rattle.quantifiers.specs.Outcome.{answerOf};

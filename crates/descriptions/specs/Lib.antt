@@ -1,2 +1,1 @@
 pub mod Description
-pub mod Index

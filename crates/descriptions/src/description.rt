@@ -1,13 +1,8 @@
-// Descriptions, a header's tag and cells: check 15, adding a term and cutting back.
-use crate::index;
+// Descriptions, a header's tag and cells: finding one, the first that repeats another, and cutting a pool back.
 use cells::Found;
 use cells::run;
 ghost use mathlib.Core.Path.{_≡_};
-ghost use mathlib.Core.List.{_∷_};
-ghost use Prim.Native.Nat.{_+_, _≤_};
-ghost use lib.ListN.{length, replicate};
-ghost use Rattle.descriptions.specs.Description.{find, repeats, firstRepeat, isFull, Room, Put, zeroFrom, Cut};
-ghost use Rattle.descriptions.specs.Index.{Indexes};
+ghost use Rattle.descriptions.specs.Description.{find, repeats, firstRepeat, zeroFrom, Cut};
 
 // What adding a description gives: where it stood already, its new place and the new count, or no room.
 pub enum Added {
@@ -46,7 +41,7 @@ fn repeats(tags: &[u32], values: &[u32], p: usize) -> bool
 }
 
 // The first header below n that repeats an earlier one, each compared with all before it.
-fn scan_repeats(tags: &[u32], values: &[u32], n: usize) -> Found
+pub fn scan_repeats(tags: &[u32], values: &[u32], n: usize) -> Found
     ensures { λ r. ⌜ r ≡ firstRepeat (now (tags .entry)) (now (values .entry)) n ⌝ }
 {
     let mut p: usize = 0;
@@ -61,66 +56,6 @@ fn scan_repeats(tags: &[u32], values: &[u32], n: usize) -> Found
         p += 1 + k;
     }
     Found::Nothing
-}
-
-// Check 15: the first header below n that repeats an earlier one. The index then has the headers, if there is none; it has
-// room for 8,192 cells.
-pub fn first_repeat(tags: &[u32], values: &[u32], n: usize, index: &mut [u32; 12288]) -> Found
-    ensures { λ r. ⌜ r ≡ firstRepeat (now (tags .entry)) (now (values .entry)) n ⌝ }
-    ensures { λ _. ⌜ Indexes (now (tags .entry)) (now (values .entry)) n (now (index .exit)) ⌝ }
-{
-    if 8192 < n {
-        return scan_repeats(tags, values, n);
-    }
-    zero_from(index, 0);
-    index::first_repeat(tags, values, n, index)
-}
-
-// Whether there is no room after n for a header with k cells.
-pub(crate) fn is_full(tags: &[u32], values: &[u32], limit: usize, n: usize, k: usize) -> bool
-    ensures { λ r. ⌜ r ≡ isFull (now (tags .entry)) (now (values .entry)) limit n k ⌝ }
-{
-    if 4294967295 < k {
-        return true;
-    }
-    if tags.len() <= n {
-        return true;
-    }
-    // So that n + 1 + k fits.
-    if tags.len() - n <= k {
-        return true;
-    }
-    if values.len() < n + 1 + k {
-        return true;
-    }
-    limit < n + 1 + k
-}
-
-// Writes cells, with tag 0, from `at` on.
-fn put_cells(tags: &mut [u32], values: &mut [u32], at: usize, cells: &[u32])
-    requires { ⌜ at + length (now cells) ≤ length (now tags) ⌝ }
-    requires { ⌜ at + length (now cells) ≤ length (now values) ⌝ }
-    ensures { λ _. ⌜ Put (now (tags .entry)) (now (values .entry)) at (replicate (length (now (cells .entry))) 0) (now (cells .entry)) (now (tags .exit)) (now (values .exit)) ⌝ }
-{
-    let mut j: usize = 0;
-    while j < cells.len() {
-        let i = at + j;
-        tags[i] = 0;
-        values[i] = cells[j];
-        j += 1;
-    }
-}
-
-// Writes a header and its cells from n on, and gives the new count.
-pub(crate) fn put(tags: &mut [u32], values: &mut [u32], n: usize, tag: u32, cells: &[u32]) -> usize
-    requires { ⌜ Room (now tags) (now values) n (length (now cells)) ⌝ }
-    ensures { λ r. ⌜ r ≡ n + 1 + length (now (cells .entry)) ⌝ }
-    ensures { λ _. ⌜ Put (now (tags .entry)) (now (values .entry)) n (tag ∷ replicate (length (now (cells .entry))) 0) (length (now (cells .entry)) ∷ now (cells .entry)) (now (tags .exit)) (now (values .exit)) ⌝ }
-{
-    tags[n] = tag;
-    values[n] = cells.len() as u32;
-    put_cells(tags, values, n + 1, cells);
-    n + 1 + cells.len()
 }
 
 // Writes 0 to every cell from n on.

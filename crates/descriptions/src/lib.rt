@@ -1,3 +1,2 @@
-// Descriptions, a header's tag and cells: check 15 (repeats), the index of descriptions, adding one and cutting back.
+// Descriptions, a header's tag and cells: finding one, the first that repeats another, and cutting a pool back.
 pub mod description;
-pub mod index;

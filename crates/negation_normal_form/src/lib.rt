@@ -20,7 +20,7 @@ ghost use Rattle.formulas.specs.Formula.{viewOf};
 ghost use Rattle.formulas.specs.Normal.{pair};
 ghost use Rattle.formulas.specs.Built.{normalForm};
 ghost use Rattle.building.specs.Arrays.{poolOf};
-ghost use Rattle.descriptions.specs.Index.{Index};
+ghost use Rattle.description_index.specs.Index.{Index};
 ghost use Rattle.building.specs.Walk.{State, Indexed, normal, normalOf, Ready, Formed, Known, OperandsKnown, Before, AllBelow, twoPairs, NormalBuilt};
 
 // The place of a term, and a polarity.

@@ -12,7 +12,7 @@ ghost use mathlib.Core.Path.{_≡_};
 ghost use lib.ListN.{length};
 ghost use Rattle.sort_rules.specs.Table.{builtIn};
 ghost use Rattle.normal_form.specs.Calls.{NormalForm, ClauseList, clausal};
-ghost use Rattle.descriptions.specs.Index.{Index};
+ghost use Rattle.description_index.specs.Index.{Index};
 ghost use Rattle.building.specs.Walk.{State, NormalBuilt};
 ghost use Rattle.normal_form.specs.ClauseCall.{Checked, unlisted};
 

@@ -14,7 +14,7 @@ use Rattle.cells.specs.ByPlace.{by-test}
 use Rattle.answers.specs.Answer.{accepted, illFormed, repeated, wrongSort, notATerm, badArrays}
 use Rattle.headers.specs.WellFormed.{firstBad, isTerm}
 use Rattle.descriptions.specs.Description.{firstRepeat}
-use Rattle.descriptions.specs.Index.{Indexes}
+use Rattle.description_index.specs.Index.{Indexes}
 use Rattle.sort_rules.specs.SortRule.{firstWrongSort}
 use Rattle.pool_checks.specs.Check.{arraysFit, checkCells, checkPool, Indexed, andThen, checkTerm}
 use Rattle.answers.specs.declared.Answer.{Answer}

@@ -10,7 +10,7 @@ use lib.Dec.{leb, eqb}
 use Rattle.answers.specs.Answer.{accepted, illFormed, repeated, wrongSort, notATerm, badArrays}
 use Rattle.headers.specs.WellFormed.{firstBad, isTerm}
 use Rattle.descriptions.specs.Description.{firstRepeat}
-use Rattle.descriptions.specs.Index.{Index}
+use Rattle.description_index.specs.Index.{Index}
 use Rattle.sort_rules.specs.SortRule.{firstWrongSort}
 use Rattle.answers.specs.declared.Answer.{Answer}
 use Rattle.cells.specs.declared.Found.{Found}

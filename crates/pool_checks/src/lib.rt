@@ -2,7 +2,7 @@
 use answers::Answer;
 use cells::Found;
 use cells::TermPlace;
-use descriptions::description::first_repeat;
+use description_index::repeats::first_repeat;
 use headers::well_formed::first_bad;
 use headers::well_formed::is_term;
 use sorts::compute_sort::first_wrong_sort;

@@ -12,7 +12,7 @@ ghost use Prim.Native.Nat.{_≤_, _<_};
 ghost use lib.ListN.{length};
 ghost use Rattle.formulas.specs.Built.{takenOut};
 ghost use Rattle.building.specs.Arrays.{poolOf};
-ghost use Rattle.descriptions.specs.Index.{Index};
+ghost use Rattle.description_index.specs.Index.{Index};
 ghost use Rattle.building.specs.Walk.{State, Indexed, taken-out, formOf, Ready, Formed, Known, OperandsKnown, Before, NormalBuilt};
 
 // The taken-out form of the term at x, put into the pool of n cells.

@@ -13,7 +13,7 @@ use removing::qnt_rm_unused::qnt_rm_unused;
 ghost use Prim.Native.Nat.{min};
 ghost use mathlib.Core.Path.{_≡_};
 ghost use Rattle.sort_rules.specs.Table.{builtIn};
-ghost use Rattle.descriptions.specs.Index.{Index};
+ghost use Rattle.description_index.specs.Index.{Index};
 ghost use Rattle.pool_checks.specs.Check.{checkPool, Indexed, checkTerm};
 ghost use Rattle.quantifiers.specs.Outcome.{answerOf};
 ghost use Rattle.rules.specs.Step.{isRule, ruleOutcome, stepAnswer, Step};

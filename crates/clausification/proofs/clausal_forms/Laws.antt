@@ -7,10 +7,10 @@ use mathlib.Core.List.{List}
 use lib.ListN.{length, getD, take}
 use lib.Seq.{getD-take}
 use native.Mathlib.Omega.{arith}
-use Rattle.descriptions.specs.Index.{Reached, Index, Earlier}
+use Rattle.description_index.specs.Index.{Reached, Index, Earlier}
 use Rattle.descriptions.proofs.description.Growth.{Same}
-use Rattle.descriptions.proofs.index.Entries.{reached-same}
-use Rattle.descriptions.proofs.index.Forgetting.{index-kept}
+use Rattle.description_index.proofs.index.Entries.{reached-same}
+use Rattle.description_index.proofs.index.Forgetting.{index-kept}
 use Rattle.formulas.specs.Built.{takenOut}
 use Rattle.building.specs.declared.build.Built.{Built}
 use Rattle.building.specs.declared.build.Built.the-variants as built

@@ -13,7 +13,7 @@ use Rattle.cells.specs.Cell.{cellsOf, operandsOf}
 use Rattle.headers.specs.WellFormed.{isTermTag, isTerm}
 use Rattle.descriptions.specs.Description.{zeroFrom, Cut}
 use Rattle.answers.specs.Answer.{accepted, refused, notATerm}
-use Rattle.descriptions.specs.Index.{Index}
+use Rattle.description_index.specs.Index.{Index}
 use Rattle.pool_checks.specs.Check.{Indexed, andThen, checkPool, checkTerm}
 use Rattle.answers.specs.declared.Answer.{Answer}
 use Rattle.term_trees.proofs.Header.{both, cells-length, term-tagged}
