@@ -84,9 +84,13 @@ pub record Index (tags values : List ℕ) (p : ℕ) (index : List ℕ) : Type 0 
 unfoldable pub entered : List ℕ → ℕ → ℕ → List ℕ
 entered index p b = set (set index p (headOf index b)) (8192 + b) (p + 1)
 
+-- the index with the chain of bucket b without its first header, if that is p
+unfoldable pub unlinked : List ℕ → ℕ → ℕ → List ℕ
+unlinked index p b = cond (eqb (headOf index b) (p + 1)) (set index (8192 + b) (getD index p 0)) index
+
 -- the index without the header at p, which is the last one, of bucket b
 unfoldable pub without : List ℕ → ℕ → ℕ → List ℕ
-without index p b = set (cond (eqb (headOf index b) (p + 1)) (set index (8192 + b) (getD index p 0)) index) p 0
+without index p b = set (unlinked index p b) p 0
 
 -- p is a place from which headers are to be taken out of an index of those below m
 pub record Earlier (values : List ℕ) (p m : ℕ) : Type 0 where

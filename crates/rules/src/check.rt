@@ -16,8 +16,8 @@ ghost use Rattle.sort_rules.specs.Table.{builtIn};
 ghost use Rattle.description_index.specs.Index.{Index};
 ghost use Rattle.pool_checks.specs.Check.{checkPool, Indexed, checkTerm};
 ghost use Rattle.quantifiers.specs.Outcome.{answerOf};
-ghost use Rattle.rules.specs.Step.{isRule, ruleOutcome, stepAnswer, Step};
-ghost use Rattle.rules.specs.StepWalk.{Judged};
+ghost use Rattle.rules.specs.Step.{isRule, ruleOutcome, Step};
+ghost use Rattle.rules.specs.StepWalk.{beforeRule, Judged};
 
 fn is_rule(rule: u32) -> bool
     ensures { λ r. ⌜ r ≡ isRule rule ⌝ }
@@ -38,7 +38,7 @@ fn carried(k: usize) -> u32
     4294967295
 }
 
-// The rule of a code on the conclusion at x, which has passed its checks.
+// The rule of a code on the conclusion at x, which has passed its checks. Rule 3 leaves zeroes past the count.
 fn apply(
     tags: &mut [u32],
     values: &mut [u32],
@@ -70,20 +70,9 @@ fn apply(
     miniscope_ite(tags, values, n, x)
 }
 
-// What comes after the pool check, whose answer is `checked`.
-fn judge(
-    checked: Answer,
-    tags: &mut [u32],
-    values: &mut [u32],
-    index: &mut [u32; 12288],
-    n: usize,
-    rule: u32,
-    conclusion: &[u32],
-) -> Answer
-    requires { ⌜ checked ≡ checkPool (now tags) (now values) builtIn n ⌝ }
-    requires { ⌜ Indexed (now tags) (now values) n checked (now index) ⌝ }
-    ensures { λ r. ⌜ Judged n rule (stepAnswer (now (tags .entry)) (now (values .entry)) builtIn n rule (now (conclusion .entry))) r (now (tags .entry)) (now (values .entry)) (now (tags .exit)) (now (values .exit)) ⌝ }
-    ensures { λ _. ⌜ Indexed (now (tags .entry)) (now (values .entry)) n checked (now (index .exit)) ⌝ }
+// The checks before the rule, after the pool check, whose answer is `checked`: the refusal, or an acceptance.
+fn before_rule(checked: Answer, tags: &[u32], n: usize, rule: u32, conclusion: &[u32]) -> Answer
+    ensures { λ r. ⌜ r ≡ beforeRule (now (tags .entry)) n rule (now (conclusion .entry)) checked ⌝ }
 {
     if checked.code != 0 {
         return checked;
@@ -98,7 +87,7 @@ fn judge(
     if !is_term(tags, n, x) {
         return Answer::refused(17, x.0, 0);
     }
-    apply(tags, values, index, n, rule, x)
+    Answer::accepted(0, 0)
 }
 
 // The check of a step in a pool whose own check has answered `checked` and left the index: many steps over one pool ask for that
@@ -117,15 +106,19 @@ pub fn check_after(
     ensures { λ r. ⌜ Step (now (tags .entry)) (now (values .entry)) builtIn count rule (now (conclusion .entry)) r (now (tags .exit)) (now (values .exit)) ⌝ }
     ensures { λ _. ⌜ Indexed (now (tags .entry)) (now (values .entry)) count checked (now (index .exit)) ⌝ }
 {
-    let answer = judge(checked, tags, values, index, count, rule, conclusion);
-    if rule != 3 {
-        return answer;
+    let early = before_rule(checked, tags, count, rule, conclusion);
+    if early.code == 0 {
+        let x = TermPlace(conclusion[0]);
+        return apply(tags, values, index, count, rule, x);
     }
-    if answer.code == 30 {
-        return answer;
+    if rule != 3 {
+        return early;
+    }
+    if early.code == 30 {
+        return early;
     }
     cut_back(tags, values, count);
-    answer
+    early
 }
 
 // The check of a step whose conclusion is given by its places. Rule 3 builds: it leaves zeroes past the count, with every answer but 30.

@@ -1,6 +1,6 @@
 -- Laws of `build_forms`: what is built on each way out, the pool's cells that are kept, and the index of the pool.
 -- Assumes nothing.
-use Prim.Native.Nat.{ℕ, _≤_, _<_}
+use Prim.Native.Nat.{ℕ, _<_}
 use mathlib.Core.Path.{_≡_, sym, ap, _∙_}
 use mathlib.Core.Bool.{true}
 use mathlib.Core.List.{List}
@@ -10,14 +10,14 @@ use native.Mathlib.Omega.{arith}
 use Rattle.description_index.specs.Index.{Reached, Index, Earlier}
 use Rattle.descriptions.proofs.description.Growth.{Same}
 use Rattle.description_index.proofs.index.Entries.{reached-same}
-use Rattle.description_index.proofs.index.Forgetting.{index-kept}
+use Rattle.description_index.proofs.index.Kept.{index-kept}
 use Rattle.formulas.specs.Built.{takenOut}
 use Rattle.building.specs.declared.build.Built.{Built}
 use Rattle.building.specs.declared.build.Built.the-variants as built
 use Rattle.building.specs.Arrays.{poolOf, normalIn, clausalIn}
 use Rattle.building.specs.Walk.{State, Left, Holds, NormalBuilt}
-use Rattle.building.proofs.Clausal.{tags-kept, values-kept, clausal-on, clausal-full, normal-holds, clausal-then}
-use Rattle.clausification.specs.ClausalForms.{Both, FormsBuilt}
+use Rattle.building.proofs.Clausal.{tags-kept, values-kept, clausal-on, clausal-full, clausal-then}
+use Rattle.clausification.specs.ClausalForms.{FormsBuilt}
 use Rattle.clausification.specs.declared.clausal_forms.Forms.the-variants.{At, Full}
 
 cell-same : (n : ℕ) (l l′ : List ℕ) → take n l′ ≡ take n l → (i : ℕ) → i < n → getD l i 0 ≡ getD l′ i 0

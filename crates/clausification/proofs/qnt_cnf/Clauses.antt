@@ -16,7 +16,7 @@ use Rattle.answers.specs.declared.Answer.{Answer}
 use Rattle.term_trees.proofs.Passed.{Passed, pool-passes, pool-accepts}
 use Rattle.formulas.specs.Normal.{Normal}
 use Rattle.formulas.specs.Clauses.{cnf, emptyOr, literalTotal}
-use Rattle.formulas.specs.Built.{Placed, normalAt, takenOut}
+use Rattle.formulas.specs.Built.{normalAt, takenOut}
 use Rattle.clause_totals.specs.ClauseWalk.{formAt}
 use Rattle.clauses.specs.ClauseList.{Lent, Answered, countAnswer, listAnswer, held}
 use Rattle.building.specs.declared.build.Built.the-variants as stands

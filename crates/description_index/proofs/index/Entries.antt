@@ -3,9 +3,9 @@
 use Prim.Native.Nat.{ℕ, zero, suc, _+_, _-_, _≤_, _<_}
 use mathlib.Core.Path.{_≡_, refl, sym, ap, _∙_}
 use mathlib.Core.Bool.{Bool, true, false, cond}
-use mathlib.Core.List.{List, _∷_}
+use mathlib.Core.List.{List}
 use lib.ListN.{length, getD, set, replicate, length-set}
-use lib.Seq.{sets, getD-set-same, getD-set-other}
+use lib.Seq.{getD-set-same, getD-set-other}
 use lib.Dec.{eqb}
 use native.Mathlib.Omega.{arith}
 use native.Mathlib.Numerals.{add-one}

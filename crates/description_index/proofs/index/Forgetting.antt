@@ -1,10 +1,10 @@
--- The index with one header less, the last one; and the index of arrays that have the same cells below its count.
+-- The index with one header less, the last one.
 -- Assumes nothing.
 use Prim.Native.Nat.{ℕ, zero, suc, _+_, _-_, _≤_, _<_}
 use mathlib.Core.Path.{_≡_, refl, sym, ap, _∙_}
 use mathlib.Core.Bool.{Bool, true, false, cond}
 use mathlib.Core.List.{List}
-use mathlib.Core.Logic.{_⊎_, inl, inr, ⊎-elim}
+use mathlib.Core.Logic.{_⊎_, ⊎-elim}
 use lib.ListN.{length, getD, set, length-set}
 use lib.Seq.{getD-set-same, getD-set-other}
 use lib.Dec.{eqb, ltb}
@@ -14,39 +14,15 @@ use borrow.Author.Tests.{eq-eqb, ne-eqb, eqb-true, eqb-false, ltb-true, ltb-fals
 use Rattle.cells.specs.ByPlace.{by-test}
 use Rattle.cells.specs.Cell.{cellsOf, isAt}
 use Rattle.cells.specs.Headers.{firstHeader}
-use Rattle.descriptions.specs.Description.{find, zeroFrom}
-use Rattle.description_index.specs.Index.{bucketOf, headOf, chainIn, onChain, asFound, lookUp, PointsBack, Reached, start, next, Within, bucketAt, Linked, Index, without, Earlier}
+use Rattle.descriptions.specs.Description.{find}
+use Rattle.description_index.specs.Index.{bucketOf, headOf, chainIn, onChain, asFound, lookUp, PointsBack, Reached, next, Within, bucketAt, Linked, Index, unlinked, without, Earlier}
 use Rattle.cells.specs.declared.Found.{Found}
 use Rattle.cells.specs.declared.Found.the-variants.{At, Nothing}
 use Rattle.cells.proofs.Walks.{first-end, first-here, first-next, first-below}
 use Rattle.descriptions.proofs.description.Fills.{orElse, header-grown}
-use Rattle.descriptions.proofs.description.Growth.{Same, cells-same, at-same, find-grown}
-use Rattle.description_index.proofs.index.Laws.{chain-suc, on-or, on-same}
-use Rattle.description_index.proofs.index.Entries.{reached-fills, reached-same, index-start}
-
--- ---- of two places that the walk reaches, one stands at or before the other, or after the other's cells
-module _ (values : List ℕ) where
-  order-in : (f p q : ℕ) → p + q < f → Reached values p → Reached values q → (q ≤ p) ⊎ (p + (1 + getD values p 0) ≤ q)
-  order-in zero p q h rp rq = absurd (omega arith)
-  order-in (suc f) p q h rp start = inl (omega arith)
-  order-in (suc f) p q h rp (next {p = u} ru) =
-      ⊎-elim
-      (λ (le : u ≤ p). by-test (eqb u p)
-      (λ e. let z : u ≡ p = eqb-true u p e in inr (rw (← z) (omega arith)))
-      (λ e. let n : u ≡ p → ⊥ = eqb-false u p e in
-      ⊎-elim (λ back. absurd (n (omega arith))) (λ after. inl after) (order-in f u p (omega arith) ru rp)))
-      (λ after. inr (omega arith))
-      (order-in f p u (omega arith) rp ru)
-
-  order : {p q : ℕ} → Reached values p → Reached values q → (q ≤ p) ⊎ (p + (1 + getD values p 0) ≤ q)
-  order {p} {q} rp rq = order-in (p + q + 1) p q (omega arith) rp rq
-
-  -- a header below a place that the walk reaches has its cells below it
-  within : {p q : ℕ} → Reached values p → Reached values q → q < p → Within values p q
-  within {p} {q} rp rq h =
-      ⊎-elim (λ back. absurd (omega arith))
-      (λ after. record { before = h; fits = omega arith; header = rq })
-      (order rq rp)
+use Rattle.description_index.proofs.index.Laws.{chain-suc, on-or}
+use Rattle.description_index.proofs.index.Entries.{reached-fills}
+use Rattle.description_index.proofs.index.Walked.{order, within}
 
 -- ---- what is found below p
 abbrev Below : ℕ → Found → Type 0
@@ -67,11 +43,11 @@ or-twice Nothing Nothing = refl
 -- ---- the way out of `leave`: x is the head of bucket b, as an index
 module _ (index : List ℕ) (p b x : ℕ) (is : x ≡ headOf index b) where
   pub without-other : (x ≡ p + 1 → ⊥) → set index p 0 ≡ without index p b
-  unfolding without
+  unfolding without unlinked
   without-other n = rw (ne-eqb (headOf index b) (p + 1) (λ e. n (is ∙ e)))
 
   pub without-head : x ≡ p + 1 → set (set index (8192 + b) (getD index p 0)) p 0 ≡ without index p b
-  unfolding without
+  unfolding without unlinked
   without-head e = rw (eq-eqb (headOf index b) (p + 1) (sym is ∙ e))
 
 pub ruleset leaving = (without-other, without-head)
@@ -122,7 +98,8 @@ module _ (tags values : List ℕ) (p : ℕ) (at : Reached values p) (index : Lis
     last q w = ⊎-elim (λ back. back) (λ after. absurd (omega (arith, w .before))) (order values at (w .header))
 
     -- ---- the entries
-    first-size : length (cond (eqb (headOf index b) (p + 1)) (set index (8192 + b) (getD index p 0)) index) ≡ 12288
+    first-size : length (unlinked index p b) ≡ 12288
+    unfolding unlinked
     first-size = by-test (eqb (headOf index b) (p + 1)) (λ e. rw (e, length-set) (s .size)) (λ e. rw e (s .size))
 
     size⁻ : length index⁻ ≡ 12288
@@ -131,24 +108,24 @@ module _ (tags values : List ℕ) (p : ℕ) (at : Reached values p) (index : Lis
 
     gone : getD index⁻ p 0 ≡ 0
     unfolding without
-    gone = getD-set-same (cond (eqb (headOf index b) (p + 1)) (set index (8192 + b) (getD index p 0)) index) p 0 0 (omega (arith, first-size))
+    gone = getD-set-same (unlinked index p b) p 0 0 (omega (arith, first-size))
 
     other : (i : ℕ) → (i ≡ p → ⊥) → (i ≡ 8192 + b → ⊥) → getD index⁻ i 0 ≡ getD index i 0
-    unfolding without
+    unfolding without unlinked
     other i n m =
-        getD-set-other (cond (eqb (headOf index b) (p + 1)) (set index (8192 + b) (getD index p 0)) index) p i 0 0 n
+        getD-set-other (unlinked index p b) p i 0 0 n
         ∙ by-test (eqb (headOf index b) (p + 1)) (λ e. rw e (getD-set-other index (8192 + b) i (getD index p 0) 0 m)) (λ e. rw e)
 
     head-moved : headOf index b ≡ p + 1 → headOf index⁻ b ≡ getD index p 0
-    unfolding without
+    unfolding without unlinked
     head-moved e =
-        getD-set-other (cond (eqb (headOf index b) (p + 1)) (set index (8192 + b) (getD index p 0)) index) p (8192 + b) 0 0 (λ z. absurd (omega arith))
+        getD-set-other (unlinked index p b) p (8192 + b) 0 0 (λ z. absurd (omega arith))
         ∙ rw (eq-eqb _ _ e) (getD-set-same index (8192 + b) (getD index p 0) 0 (omega (arith, s .size)))
 
     head-kept : (headOf index b ≡ p + 1 → ⊥) → headOf index⁻ b ≡ headOf index b
-    unfolding without
+    unfolding without unlinked
     head-kept n =
-        getD-set-other (cond (eqb (headOf index b) (p + 1)) (set index (8192 + b) (getD index p 0)) index) p (8192 + b) 0 0 (λ z. absurd (omega arith))
+        getD-set-other (unlinked index p b) p (8192 + b) 0 0 (λ z. absurd (omega arith))
         ∙ rw (ne-eqb _ _ n)
 
     by-entry : (P : ℕ → ℕ → Type 0) → P p 0 → (headOf index b ≡ p + 1 → P (8192 + b) (getD index p 0))
@@ -325,79 +302,3 @@ module _ (tags values : List ℕ) (index : List ℕ) (p m : ℕ) (e : Earlier va
         rw (e′, y) (without-index tags values p (e .reached) index₁ (rw z at s₁) (omega (arith, past, e .small)) (rw y at small))
 
 pub ruleset forgets = (forget-none, forget-small, forget-later, forget-last)
-
--- ---- the walk that enters the headers below n: those below p are in the index
-pub record Entered (tags values : List ℕ) (n : ℕ) (index : List ℕ) (p : ℕ) : Type 0 where
-  pub has : Index tags values p index
-  pub before : p ≤ n
-
-module _ (tags values : List ℕ) (n : ℕ) (ask : Earlier values n n) where
-  pub entered-start : (index old : List ℕ) → length index ≡ 12288 → index ≡ zeroFrom 0 old → Entered tags values n index 0
-  entered-start index old l e = record { has = index-start tags values index old l e; before = omega arith }
-
-  module _ (index : List ℕ) (p : ℕ) (s : Entered tags values n index p) where
-    pub entered-has : Index tags values p index
-    entered-has = s .has
-
-    pub entered-end : n ≤ p → Index tags values n index
-    entered-end h = let z : p ≡ n = omega (arith, s .before) in rw z at (s .has)
-
-    module _ (h : p < n) (k : ℕ) (is : k ≡ getD values p 0) where
-      entered-past : p + (1 + getD values p 0) ≤ n
-      entered-past = ⊎-elim (λ back. absurd (omega arith)) (λ after. after) (order values (s .has .reached) (ask .reached))
-
-      pub entered-small : p + (1 + k) ≤ 8192
-      entered-small = omega (arith, entered-past, ask .small)
-
-      pub entered-next : (index′ : List ℕ) → Index tags values (p + (1 + getD values p 0)) index′ → Entered tags values n index′ (p + (1 + k))
-      entered-next index′ i = record { has = rw is i; before = omega (arith, entered-past) }
-
-pub ruleset entered-headers = (entered-start, entered-has, entered-end, entered-small, entered-next)
-
--- ---- arrays that have the same cells below n
-module _ (n : ℕ) (tags values tags′ values′ : List ℕ) (same : Same n tags values tags′ values′) (index : List ℕ) (s : Index tags values n index) where
-  within-kept : (q : ℕ) → Within values n q → Within values′ n q
-  within-kept q w = record {
-    before = w .before;
-    fits = rw (same .values-same q (w .before)) (w .fits);
-    header = reached-same values values′ n (same .values-same) (w .header) (omega (arith, w .before));
-  }
-
-  bucket-kept : (q : ℕ) → Within values n q → bucketAt tags′ values′ q ≡ bucketAt tags values q
-  bucket-kept q w = rw (same .tags-same q (w .before), cells-same n tags values tags′ values′ same q (w .before) (w .fits))
-
-  entry-most : (i : ℕ) → getD index i 0 ≤ n
-  entry-most i = below (getD index i 0) refl
-    where
-      below : (c : ℕ) → getD index i 0 ≡ c → c ≤ n
-      below zero e = omega arith
-      below (suc q) e = omega (arith, s .entry i q e .before)
-
-  or-nothing : (f : Found) → orElse f Nothing ≡ f
-  or-nothing (At q) = refl
-  or-nothing Nothing = refl
-
-  holds-kept : (tag : ℕ) (cells : List ℕ) → lookUp tags′ values′ index tag cells ≡ find tags′ values′ n tag cells
-  unfolding lookUp
-  holds-kept tag cells =
-      ap asFound (on-same index index (λ q. isAt tags values q tag cells) (λ q. isAt tags′ values′ q tag cells) n (s .links-back) (λ q l. refl)
-      (λ i q e. at-same n tags values tags′ values′ same q (s .entry i q e .before) (s .entry i q e .fits) tag cells)
-      (8192 + bucketOf tag cells) 0 (entry-most (8192 + bucketOf tag cells)))
-      ∙ s .holds tag cells
-      ∙ sym (or-nothing (find tags values n tag cells))
-      ∙ ap (orElse (find tags values n tag cells)) (first-end values′ n (λ q. isAt tags′ values′ q tag cells) _ n refl (omega arith))
-      ∙ sym (find-grown n tags values tags′ values′ same n tag cells (omega arith) (reached-fills values (s .reached)))
-
-  pub index-kept : Index tags′ values′ n index
-  index-kept = record {
-    size = s .size;
-    reached = reached-same values values′ n (same .values-same) (s .reached) (omega arith);
-    links-back = s .links-back;
-    entry = λ i q e. within-kept q (s .entry i q e);
-    link = λ i q l e. record {
-      from = within-kept i (s .link i q l e .from);
-      bucket = bucket-kept q (s .entry i q e) ∙ s .link i q l e .bucket ∙ sym (bucket-kept i (s .link i q l e .from));
-    };
-    head = λ b q e. bucket-kept q (s .entry (8192 + b) q e) ∙ s .head b q e;
-    holds = holds-kept;
-  }

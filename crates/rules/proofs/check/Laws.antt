@@ -1,36 +1,35 @@
 -- Laws of `check`: each exit's answer, and the arrays after it.
 -- Assumes nothing.
-use Prim.Native.Nat.{ℕ, zero, suc, _-_, _≤_, _<_, min}
+use Prim.Native.Nat.{ℕ, suc, _-_, _≤_, _<_, min}
 use mathlib.Core.Path.{_≡_, refl, sym, ap, _∙_}
 use mathlib.Core.Bool.{Bool, true, false, not, _&&_, cond}
-use mathlib.Core.List.{List, [], _∷_, _++_}
-use lib.ListN.{length, getD, take, replicate, length-drop, length-replicate}
+use mathlib.Core.List.{List}
+use lib.ListN.{length, getD, length-drop}
 use lib.Dec.{ltb, leb, eqb}
 use native.Mathlib.Omega.{arith}
 use borrow.Author.Tests.{eq-eqb, ne-eqb, eqb-true, eqb-false, ltb-true, le-leb, not-true, not-false}
 use Rattle.cells.specs.ByPlace.{by-test}
 use Rattle.cells.specs.Cell.{cellsOf, operandsOf}
-use Rattle.headers.specs.WellFormed.{isTermTag, isTerm}
+use Rattle.headers.specs.WellFormed.{isTerm}
 use Rattle.descriptions.specs.Description.{zeroFrom, Cut}
-use Rattle.answers.specs.Answer.{accepted, refused, notATerm}
+use Rattle.answers.specs.Answer.{accepted, refused}
 use Rattle.description_index.specs.Index.{Index}
 use Rattle.pool_checks.specs.Check.{Indexed, andThen, checkPool, checkTerm}
 use Rattle.answers.specs.declared.Answer.{Answer}
 use Rattle.term_trees.proofs.Header.{both, cells-length, term-tagged}
 use Rattle.term_trees.proofs.Passed.{Passed, pool-passes, pool-accepts, header-at}
-use Rattle.quantifiers.specs.Outcome.{Outcome, answerOf}
+use Rattle.quantifiers.specs.Outcome.{answerOf}
 use Rattle.forms.specs.Form.{equality}
 use Rattle.forms.proofs.Trees.{equality-tree}
 use Rattle.joining.specs.QntJoin.{qntJoin}
 use Rattle.removing.specs.QntRmUnused.{qntRmUnused}
-use Rattle.clausification.specs.QntCnf.{qntCnf}
 use Rattle.miniscoping.specs.MiniscopeDistribute.{miniscopeDistribute}
 use Rattle.miniscoping.specs.MiniscopeSplit.{miniscopeSplit}
 use Rattle.miniscoping.specs.MiniscopeIte.{miniscopeIte}
 use Rattle.miniscoping.specs.LeftFits.{LeftFits}
-use Rattle.rules.specs.Step.{isRule, unknownRule, notOneTerm, ruleOutcome, stepAnswer, cellsLeft, Follows, Step}
+use Rattle.rules.specs.Step.{isRule, ruleOutcome, stepAnswer, cellsLeft, Follows, Step}
 use Rattle.clausification.specs.Promises.{Clausified}
-use Rattle.rules.specs.StepWalk.{Kept, Judged}
+use Rattle.rules.specs.StepWalk.{beforeRule, Kept, Judged}
 use Rattle.rules.proofs.Codes.{rule-codes, not-30}
 use Rattle.rules.proofs.Accepted.{step-follows}
 
@@ -46,28 +45,11 @@ rule-from k h = rw (le-leb 1 k h)
 pub ruleset codes = (rule-low, rule-from)
 
 -- ---- arrays that nothing has changed
-pub kept-same : (n rule : ℕ) (r : Answer) (tags values : List ℕ) → Kept n rule r tags values tags values
-kept-same n rule r tags values =
-    record {
-      tags-same = λ o. refl;
-      values-same = λ o. refl;
-      tags-at-30 = λ o. refl;
-      values-at-30 = λ o. refl;
-      tags-zeroed = refl;
-      values-zeroed = refl;
-    }
-
-judged : (n rule : ℕ) (defined r : Answer) (tags values : List ℕ) → r ≡ defined → Judged n rule defined r tags values tags values
-judged n rule defined r tags values e = record { answer = e; kept = kept-same n rule r tags values }
-
--- ---- zeroes past n, twice
-zero-twice : (n : ℕ) (l : List ℕ) → zeroFrom n (zeroFrom n l) ≡ zeroFrom n l
-unfolding zeroFrom
-zero-twice zero l = let z : length l - 0 ≡ length l = omega arith in rw (z, length-replicate {A = ℕ} (length l) 0, z)
-zero-twice (suc n) [] = let z : 0 - suc n ≡ 0 = omega arith in rw (z, z)
-zero-twice (suc n) (x ∷ l) =
-    let s : (k : ℕ) → suc k - suc n ≡ k - n = λ k. omega arith in
-    rw (s (length l), s (length (take n l ++ replicate (length l - n) 0))) (ap (_∷_ x) (zero-twice n l))
+judged : (n rule : ℕ) (defined r : Answer) (tags values : List ℕ) → (rule ≡ 3 → ⊥) → r ≡ defined → Judged n rule defined r tags values tags values
+judged n rule defined r tags values other e = record { answer = e; tags-kept = kept tags; values-kept = kept values }
+  where
+    kept : (l : List ℕ) → Kept n rule l l
+    kept l = record { same = λ o. refl; zeroed = λ o. absurd (other o) }
 
 -- ---- the rules
 module _ (tags values : List ℕ) (n rule x : ℕ) where
@@ -80,22 +62,22 @@ module _ (tags values : List ℕ) (n rule x : ℕ) where
   module _ (r : Answer) where
     pub apply-join : rule ≡ 1 → r ≡ answerOf (qntJoin tags values x) → After r tags values
     unfolding ruleOutcome
-    apply-join e q = judged n rule defined r tags values (rw (eq-eqb _ _ e) q)
+    apply-join e q = judged n rule defined r tags values (λ o. omega arith) (rw (eq-eqb _ _ e) q)
 
     pub apply-rm-unused : rule ≡ 2 → r ≡ answerOf (qntRmUnused tags values n x) → After r tags values
     unfolding ruleOutcome
-    apply-rm-unused e q = judged n rule defined r tags values (rw (ne-eqb rule 1 (λ z. omega arith), eq-eqb _ _ e) q)
+    apply-rm-unused e q = judged n rule defined r tags values (λ o. omega arith) (rw (ne-eqb rule 1 (λ z. omega arith), eq-eqb _ _ e) q)
 
     pub apply-distribute : rule ≡ 4 → r ≡ answerOf (miniscopeDistribute tags values x) → After r tags values
     unfolding ruleOutcome
     apply-distribute e q =
-        judged n rule defined r tags values
+        judged n rule defined r tags values (λ o. omega arith)
         (rw (ne-eqb rule 1 (λ z. omega arith), ne-eqb rule 2 (λ z. omega arith), ne-eqb rule 3 (λ z. omega arith), eq-eqb _ _ e) q)
 
     pub apply-split : rule ≡ 5 → r ≡ answerOf (miniscopeSplit tags values n x) → After r tags values
     unfolding ruleOutcome
     apply-split e q =
-        judged n rule defined r tags values
+        judged n rule defined r tags values (λ o. omega arith)
         (rw (
           ne-eqb rule 1 (λ z. omega arith),
           ne-eqb rule 2 (λ z. omega arith),
@@ -108,39 +90,21 @@ module _ (tags values : List ℕ) (n rule x : ℕ) where
         → r ≡ answerOf (miniscopeIte tags values n x) → After r tags values
     unfolding ruleOutcome
     apply-ite a b c d e q =
-        judged n rule defined r tags values (rw (ne-eqb _ _ a, ne-eqb _ _ b, ne-eqb _ _ c, ne-eqb _ _ d, ne-eqb _ _ e) q)
+        judged n rule defined r tags values c (rw (ne-eqb _ _ a, ne-eqb _ _ b, ne-eqb _ _ c, ne-eqb _ _ d, ne-eqb _ _ e) q)
 
-    -- rule 3 gives no 30, and zeroes past n
     pub apply-cnf : rule ≡ 3 → (tags′ values′ : List ℕ) → Clausified tags values n x r tags′ values′ → After r tags′ values′
     unfolding ruleOutcome
     apply-cnf e tags′ values′ c =
         record {
-          answer = is;
-          kept = record {
-            tags-same = λ o. absurd (o e);
-            values-same = λ o. absurd (o e);
-            tags-at-30 = λ o. absurd (never o);
-            values-at-30 = λ o. absurd (never o);
-            tags-zeroed = ap (zeroFrom n) (c .tags-are) ∙ zero-twice n tags;
-            values-zeroed = ap (zeroFrom n) (c .values-are) ∙ zero-twice n values;
-          };
+          answer = rw (ne-eqb rule 1 (λ z. omega arith), ne-eqb rule 2 (λ z. omega arith), eq-eqb _ _ e) (c .answer);
+          tags-kept = record { same = λ o. absurd (o e); zeroed = λ o. c .tags-are };
+          values-kept = record { same = λ o. absurd (o e); zeroed = λ o. c .values-are };
         }
-      where
-        is : r ≡ defined
-        is = rw (ne-eqb rule 1 (λ z. omega arith), ne-eqb rule 2 (λ z. omega arith), eq-eqb _ _ e) (c .answer)
-
-        never : r .code ≡ 30 → ⊥
-        never o = not-30 (ruleOutcome tags values n rule x) (rule-codes tags values n x rule) (sym (ap (λ (a : Answer). a .code) is) ∙ o)
 
 pub ruleset applies = (apply-join, apply-rm-unused, apply-distribute, apply-split, apply-ite, apply-cnf)
 
 -- ---- a conclusion that passes its checks
 module _ (tags values table : List ℕ) (n x : ℕ) where
-  pub conclusion-ready : (a : Answer) → a ≡ checkPool tags values table n → a .code ≡ 0 → (t : Bool) → t ≡ isTerm tags n x → not t ≡ false
-      → checkTerm tags values table n x .code ≡ 0
-  unfolding checkTerm andThen
-  conclusion-ready a is ok t term o = rw (← is, eq-eqb _ _ ok, ← term, not-false t o)
-
   -- a term's operand run lies in the pool
   short : Passed tags values table n → (p : ℕ) → isTerm tags n p ≡ true → length (operandsOf tags values p) ≤ 8192
   unfolding operandsOf isTerm
@@ -164,81 +128,134 @@ module _ (tags values table : List ℕ) (n x : ℕ) where
       other : (k : ℕ) → suc k ≡ 0 → ⊥
       other k z = omega arith
 
--- ---- the checks in their order
-module _ (tags values table : List ℕ) (n rule : ℕ) (conclusion : List ℕ) (a : Answer) (is : a ≡ checkPool tags values table n) where
+-- ---- the checks before the rule, in their order
+module _ (tags : List ℕ) (n rule : ℕ) (conclusion : List ℕ) (a : Answer) where
+  pub before-pool : (a .code ≡ 0 → ⊥) → a ≡ beforeRule tags n rule conclusion a
+  unfolding beforeRule andThen
+  before-pool h = rw (ne-eqb _ _ h)
+
+  module _ (ok : a .code ≡ 0) (known : Bool) (k : known ≡ isRule rule) where
+    pub before-unknown : not known ≡ true → (r : Answer) → r ≡ refused 18 rule 0 → r ≡ beforeRule tags n rule conclusion a
+    unfolding beforeRule andThen
+    before-unknown f r e = rw (eq-eqb _ _ ok, ← k, not-true known f) e
+
+    module _ (o : not known ≡ false) where
+      pub before-length : (length conclusion ≡ 1 → ⊥) → (w : ℕ) → w ≡ min 4294967295 (length conclusion) → (r : Answer) → r ≡ refused 1 w 0
+          → r ≡ beforeRule tags n rule conclusion a
+      unfolding beforeRule andThen
+      before-length h w q r e = rw (eq-eqb _ _ ok, ← k, not-false known o, ne-eqb _ _ h, ← q) e
+
+      module _ (one : length conclusion ≡ 1) (t : Bool) (term : t ≡ isTerm tags n (getD conclusion 0 0)) where
+        pub before-place : not t ≡ true → (r : Answer) → r ≡ refused 17 (getD conclusion 0 0) 0 → r ≡ beforeRule tags n rule conclusion a
+        unfolding beforeRule andThen
+        before-place f r e = rw (eq-eqb _ _ ok, ← k, not-false known o, eq-eqb _ _ one, ← term, not-true t f) e
+
+        pub before-passed : not t ≡ false → (r : Answer) → r ≡ accepted 0 0 → r ≡ beforeRule tags n rule conclusion a
+        unfolding beforeRule andThen
+        before-passed f r e = rw (eq-eqb _ _ ok, ← k, not-false known o, eq-eqb _ _ one, ← term, not-false t f) e
+
+pub ruleset befores = (before-pool, before-unknown, before-length, before-place, before-passed)
+
+-- ---- the rule after them: early is their answer
+module _ (tags values table : List ℕ) (n rule : ℕ) (conclusion : List ℕ) (a : Answer) (is : a ≡ checkPool tags values table n)
+    (early : Answer) (before : early ≡ beforeRule tags n rule conclusion a) where
+  abbrev x : ℕ
+  x = getD conclusion 0 0
+
   abbrev whole : Answer
   whole = stepAnswer tags values table n rule conclusion
 
-  pub judge-pool : (a .code ≡ 0 → ⊥) → Judged n rule whole a tags values tags values
-  unfolding stepAnswer andThen
-  judge-pool h = judged n rule whole a tags values (rw (← is, ne-eqb _ _ h))
+  other : (k : ℕ) → suc k ≡ 0 → ⊥
+  other k z = omega arith
 
-  module _ (ok : a .code ≡ 0) (known : Bool) (k : known ≡ isRule rule) where
-    pub judge-rule : not known ≡ true → (r : Answer) → r ≡ refused 18 rule 0 → Judged n rule whole r tags values tags values
-    unfolding stepAnswer andThen
-    judge-rule f r e = judged n rule whole r tags values (rw (← is, eq-eqb _ _ ok, ← k, not-true known f) e)
+  module _ (ok : early .code ≡ 0) where
+    passed : (a .code ≡ 0) × (isRule rule ≡ true) × (length conclusion ≡ 1) × (isTerm tags n x ≡ true)
+    unfolding beforeRule andThen
+    passed =
+        let z : beforeRule tags n rule conclusion a .code ≡ 0 = sym (ap (λ (r : Answer). r .code) before) ∙ ok in
+        by-test (eqb (a .code) 0)
+        (λ p. by-test (isRule rule)
+        (λ k. by-test (eqb (length conclusion) 1)
+        (λ o. by-test (isTerm tags n x)
+        (λ t. (eqb-true _ 0 p, k, eqb-true _ 1 o, t))
+        (λ t. absurd (other 16 (rw (p, k, o, t) at z))))
+        (λ o. absurd (other 0 (rw (p, k, o) at z))))
+        (λ k. absurd (other 17 (rw (p, k) at z))))
+        (λ p. absurd (eqb-false _ 0 p (rw p at z)))
 
-    module _ (o : not known ≡ false) where
-      y : known ≡ true
-      y = not-false known o
+    pub one-place : length conclusion ≡ 1
+    one-place = passed .2
 
-      pub judge-length : (length conclusion ≡ 1 → ⊥) → (w : ℕ) → w ≡ min 4294967295 (length conclusion) → (r : Answer) → r ≡ refused 1 w 0
-          → Judged n rule whole r tags values tags values
+    pub place-ready : checkTerm tags values table n x .code ≡ 0
+    unfolding checkTerm andThen
+    place-ready = rw (← is, eq-eqb _ _ (passed .0), passed .3)
+
+    pub index-ready : (index : List ℕ) → Indexed tags values n a index → Index tags values n index
+    index-ready index i = i .passed (passed .0)
+
+    module _ (r : Answer) (tags′ values′ : List ℕ) (j : Judged n rule (answerOf (ruleOutcome tags values n rule x)) r tags values tags′ values′) where
+      -- a rule gives no 30
+      never : r .code ≡ 30 → ⊥
+      never o = not-30 (ruleOutcome tags values n rule x) (rule-codes tags values n x rule) (sym (ap (λ (q : Answer). q .code) (j .answer)) ∙ o)
+
+      left : (l l′ : List ℕ) → Kept n rule l l′ → l′ ≡ cellsLeft tags values table n rule conclusion r l
+      unfolding cellsLeft
+      left l l′ k =
+          by-test (eqb rule 3)
+          (λ o. rw (o, ne-eqb _ _ never) (k .zeroed (eqb-true rule 3 o)))
+          (λ o. rw o (k .same (eqb-false rule 3 o)))
+
+      answer-is : r ≡ whole
       unfolding stepAnswer andThen
-      judge-length h w q r e = judged n rule whole r tags values (rw (← is, eq-eqb _ _ ok, ← k, y, ne-eqb _ _ h, ← q) e)
+      answer-is = rw (← is, eq-eqb _ _ (passed .0), passed .1, eq-eqb _ _ (passed .2), passed .3) (j .answer)
 
-      module _ (one : length conclusion ≡ 1) (t : Bool) (term : t ≡ isTerm tags n (getD conclusion 0 0)) where
-        pub judge-place : not t ≡ true → (r : Answer) → r ≡ refused 17 (getD conclusion 0 0) 0 → Judged n rule whole r tags values tags values
-        unfolding stepAnswer andThen
-        judge-place f r e = judged n rule whole r tags values (rw (← is, eq-eqb _ _ ok, ← k, y, eq-eqb _ _ one, ← term, not-true t f) e)
-
-        pub judge-on : not t ≡ false → (r : Answer) (tags′ values′ : List ℕ)
-            → Judged n rule (answerOf (ruleOutcome tags values n rule (getD conclusion 0 0))) r tags values tags′ values′
-            → Judged n rule whole r tags values tags′ values′
-        unfolding stepAnswer andThen
-        judge-on f r tags′ values′ j = record { answer = rw (← is, eq-eqb _ _ ok, ← k, y, eq-eqb _ _ one, ← term, not-false t f) (j .answer); kept = j .kept }
-
-pub ruleset judges = (judge-pool, judge-rule, judge-length, judge-place, judge-on)
-
--- ---- the whole outcome
-module _ (tags values table : List ℕ) (n rule : ℕ) (conclusion : List ℕ) (r : Answer) (tags₁ values₁ : List ℕ)
-    (j : Judged n rule (stepAnswer tags values table n rule conclusion) r tags values tags₁ values₁) where
-  truth : Follows tags values table n rule conclusion r
-  truth = step-follows tags values table n rule conclusion r (j .answer)
-
-  pub step-other : (rule ≡ 3 → ⊥) → Step tags values table n rule conclusion r tags₁ values₁
-  unfolding cellsLeft
-  step-other h =
-      record { answer = j .answer; tags-are = rw (ne-eqb _ _ h) (j .kept .tags-same h); values-are = rw (ne-eqb _ _ h) (j .kept .values-same h); follows = truth }
-
-  pub step-30 : r .code ≡ 30 → Step tags values table n rule conclusion r tags₁ values₁
-  unfolding cellsLeft
-  step-30 e =
-      record {
-        answer = j .answer;
-        tags-are = j .kept .tags-at-30 e ∙ sym (unchanged tags);
-        values-are = j .kept .values-at-30 e ∙ sym (unchanged values);
-        follows = truth;
-      }
-    where
-      unchanged : (l : List ℕ) → cond (eqb rule 3 && not (eqb (r .code) 30)) (zeroFrom n l) l ≡ l
-      unchanged l = by-test (eqb rule 3) (λ o. rw (o, eq-eqb _ _ e)) (λ o. rw o)
-
-  pub step-zeroed : rule ≡ 3 → (r .code ≡ 30 → ⊥) → (tags′ values′ : List ℕ) → Cut n tags₁ values₁ tags′ values′
-      → Step tags values table n rule conclusion r tags′ values′
-  unfolding cellsLeft
-  step-zeroed e h tags′ values′ cut =
-      record {
-        answer = j .answer;
-        tags-are = rw (eq-eqb _ _ e, ne-eqb _ _ h) (cut .tags-are ∙ j .kept .tags-zeroed);
-        values-are = rw (eq-eqb _ _ e, ne-eqb _ _ h) (cut .values-are ∙ j .kept .values-zeroed);
-        follows = truth;
+      pub step-rule : Step tags values table n rule conclusion r tags′ values′
+      step-rule = record {
+        answer = answer-is;
+        tags-are = left tags tags′ (j .tags-kept);
+        values-are = left values values′ (j .values-kept);
+        follows = step-follows tags values table n rule conclusion r answer-is;
       }
 
-pub ruleset steps = (step-other, step-30, step-zeroed)
+  module _ (no : early .code ≡ 0 → ⊥) where
+    refused-is : early ≡ whole
+    unfolding stepAnswer beforeRule andThen
+    refused-is =
+        by-test (eqb (a .code) 0)
+        (λ p. by-test (isRule rule)
+        (λ k. by-test (eqb (length conclusion) 1)
+        (λ o. by-test (isTerm tags n x)
+        (λ t. let z : early ≡ accepted 0 0 = rw (p, k, o, t) at before in absurd (no (ap (λ (r : Answer). r .code) z)))
+        (λ t. rw (← is, p, k, o, t) (rw (p, k, o, t) at before)))
+        (λ o. rw (← is, p, k, o) (rw (p, k, o) at before)))
+        (λ k. rw (← is, p, k) (rw (p, k) at before)))
+        (λ p. rw (← is, p) (rw p at before))
 
-pub index-ready : (tags values : List ℕ) (n : ℕ) (a : Answer) (index : List ℕ) → Indexed tags values n a index → a .code ≡ 0 → Index tags values n index
-index-ready tags values n a index i ok = i .passed ok
+    truth : Follows tags values table n rule conclusion early
+    truth = step-follows tags values table n rule conclusion early refused-is
+
+    pub step-other : (rule ≡ 3 → ⊥) → Step tags values table n rule conclusion early tags values
+    unfolding cellsLeft
+    step-other h = record { answer = refused-is; tags-are = rw (ne-eqb _ _ h); values-are = rw (ne-eqb _ _ h); follows = truth }
+
+    pub step-30 : early .code ≡ 30 → Step tags values table n rule conclusion early tags values
+    unfolding cellsLeft
+    step-30 e = record { answer = refused-is; tags-are = sym (unchanged tags); values-are = sym (unchanged values); follows = truth }
+      where
+        unchanged : (l : List ℕ) → cond (eqb rule 3 && not (eqb (early .code) 30)) (zeroFrom n l) l ≡ l
+        unchanged l = by-test (eqb rule 3) (λ o. rw (o, eq-eqb _ _ e)) (λ o. rw o)
+
+    pub step-zeroed : rule ≡ 3 → (early .code ≡ 30 → ⊥) → (tags′ values′ : List ℕ) → Cut n tags values tags′ values′
+        → Step tags values table n rule conclusion early tags′ values′
+    unfolding cellsLeft
+    step-zeroed e h tags′ values′ cut = record {
+      answer = refused-is;
+      tags-are = rw (eq-eqb _ _ e, ne-eqb _ _ h) (cut .tags-are);
+      values-are = rw (eq-eqb _ _ e, ne-eqb _ _ h) (cut .values-are);
+      follows = truth;
+    }
+
+pub ruleset steps = (step-rule, step-other, step-30, step-zeroed)
 
 pub indexed-after : (tags values : List ℕ) (n : ℕ) (a : Answer) (index : List ℕ) → Index tags values n index → Indexed tags values n a index
 indexed-after tags values n a index i = record { passed = λ ok. i }

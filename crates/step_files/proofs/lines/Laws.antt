@@ -1,8 +1,8 @@
 -- Laws of `StepFile` for the functions of `lines`.
 -- Assumes nothing.
-use Prim.Native.Nat.{ℕ, zero, suc, _+_, _-_, _*_, _≤_, _<_}
-use mathlib.Core.Path.{_≡_, refl, sym, ap, _∙_}
-use mathlib.Core.Bool.{Bool, true, false, not, _&&_, cond}
+use Prim.Native.Nat.{ℕ, suc, _+_, _-_, _*_, _≤_}
+use mathlib.Core.Path.{_≡_, refl, sym, _∙_}
+use mathlib.Core.Bool.{not, _&&_}
 use mathlib.Core.List.{List, [], _∷_, _++_}
 use lib.ListN.{length, take, drop, replicate, length-append, length-replicate}
 use lib.Seq.{take-at, drop-at, length-take-le}
@@ -16,8 +16,8 @@ use Rattle.words.proofs.Words.{length-words}
 use Rattle.sort_rules.specs.Table.{builtIn}
 use Rattle.pool_checks.specs.Check.{checkPool, Indexed}
 use Rattle.answers.specs.declared.Answer.{Answer}
-use Rattle.rules.specs.Step.{stepAnswer, cellsLeft, Step}
-use Rattle.step_files.specs.StepFile.{cellsFrom, cellCount, stepCount, fileTags, fileValues, answerTo, lines}
+use Rattle.rules.specs.Step.{cellsLeft, Step}
+use Rattle.step_files.specs.StepFile.{cellsFrom, answerTo, lines}
 use Rattle.step_files.specs.Steps.{Sized, Ready}
 use Rattle.answer_lines.specs.Text.{line, Put}
 use Rattle.answer_lines.proofs.Laws.{put-append}

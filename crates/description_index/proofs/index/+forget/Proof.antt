@@ -22,7 +22,6 @@ forget-at t = and 3 forget-kinds.ps (is 3 forget-kinds.ps μ-forget t) forget.Pr
 abbrev forget-below : ℕ → In 3 forget-kinds.ps
 forget-below t = and 3 forget-kinds.ps (falls 3 forget-kinds.ps _<_ μ-forget t) forget.Pre
 
--- src/index.rt:156:9
 forget-returns : (t : ℕ) → forget-lts.Need-returns (
   cell-reads.Asked,
   cell-reads.Learnt,
@@ -37,7 +36,6 @@ forget-returns : (t : ℕ) → forget-lts.Need-returns (
 ) (forget-at t) forget.Post
 forget-returns t c = search (forgets, needs)
 
--- src/index.rt:158:20
 forget-cell-requires : (t : ℕ) → forget-lts.Need-cell-requires (
   cell-reads.Asked,
   cell-reads.Learnt,
@@ -52,7 +50,6 @@ forget-cell-requires : (t : ℕ) → forget-lts.Need-cell-requires (
 ) (forget-at t) forget.Post
 forget-cell-requires t c κs = search (forgets, needs)
 
--- src/index.rt:158:40
 forget-cells-requires : (t : ℕ) → forget-lts.Need-cells-requires (
   cell-reads.Asked,
   cell-reads.Learnt,
@@ -67,7 +64,6 @@ forget-cells-requires : (t : ℕ) → forget-lts.Need-cells-requires (
 ) (forget-at t) forget.Post
 forget-cells-requires t c κs = search (forgets, needs)
 
--- src/index.rt:158:9
 forget-bucket-requires : (t : ℕ) → forget-lts.Need-bucket-requires (
   cell-reads.Asked,
   cell-reads.Learnt,
@@ -82,7 +78,6 @@ forget-bucket-requires : (t : ℕ) → forget-lts.Need-bucket-requires (
 ) (forget-at t) forget.Post
 forget-bucket-requires t c κs = search (forgets, needs)
 
--- src/index.rt:159:13
 forget-cell-requires-2 : (t : ℕ) → forget-lts.Need-cell-requires-2 (
   cell-reads.Asked,
   cell-reads.Learnt,
@@ -97,7 +92,6 @@ forget-cell-requires-2 : (t : ℕ) → forget-lts.Need-cell-requires-2 (
 ) (forget-at t) forget.Post
 forget-cell-requires-2 t c κs = search (forgets, needs)
 
--- src/index.rt:159:13
 forget-cast-k : (t : ℕ) → forget-lts.Need-cast-k (
   cell-reads.Asked,
   cell-reads.Learnt,
@@ -112,7 +106,6 @@ forget-cast-k : (t : ℕ) → forget-lts.Need-cast-k (
 ) (forget-at t) forget.Post
 forget-cast-k t c = search (forgets, needs)
 
--- src/index.rt:160:33
 forget-add-forget : (t : ℕ) → forget-lts.Need-add-forget (
   cell-reads.Asked,
   cell-reads.Learnt,
@@ -127,7 +120,6 @@ forget-add-forget : (t : ℕ) → forget-lts.Need-add-forget (
 ) (forget-at t) forget.Post
 forget-add-forget t c = search (forgets, needs)
 
--- src/index.rt:160:33
 forget-add-forget-2 : (t : ℕ) → forget-lts.Need-add-forget-2 (
   cell-reads.Asked,
   cell-reads.Learnt,
@@ -142,7 +134,6 @@ forget-add-forget-2 : (t : ℕ) → forget-lts.Need-add-forget-2 (
 ) (forget-at t) forget.Post
 forget-add-forget-2 t c = search (forgets, needs)
 
--- src/index.rt:160:5
 forget-forget-requires : (t : ℕ) → forget-lts.Need-forget-requires (
   cell-reads.Asked,
   cell-reads.Learnt,
@@ -157,7 +148,6 @@ forget-forget-requires : (t : ℕ) → forget-lts.Need-forget-requires (
 ) (forget-at t) forget.Post
 forget-forget-requires t c κs = search (forgets, needs)
 
--- src/index.rt:161:5
 forget-leave-requires : (t : ℕ) → forget-lts.Need-leave-requires (
   cell-reads.Asked,
   cell-reads.Learnt,
@@ -172,7 +162,6 @@ forget-leave-requires : (t : ℕ) → forget-lts.Need-leave-requires (
 ) (forget-at t) forget.Post
 forget-leave-requires t c κs = search (forgets, needs)
 
--- src/index.rt:150:1
 forget-returns-2 : (t : ℕ) → forget-lts.Need-returns-2 (
   cell-reads.Asked,
   cell-reads.Learnt,

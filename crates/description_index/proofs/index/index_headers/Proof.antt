@@ -1,6 +1,6 @@
 use borrow.Author.Needs.{needs}
 use Prim.Native.Nat.{_-_}
-use Rattle.description_index.proofs.index.Forgetting.{Entered, entered-start, entered-headers}
+use Rattle.description_index.proofs.index.Walked.{Entered, entered-start, entered-headers}
 use Rattle.description_index.proofs.index.index_headers.Statement.{statement}
 use Rattle.description_index.proofs.index.index_headers.Tie as tie
 

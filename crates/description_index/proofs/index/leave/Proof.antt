@@ -2,71 +2,52 @@ use borrow.Author.Needs.{needs}
 use Rattle.description_index.proofs.index.Forgetting.{leaving}
 use Rattle.description_index.proofs.index.leave.Statement.{statement}
 use Rattle.description_index.proofs.index.leave.Tie as tie
-use Rattle.description_index.proofs.index.leave.Reads as reads
-use Rattle.description_index.proofs.index.leave.Lts as lts
-use Rattle.cells.proofs.run.wide.Reads as wide-reads
 
--- src/index.rt:140:24
 add-wide : tie.Need-add-wide
 add-wide c = search needs
 
--- src/index.rt:140:18
 mul-wide : tie.Need-mul-wide
 mul-wide c = search needs
 
--- src/index.rt:140:18
 element-copy-out-wide : tie.Need-element-copy-out-wide
 element-copy-out-wide c = search needs
 
--- src/index.rt:140:8
 wide-requires : tie.Need-wide-requires
 wide-requires c κs = search needs
 
--- src/index.rt:140:38
 add-if1 : tie.Need-add-if1
 add-if1 c = search needs
 
--- src/index.rt:141:9
 mul-index : tie.Need-mul-index
 mul-index c = search needs
 
--- src/index.rt:141:9
 element-write-index : tie.Need-element-write-index
 element-write-index c = search needs
 
--- src/index.rt:142:9
 returns : tie.Need-returns
 returns c = search (leaving, needs)
 
--- src/index.rt:144:16
 mul-last : tie.Need-mul-last
 mul-last c = search needs
 
--- src/index.rt:144:16
 element-copy-out-last : tie.Need-element-copy-out-last
 element-copy-out-last c = search needs
 
--- src/index.rt:145:11
 add-index : tie.Need-add-index
 add-index c = search needs
 
--- src/index.rt:145:5
 mul-index-2 : tie.Need-mul-index-2
 mul-index-2 c = search needs
 
--- src/index.rt:145:5
 element-write-index-2 : tie.Need-element-write-index-2
 element-write-index-2 c = search needs
 
--- src/index.rt:146:5
 mul-index-3 : tie.Need-mul-index-3
 mul-index-3 c = search needs
 
--- src/index.rt:146:5
 element-write-index-3 : tie.Need-element-write-index-3
 element-write-index-3 c = search needs
 
--- src/index.rt:135:1
 returns-2 : tie.Need-returns-2
 returns-2 c = search (leaving, needs)
 

@@ -2,14 +2,6 @@ use Rattle.rules.proofs.check.Laws.{applies, left-fits}
 use borrow.Author.Needs.{needs}
 use Rattle.rules.proofs.check.apply.Statement.{statement}
 use Rattle.rules.proofs.check.apply.Tie as tie
-use Rattle.rules.proofs.check.apply.Reads as reads
-use Rattle.rules.proofs.check.apply.Lts as lts
-use Rattle.joining.proofs.qnt_join.qnt_join.Reads as qnt-join-reads
-use Rattle.removing.proofs.qnt_rm_unused.qnt_rm_unused.Reads as qnt-rm-unused-reads
-use Rattle.miniscoping.proofs.miniscope_distribute.miniscope_distribute.Reads as miniscope-distribute-reads
-use Rattle.miniscoping.proofs.miniscope_ite.miniscope_ite.Reads as miniscope-ite-reads
-use Rattle.miniscoping.proofs.miniscope_split.miniscope_split.Reads as miniscope-split-reads
-use Rattle.clausification.proofs.qnt_cnf.qnt_cnf.Reads as qnt-cnf-reads
 
 qnt-join-requires : tie.Need-qnt-join-requires
 qnt-join-requires c κs = search needs

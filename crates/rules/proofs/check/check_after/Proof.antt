@@ -1,14 +1,17 @@
-use Rattle.rules.proofs.check.Laws.{steps}
+use native.Mathlib.Omega.{arith}
+use Rattle.rules.proofs.check.Laws.{steps, one-place, place-ready, index-ready, indexed-after}
 use borrow.Author.Needs.{needs}
 use Rattle.rules.proofs.check.check_after.Statement.{statement}
 use Rattle.rules.proofs.check.check_after.Tie as tie
-use Rattle.rules.proofs.check.check_after.Reads as reads
-use Rattle.rules.proofs.check.check_after.Lts as lts
-use Rattle.descriptions.proofs.description.cut_back.Reads as cut-back-reads
-use Rattle.rules.proofs.check.judge.Reads as judge-reads
 
-judge-requires : tie.Need-judge-requires
-judge-requires c κs = search needs
+before-rule-requires : tie.Need-before-rule-requires
+before-rule-requires c κs = search needs
+
+shared-slice-read-t14 : tie.Need-shared-slice-read-t14
+shared-slice-read-t14 c = let one = one-place _ _ _ _ _ _ _ (c .before .before .before .before .before .before .before .before .pre .0) _ (c .before .before .before .before-rule .ensures) (c .before .if1 .taken) in omega (arith, one)
+
+apply-requires : tie.Need-apply-requires
+apply-requires c κs = (search index-ready, search place-ready)
 
 same-length : tie.Need-same-length
 same-length c = search needs
@@ -17,16 +20,19 @@ same-length-2 : tie.Need-same-length-2
 same-length-2 c = search needs
 
 returns : tie.Need-returns
-returns c = (search steps, search needs)
+returns c = (search steps, search (indexed-after, needs))
 
 same-length-3 : tie.Need-same-length-3
 same-length-3 c = search needs
 
+returns-2 : tie.Need-returns-2
+returns-2 c = (search steps, search (indexed-after, needs))
+
 same-length-4 : tie.Need-same-length-4
 same-length-4 c = search needs
 
-returns-2 : tie.Need-returns-2
-returns-2 c = (search steps, search needs)
+returns-3 : tie.Need-returns-3
+returns-3 c = (search steps, search (indexed-after, needs))
 
 cut-back-requires : tie.Need-cut-back-requires
 cut-back-requires c κs = search needs
@@ -37,21 +43,24 @@ same-length-5 c = search needs
 same-length-6 : tie.Need-same-length-6
 same-length-6 c = search needs
 
-returns-3 : tie.Need-returns-3
-returns-3 c = (search steps, search needs)
+returns-4 : tie.Need-returns-4
+returns-4 c = (search steps, search (indexed-after, needs))
 
 pub check-after-spec : {M : Type 1} → statement M
 check-after-spec =
     tie.close
     (tie.spec
-    judge-requires
+    before-rule-requires
+    shared-slice-read-t14
+    apply-requires
     same-length
     same-length-2
     returns
     same-length-3
-    same-length-4
     returns-2
+    same-length-4
+    returns-3
     cut-back-requires
     same-length-5
     same-length-6
-    returns-3)
+    returns-4)

@@ -1,8 +1,6 @@
 use Rattle.rules.proofs.check.Laws.{codes}
 use Rattle.rules.proofs.check.is_rule.Statement.{statement}
 use Rattle.rules.proofs.check.is_rule.Tie as tie
-use Rattle.rules.proofs.check.is_rule.Reads as reads
-use Rattle.rules.proofs.check.is_rule.Lts as lts
 
 returns : tie.Need-returns
 returns c = search codes
