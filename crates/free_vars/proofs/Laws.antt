@@ -35,10 +35,10 @@ module _ (values : List ℕ) (lets : Bool) (name sort a b : ℕ) where
 
 pub ruleset pair = (pair-name, pair-value, pair-sort)
 
-pub bind-start : (values : List ℕ) (lets : Bool) (v : ℕ) (run : List ℕ) (name sort : ℕ) → name ≡ getD values (v + 2) 0 → sort ≡ sortOf values v
-    → pairsBind values lets v run ≡ pairIn (pairSort values lets) name sort (drop 1 run)
+pub bind-by : (values : List ℕ) (lets : Bool) (v : ℕ) (run : List ℕ) (name sort : ℕ) → name ≡ getD values (v + 2) 0 → sort ≡ sortOf values v
+    → (r : Bool) → r ≡ pairIn (pairSort values lets) name sort (drop 1 run) → r ≡ pairsBind values lets v run
 unfolding pairsBind
-bind-start values lets v run name sort a b = rw (a, b)
+bind-by values lets v run name sort a b r e = rw (← a, ← b) e
 
 -- w says whether the pairs from i on hold the name with the sort
 module _ (w : Bool) (values : List ℕ) (lets : Bool) (name sort : ℕ) (l : List ℕ) (i : ℕ) (inv : w ≡ pairIn (pairSort values lets) name sort (drop i l)) where
@@ -65,7 +65,7 @@ module _ (w : Bool) (values : List ℕ) (lets : Bool) (name sort : ℕ) (l : Lis
       unfolding pairIn isPair
       bind-next y = rw (inv, two, ← is, y)
 
-pub ruleset binding = (bind-start, bind-end, bind-odd, bind-here, bind-next)
+pub ruleset binding = (bind-end, bind-odd, bind-here, bind-next)
 
 -- ---- the definition, with its recursion one step open
 free-is : (tags values : List ℕ) (v t : ℕ) → isFree tags values v t ≡ freeStep tags values v t (freeBelow tags values v t)
@@ -180,6 +180,12 @@ unfolding anyOf
 any-none test [] e = refl
 any-none test (x ∷ l) e = absurd (omega arith)
 
+pub any-first : (test : ℕ → Bool) (l : List ℕ) → (length l ≡ 0 → ⊥) → anyOf test l ≡ test (getD l 0 0) || anyOf test (take (length l - 1) (drop 1 l))
+unfolding anyOf
+any-first test l some =
+    rw (take-all (length l - 1) (drop 1 l) (rw (length-drop 1 l) (omega arith)))
+    (ap (anyOf test) (drop-cons l 0 0 (omega arith)))
+
 module _ (tags values : List ℕ) (v t : ℕ) (run : List ℕ) where
   pub run-end : (memo : List ℕ) → Right tags values v memo → length run ≡ 0 → Answered tags values v memo false (anyOf (freeBelow tags values v t) run)
   run-end memo right e = record { is = any-none _ run e; right = right }
@@ -187,10 +193,7 @@ module _ (tags values : List ℕ) (v t : ℕ) (run : List ℕ) where
   module _ (some : length run ≡ 0 → ⊥) where
     pub any-is : anyOf (freeBelow tags values v t) run
         ≡ freeBelow tags values v t (getD run 0 0) || anyOf (freeBelow tags values v t) (take (length run - 1) (drop 1 run))
-    unfolding anyOf
-    any-is =
-        rw (take-all (length run - 1) (drop 1 run) (rw (length-drop 1 run) (omega arith)))
-        (ap (anyOf (freeBelow tags values v t)) (drop-cons run 0 0 (omega arith)))
+    any-is = any-first (freeBelow tags values v t) run some
 
     pub run-skip : t ≤ getD run 0 0 → (memo : List ℕ) (s : Bool)
         → Answered tags values v memo s (anyOf (freeBelow tags values v t) (take (length run - 1) (drop 1 run)))

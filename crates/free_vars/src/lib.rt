@@ -5,9 +5,9 @@ use cells::run::cell;
 use cells::run::operands;
 use cells::run::sort_of;
 ghost use mathlib.Core.Path.{_≡_};
-ghost use lib.ListN.{length, getD, replicate};
-ghost use Rattle.free_vars.specs.Free.{anyOf, isFree, markOf, Marked};
-ghost use Rattle.free_vars.specs.FreeMemo.{isPair, pairsBind, freeBelow, Means, Right, Answered, Noted};
+ghost use lib.ListN.{length, getD, drop, replicate};
+ghost use Rattle.free_vars.specs.Free.{pairIn, anyOf, isFree, markOf, Marked};
+ghost use Rattle.free_vars.specs.FreeMemo.{pairSort, isPair, pairsBind, freeBelow, Means, Right, Answered, Noted};
 
 // Whether the pair a, b is this name with this sort. A let's pair (`lets`) holds a value of that sort, a binder's the sort.
 fn is_pair(values: &[u32], lets: bool, name: u32, sort: u32, a: u32, b: u32) -> bool
@@ -22,13 +22,10 @@ fn is_pair(values: &[u32], lets: bool, name: u32, sort: u32, a: u32, b: u32) -> 
     b == sort
 }
 
-// Whether the pairs of a run, after its body, bind the variable at v.
-fn pairs_bind(values: &[u32], lets: bool, v: TermPlace, run: &[u32]) -> bool
-    ensures { λ r. ⌜ r ≡ pairsBind (now (values .entry)) lets (v .0) (now (run .entry)) ⌝ }
+// Whether the pairs of a run, after its body, have this name with this sort.
+pub fn has_pair(values: &[u32], lets: bool, name: u32, sort: u32, run: &[u32]) -> bool
+    ensures { λ r. ⌜ r ≡ pairIn (pairSort (now (values .entry)) lets) name sort (drop 1 (now (run .entry))) ⌝ }
 {
-    let at = v.0 as usize;
-    let name = cell(values, at + 2);
-    let sort = sort_of(values, v).0;
     let mut i: usize = 1;
     while i < run.len() {
         if run.len() - i < 2 {
@@ -40,6 +37,20 @@ fn pairs_bind(values: &[u32], lets: bool, v: TermPlace, run: &[u32]) -> bool
         i += 2;
     }
     false
+}
+
+// Whether the pairs of a run, after its body, bind the variable at v.
+fn pairs_bind(values: &[u32], lets: bool, v: TermPlace, run: &[u32]) -> bool
+    ensures { λ r. ⌜ r ≡ pairsBind (now (values .entry)) lets (v .0) (now (run .entry)) ⌝ }
+{
+    let at = v.0 as usize;
+    has_pair(
+        values,
+        lets,
+        cell(values, at + 2),
+        sort_of(values, v).0,
+        run,
+    )
 }
 
 // What the walk finds at a term: the answer, or that it is the body's, or that of a term of the operand run.

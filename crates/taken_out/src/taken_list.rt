@@ -2,10 +2,10 @@
 // a byte for each place, keeps the places whose variables are collected. A pool of at most 8,192 cells has no more pairs
 // than the array has room for; where other arguments fill it, each pair of the list is sought by a walk of its own.
 use crate::taken_variables::first_unbound_by_walks;
-use crate::taken_variables::seen_at;
 use forms::bindings;
 use formulas::view::NormalView;
 use formulas::view::normal_view;
+use free_vars::noted_at;
 use pool::TermPlace;
 use pool::run::operands;
 use quantifiers::binding::FirstName;
@@ -70,7 +70,7 @@ fn collect_term(
     ensures { λ r. ⌜ Walked (now (tags .entry)) (now (values .entry)) (now (cells .entry)) k (now (seen .exit)) (now (cells .exit)) (takenAt (now (tags .entry)) (now (values .entry)) x) r ⌝ }
 {
     let at = x as usize;
-    if seen_at(seen, at) == 1 {
+    if noted_at(seen, at) == 1 {
         return Collected::From(k);
     }
     let view = normal_view(tags, values, TermPlace(x));

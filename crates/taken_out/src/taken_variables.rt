@@ -4,17 +4,16 @@
 use forms::bindings;
 use formulas::view::NormalView;
 use formulas::view::normal_view;
-use free_lists::is_free_by;
+use free_lists::first_missing_by;
+use free_vars::noted_at;
 use pool::TermPlace;
 use pool::mark_names;
 use pool::run::operands;
 use quantifiers::binding::FirstName;
 use quantifiers::binding::has;
-use quantifiers::binding::same_pair;
 ghost use mathlib.Core.Path.{_≡_};
 ghost use mathlib.Core.Bool.{true, not};
 ghost use mathlib.Core.List.{_++_};
-ghost use lib.ListN.{getD};
 ghost use Rattle.formulas.specs.Formula.{allBefore};
 ghost use Rattle.formulas.specs.Normal.{taken};
 ghost use Rattle.clause_totals.specs.ClauseWalk.{formAt};
@@ -36,32 +35,7 @@ pub enum Step {
     Run,
 }
 
-// Whether this pair is sought. The table has the names of the term where a missing variable is to be free.
-fn is_sought(
-    tags: &[u32],
-    values: &[u32],
-    n: usize,
-    right: &[u32],
-    sought: Sought,
-    names: &[u8],
-    name: u32,
-    sort: u32,
-) -> bool
-    requires { ⌜ Tabled (now tags) (now values) (now names) sought ⌝ }
-    ensures { λ r. ⌜ r ≡ isSought (now (tags .entry)) (now (values .entry)) n (bindingsOf (now (right .entry))) sought (pair name sort) ⌝ }
-{
-    match sought {
-        Sought::Pair(a, s) => same_pair(name, sort, a, s),
-        Sought::Missing(t) => {
-            if has(right, name, sort) {
-                return false;
-            }
-            is_free_by(tags, values, n, names, name, sort, t)
-        }
-    }
-}
-
-// The first pair of a list that is sought.
+// The first pair of a list that is sought. The table has the names of the term where a missing variable is to be free.
 fn first_sought(
     tags: &[u32],
     values: &[u32],
@@ -74,21 +48,15 @@ fn first_sought(
     requires { ⌜ Tabled (now tags) (now values) (now names) sought ⌝ }
     ensures { λ r. ⌜ r ≡ nameOf (firstOf (isSought (now (tags .entry)) (now (values .entry)) n (bindingsOf (now (right .entry))) sought) (bindingsOf (now (list .entry)))) ⌝ }
 {
-    let mut i: usize = 0;
-    while 2 <= list.len() - i {
-        if is_sought(tags, values, n, right, sought, names, list[i], list[i + 1]) {
-            return FirstName::Name(list[i]);
+    match sought {
+        Sought::Pair(a, s) => {
+            if has(list, a, s) {
+                return FirstName::Name(a);
+            }
+            FirstName::Nothing
         }
-        i += 2;
+        Sought::Missing(t) => first_missing_by(tags, values, n, names, t, list, right),
     }
-    FirstName::Nothing
-}
-
-// The memo's entry for a place, and 0 past its end.
-pub(crate) fn seen_at(seen: &[u8], i: usize) -> u8
-    ensures { λ r. ⌜ r ≡ getD (now (seen .entry)) i 0 ⌝ }
-{
-    if i < seen.len() { seen[i] } else { 0 }
 }
 
 // What the walk finds at the term at x.
@@ -106,7 +74,7 @@ fn look(
     ensures { λ r. ⌜ Means (now (tags .entry)) (now (values .entry)) (isSought (now (tags .entry)) (now (values .entry)) n (bindingsOf (now (right .entry))) sought) x r ⌝ }
 {
     let at = x as usize;
-    if seen_at(seen, at) == 1 {
+    if noted_at(seen, at) == 1 {
         return Step::Nothing;
     }
     let view = normal_view(tags, values, TermPlace(x));

@@ -16,10 +16,10 @@ use Rattle.cells.specs.declared.TermPlace.{TermPlace}
 use Rattle.free_vars.specs.Free.{isFree}
 use Rattle.free_vars.specs.FreeMemo.{pairsBind}
 use Rattle.term_names.specs.Names.{bucketOf, mayBeFree, freeIn, Listed}
-use Rattle.term_names.specs.NamesWalk.{freeAmong, Within, Means, Right, Grown, Walked}
+use Rattle.term_names.specs.NamesWalk.{freeAmong, freeUnder, Exactly, Means, Right, Grown, Walked}
 use Rattle.term_names.specs.declared.Below.{Below}
 use Rattle.term_names.specs.declared.Below.the-variants.{Nothing, Variable, Body, Run}
-use Rattle.free_vars.proofs.Laws.{zeros, any-none, any-is, below-is, below-not, look-low, look-application, look-operator, look-bound, look-late, look-body}
+use Rattle.free_vars.proofs.Laws.{zeros, any-none, any-is, below-is, below-not, look-low, look-self, look-application, look-operator, look-bound, look-late, look-body}
 
 clash : {C : Type 0} → false ≡ true → C
 clash e = absurd (let z : _≡_ {A = ℕ} 0 1 = cc in omega arith)
@@ -66,49 +66,53 @@ module _ (values : List ℕ) (v a s at : ℕ) (name : a ≡ getD values (v + 2) 
 
 pub ruleset marks = (mark-here, mark-past)
 
--- ---- what the walk finds at t
+-- ---- where the free variables of the term at t are
 module _ (tags values : List ℕ) (t tag : ℕ) (k : tag ≡ getD tags t 0) where
   -- a term that is no variable is none of the variables
   other : (tag ≡ 21 → ⊥) → (v : ℕ) → getD tags v 0 ≡ 21 → t ≡ v → ⊥
   other n v e o = n (k ∙ ap (λ (u : ℕ). getD tags u 0) o ∙ e)
 
-  pub find-nothing : tag < 21 → Within tags values t (λ v. false)
+  pub find-nothing : tag < 21 → Exactly tags values t (λ v. false)
   unfolding freeIn
-  find-nothing h = record { at = λ v e f. look-low tags values v t (other (λ q. omega arith) v e) tag k (omega arith) ∙ f }
+  find-nothing h = record { at = λ v e. sym (look-low tags values v t (other (λ q. omega arith) v e) tag k (omega arith)) }
 
-  pub find-variable : tag < 22 → Within tags values t (λ v. eqb v t)
+  pub find-variable : 21 ≤ tag → tag < 22 → (getD tags t 0 ≡ 21) × Exactly tags values t (λ v. eqb v t)
   unfolding freeIn
-  find-variable h = record {
-    at = λ v e f. by-test (eqb v t) (λ o. o)
-        (λ o. clash (look-low tags values v t (λ q. eqb-false v t o (sym q)) tag k h ∙ f));
-  }
+  find-variable l h = (
+    sym k ∙ omega arith,
+    record {
+      at = λ v e. by-test (eqb v t)
+          (λ o. rw o (sym (look-self tags values v t (sym (eqb-true v t o)))))
+          (λ o. rw o (sym (look-low tags values v t (λ q. eqb-false v t o (sym q)) tag k h)));
+    },
+  )
 
-  pub find-application : 22 ≤ tag → tag < 23 → Within tags values t (freeAmong tags values t (operandsOf tags values t))
+  pub find-application : 22 ≤ tag → tag < 23 → Exactly tags values t (freeAmong tags values t (operandsOf tags values t))
   unfolding freeIn freeAmong
-  find-application l h = record { at = λ v e f. look-application tags values v t (other (λ q. omega arith) v e) tag k l h ∙ f }
+  find-application l h = record { at = λ v e. sym (look-application tags values v t (other (λ q. omega arith) v e) tag k l h) }
 
-  pub find-operator : 28 ≤ tag → Within tags values t (freeAmong tags values t (operandsOf tags values t))
+  pub find-operator : 28 ≤ tag → Exactly tags values t (freeAmong tags values t (operandsOf tags values t))
   unfolding freeIn freeAmong
-  find-operator h = record { at = λ v e f. look-operator tags values v t (other (λ q. omega arith) v e) tag k h ∙ f }
+  find-operator h = record { at = λ v e. sym (look-operator tags values v t (other (λ q. omega arith) v e) tag k h) }
 
   module _ (l : 23 ≤ tag) (h : tag < 28) (run : List ℕ) (o : run ≡ operandsOf tags values t) (body : ℕ) (a : body ≡ getD run 0 0) where
-    -- what is free under the binder is free in its body
-    under : (test : ℕ → Bool)
-        → ((v : ℕ) → (t ≡ v → ⊥) → pairsBind values (eqb tag 27) v run ≡ false → isFree tags values v t ≡ true → test v ≡ true)
-        → Within tags values t test
+    pub find-late : t ≤ body → Exactly tags values t (λ v. false)
     unfolding freeIn
-    under test free = record {
-      at = λ v e f. by-test (pairsBind values (eqb tag 27) v run)
-          (λ p. clash (look-bound tags values v t (other (λ q. omega arith) v e) tag k l h run o _ refl p ∙ f))
-          (λ p. free v (other (λ q. omega arith) v e) p f);
+    find-late g = record {
+      at = λ v e. let n = other (λ q. omega arith) v e in
+          by-test (pairsBind values (eqb tag 27) v run)
+          (λ p. sym (look-bound tags values v t n tag k l h run o _ refl p))
+          (λ p. sym (look-late tags values v t n tag k l h run o _ refl p body a g));
     }
 
-    pub find-late : t ≤ body → Within tags values t (λ v. false)
-    find-late g = under _ (λ v n p f. look-late tags values v t n tag k l h run o _ refl p body a g ∙ f)
-
-    pub find-body : body < t → Within tags values t (freeIn tags values body)
-    unfolding freeIn
-    find-body g = under _ (λ v n p f. look-body tags values v t n tag k l h run o _ refl p body a g ∙ f)
+    pub find-body : body < t → Exactly tags values t (freeUnder tags values t body)
+    unfolding freeIn freeUnder
+    find-body g = record {
+      at = λ v e. let n = other (λ q. omega arith) v e in
+          by-test (pairsBind values (eqb tag 27) v run)
+          (λ p. rw (← k, ← o, p) (sym (look-bound tags values v t n tag k l h run o _ refl p)))
+          (λ p. rw (← k, ← o, p) (sym (look-body tags values v t n tag k l h run o _ refl p body a g)));
+    }
 
 pub ruleset finds = (find-nothing, find-variable, find-application, find-operator, find-late, find-body)
 
@@ -141,14 +145,23 @@ module _ (names names′ : List ℕ) (g : Grown names names′) where
   right-grown tags values seen r = record { at = λ u e. listed-grown tags values _ (r .at u e) }
 
 -- ---- the walk at t
+-- a variable that is free under pairs is free in the body
+under-listed : (tags values : List ℕ) (t u : ℕ) (names : List ℕ) → Listed tags values names (freeIn tags values u) → Listed tags values names (freeUnder tags values t u)
+unfolding freeUnder
+under-listed tags values t u names l = record {
+  at = λ v e f. by-test (pairsBind values (eqb (getD tags t 0) 27) v (operandsOf tags values t))
+      (λ p. clash (rw p at f))
+      (λ p. l .at v e (rw p at f));
+}
+
 module _ (tags values : List ℕ) (t : ℕ) where
   pub walk-seen : (seen names : List ℕ) → Right tags values seen names → (m : ℕ) → m ≡ getD seen t 0 → m ≡ 1 → Walked tags values names seen names (freeIn tags values t)
   walk-seen seen names r m is e = record { grown = same-grown names; right = r; listed = r .at t (sym is ∙ e) }
 
   -- the variables that are free at t are in the table, and t is noted
-  module _ (test : ℕ → Bool) (w : Within tags values t test) (names seen names′ : List ℕ) (d : Walked tags values names seen names′ test) where
+  module _ (test : ℕ → Bool) (w : Exactly tags values t test) (names seen names′ : List ℕ) (d : Walked tags values names seen names′ test) where
     inside : Listed tags values names′ (freeIn tags values t)
-    inside = record { at = λ v e f. d .listed .at v e (w .at v e f) }
+    inside = record { at = λ v e f. d .listed .at v e (sym (w .at v e) ∙ f) }
 
     done : (seen′ : List ℕ) → seen′ ≡ set seen t 1 → Walked tags values names seen′ names′ (freeIn tags values t)
     done seen′ is = record {
@@ -175,7 +188,7 @@ module _ (tags values : List ℕ) (t : ℕ) where
       unfolding mayBeFree
       walk-variable e names′ is =
           let g : Grown names names′ = rw is (set-grown names _) in
-          done _ (rw e at m) names seen names′ (record {
+          done _ ((rw e at m) .1) names seen names′ (record {
             grown = g;
             right = right-grown names names′ g tags values seen r;
             listed = record { at = λ v q f. rw (is, eqb-true v t f) (set-one names _) };
@@ -184,7 +197,7 @@ module _ (tags values : List ℕ) (t : ℕ) where
     module _ (names seen names′ : List ℕ) where
       pub walk-body : (u : TermPlace) → s ≡ Body u → Walked tags values names seen names′ (freeIn tags values (u .0))
           → (seen′ : List ℕ) → seen′ ≡ set seen t 1 → Walked tags values names seen′ names′ (freeIn tags values t)
-      walk-body u e d = done _ ((rw e at m) .1) names seen names′ d
+      walk-body u e d = done _ ((rw e at m) .1) names seen names′ (record { grown = d .grown; right = d .right; listed = under-listed tags values t (u .0) names′ (d .listed) })
 
       pub walk-run : s ≡ Run → (run : List ℕ) → run ≡ operandsOf tags values t → Walked tags values names seen names′ (freeAmong tags values t run)
           → (seen′ : List ℕ) → seen′ ≡ set seen t 1 → Walked tags values names seen′ names′ (freeIn tags values t)

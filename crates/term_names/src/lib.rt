@@ -43,7 +43,7 @@ fn mark_name(values: &[u32], names: &mut [u8], v: TermPlace)
     }
 }
 
-// What the walk finds at a term: no name, a variable, or where the names below it are: the body, or the operand run.
+// Where a term's free variables are: nowhere, at the term itself, in the body under its pairs, or in the operand run.
 pub enum Below {
     Nothing,
     Variable,
@@ -51,8 +51,8 @@ pub enum Below {
     Run,
 }
 
-// What the walk finds at the term at t.
-fn look(tags: &[u32], values: &[u32], t: TermPlace) -> Below
+// Where the free variables of the term at t are.
+pub fn below_at(tags: &[u32], values: &[u32], t: TermPlace) -> Below
     ensures { λ r. ⌜ Means (now (tags .entry)) (now (values .entry)) (t .0) r ⌝ }
 {
     let at = t.0 as usize;
@@ -95,8 +95,8 @@ fn names_of_term(tags: &[u32], values: &[u32], seen: &mut [u8], names: &mut [u8]
     if noted_at(seen, at) == 1 {
         return;
     }
-    let below = look(tags, values, t);
-    match below {
+    let place = below_at(tags, values, t);
+    match place {
         Below::Nothing => note_names(seen, t),
         Below::Variable => {
             mark_name(values, names, t);

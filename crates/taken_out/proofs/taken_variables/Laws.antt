@@ -23,6 +23,8 @@ use Rattle.clause_totals.proofs.Reading.{before-at, before-tail, read-literal, 
 use Rattle.prenex_forall.proofs.Laws.{body-before}
 use Rattle.quantifiers.specs.Binding.{Binding, bindingsOf, same, has, firstOf, bindingFree}
 use Rattle.quantifiers.specs.BindingAnswer.{pair, nameOf}
+use Rattle.quantifiers.proofs.binding.Laws.{same-is}
+use Rattle.free_lists.specs.FreeLists.{isMissing}
 use Rattle.forms.specs.FormAnswer.{pairsOf}
 use Rattle.quantifiers.specs.declared.binding.FirstName.{FirstName}
 use Rattle.quantifiers.specs.declared.binding.FirstName.the-variants.{Name, Nothing}
@@ -32,22 +34,39 @@ use Rattle.taken_out.specs.declared.taken_variables.Step.{Step}
 use Rattle.taken_out.specs.declared.taken_variables.Step.the-variants as step
 use Rattle.taken_out.specs.TakenSearch.{isSought, Tabled, foundAt, foundIn, Means, Right, Answered, afterNote, Noted}
 
--- ---- whether a pair is sought
-module _ (tags values : List ℕ) (n : ℕ) (right : List Binding) (sought : Sought) (name sort : ℕ) where
-  pub sought-pair : (a s : ℕ) → sought ≡ Pair a s → (r : Bool) → r ≡ same (pair name sort) (pair a s) → r ≡ isSought tags values n right sought (pair name sort)
+-- ---- the first pair of a list that is sought
+first-same : (a s : ℕ) (l : List Binding) → has l (pair a s) ≡ true → nameOf (firstOf (λ b. same b (pair a s)) l) ≡ Name a
+unfolding firstOf nameOf has
+first-same a s [] e = absurd (let z : _≡_ {A = ℕ} 0 1 = cc in omega arith)
+first-same a s (b ∷ l) e =
+    by-test (same b (pair a s))
+    (λ o. rw o (ap (λ (q : Binding). Name (q .name)) (same-is b (pair a s) o)))
+    (λ o. rw o (first-same a s l (rw o at e)))
+
+first-other : (a : Binding) (l : List Binding) → has l a ≡ false → nameOf (firstOf (λ b. same b a) l) ≡ Nothing
+unfolding firstOf nameOf has
+first-other a [] e = refl
+first-other a (b ∷ l) e =
+    by-test (same b a)
+    (λ o. let z : true ≡ false = rw o at e in absurd (let y : _≡_ {A = ℕ} 0 1 = cc in omega arith))
+    (λ o. rw o (first-other a l (rw o at e)))
+
+module _ (tags values : List ℕ) (n : ℕ) (right : List Binding) (sought : Sought) (list : List Binding) where
+  module _ (a s : ℕ) (e : sought ≡ Pair a s) (h : Bool) (is : h ≡ has list (pair a s)) where
+    pub sought-here : h ≡ true → Name a ≡ nameOf (firstOf (isSought tags values n right sought) list)
+    unfolding isSought
+    sought-here y = rw e (sym (first-same a s list (sym is ∙ y)))
+
+    pub sought-nowhere : h ≡ false → Nothing ≡ nameOf (firstOf (isSought tags values n right sought) list)
+    unfolding isSought
+    sought-nowhere y = rw e (sym (first-other (pair a s) list (sym is ∙ y)))
+
+  pub sought-missing : (t : ℕ) → sought ≡ Missing t → (r : FirstName) → r ≡ nameOf (firstOf (isMissing tags values n t right) list)
+      → r ≡ nameOf (firstOf (isSought tags values n right sought) list)
   unfolding isSought
-  sought-pair a s e r is = rw e is
+  sought-missing t e r is = rw e is
 
-  module _ (t : ℕ) (e : sought ≡ Missing t) (h : Bool) (is : h ≡ has right (pair name sort)) where
-    pub sought-there : h ≡ true → false ≡ isSought tags values n right sought (pair name sort)
-    unfolding isSought
-    sought-there y = rw (e, ← is, y)
-
-    pub sought-free : h ≡ false → (r : Bool) → r ≡ bindingFree tags values n t (pair name sort) → r ≡ isSought tags values n right sought (pair name sort)
-    unfolding isSought
-    sought-free y r q = rw (e, ← is, y) q
-
-pub ruleset seeks = (sought-pair, sought-there, sought-free)
+pub ruleset seeks = (sought-here, sought-nowhere, sought-missing)
 
 -- the table that a search for a missing variable has
 pub tabled-missing : (tags values names : List ℕ) (sought : Sought) → Tabled tags values names sought → (t : ℕ) → sought ≡ Missing t

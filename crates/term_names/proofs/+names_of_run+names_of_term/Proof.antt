@@ -12,7 +12,7 @@ use Rattle.term_names.proofs.names_of_term.Reads as names-of-term
 use Rattle.term_names.proofs.names_of_term.Kinds as names-of-term-kinds
 use Rattle.term_names.proofs.+names_of_run+names_of_term.Lts-names_of_term as names-of-term-lts
 use Rattle.cells.proofs.run.operands.Reads as operands-reads
-use Rattle.term_names.proofs.look.Reads as look-reads
+use Rattle.term_names.proofs.below_at.Reads as below-at-reads
 use Rattle.term_names.proofs.mark_name.Reads as mark-name-reads
 use Rattle.term_names.proofs.note_names.Reads as note-names-reads
 use Rattle.free_vars.proofs.noted_at.Reads as noted-at-reads
@@ -106,7 +106,7 @@ names-of-run-returns-3 t c = search walks
 
 -- what the calls in `names-of-term` ask and tell, below the measure t
 abbrev names-of-term-calls : ℕ → names-of-term-lts.Claims
-names-of-term-calls t = (noted-at-reads.Asked, noted-at-reads.Learnt, look-reads.Asked, look-reads.Learnt, note-names-reads.Asked, note-names-reads.Learnt, mark-name-reads.Asked, mark-name-reads.Learnt, names-of-term-below t, names-of-term.Post, operands-reads.Asked, operands-reads.Learnt, names-of-run-below t, names-of-run.Post)
+names-of-term-calls t = (noted-at-reads.Asked, noted-at-reads.Learnt, below-at-reads.Asked, below-at-reads.Learnt, note-names-reads.Asked, note-names-reads.Learnt, mark-name-reads.Asked, mark-name-reads.Learnt, names-of-term-below t, names-of-term.Post, operands-reads.Asked, operands-reads.Learnt, names-of-run-below t, names-of-run.Post)
 
 names-of-term-cast-at : (t : ℕ) → names-of-term-lts.Need-cast-at (names-of-term-calls t) (names-of-term-at t) names-of-term.Post
 names-of-term-cast-at t c = search needs
@@ -120,8 +120,8 @@ names-of-term-same-length t c = search needs
 names-of-term-returns : (t : ℕ) → names-of-term-lts.Need-returns (names-of-term-calls t) (names-of-term-at t) names-of-term.Post
 names-of-term-returns t c = search walks
 
-names-of-term-look-requires : (t : ℕ) → names-of-term-lts.Need-look-requires (names-of-term-calls t) (names-of-term-at t) names-of-term.Post
-names-of-term-look-requires t c κs = search needs
+names-of-term-below-at-requires : (t : ℕ) → names-of-term-lts.Need-below-at-requires (names-of-term-calls t) (names-of-term-at t) names-of-term.Post
+names-of-term-below-at-requires t c κs = search needs
 
 names-of-term-enum-told : (t : ℕ) → names-of-term-lts.Need-enum-told (names-of-term-calls t) (names-of-term-at t) names-of-term.Post
 names-of-term-enum-told t c = search needs
@@ -138,12 +138,12 @@ names-of-term-mark-name-requires t c κs = search needs
 names-of-term-note-names-requires-2 : (t : ℕ) → names-of-term-lts.Need-note-names-requires-2 (names-of-term-calls t) (names-of-term-at t) names-of-term.Post
 names-of-term-note-names-requires-2 t c κs = search needs
 
-names-of-term-enum-known-below : (t : ℕ) → names-of-term-lts.Need-enum-known-below (names-of-term-calls t) (names-of-term-at t) names-of-term.Post
-names-of-term-enum-known-below t c = search needs
+names-of-term-enum-known-place : (t : ℕ) → names-of-term-lts.Need-enum-known-place (names-of-term-calls t) (names-of-term-at t) names-of-term.Post
+names-of-term-enum-known-place t c = search needs
 
 names-of-term-names-of-term-requires : (t : ℕ) → names-of-term-lts.Need-names-of-term-requires (names-of-term-calls t) (names-of-term-at t) names-of-term.Post
 names-of-term-names-of-term-requires t c κs =
-    let h = body-below _ _ _ _ (c .before .before .before .before .before .look .ensures) _ (c .before .before .before .below .given .1) in
+    let h = body-below _ _ _ _ (c .before .before .before .before .before .below-at .ensures) _ (c .before .before .before .place .given .1) in
     (omega arith, search needs)
 
 names-of-term-note-names-requires-3 : (t : ℕ) → names-of-term-lts.Need-note-names-requires-3 (names-of-term-calls t) (names-of-term-at t) names-of-term.Post
@@ -195,7 +195,7 @@ names-of-term-returns-5 : (t : ℕ) → names-of-term-lts.Need-returns-5 (names-
 names-of-term-returns-5 t c =
     let at-run = c .before .before .before .before .before .before .before .before in
     let at-told = at-run .before .before .before .before in
-    walk-run _ _ _ _ (at-told .before .before .look .ensures) _ _ _ (at-told .enum-told3 .given .1) _ (at-run .before .operands .ensures) (at-run .names-of-run .ensures) _ (c .before .before .note-names4 .ensures)
+    walk-run _ _ _ _ (at-told .before .before .below-at .ensures) _ _ _ (at-told .enum-told3 .given .1) _ (at-run .before .operands .ensures) (at-run .names-of-run .ensures) _ (c .before .before .note-names4 .ensures)
 
 pub +names-of-run+names-of-term-spec : {M : Type 1} → statement M
 +names-of-run+names-of-term-spec =
@@ -227,8 +227,8 @@ pub +names-of-run+names-of-term-spec : {M : Type 1} → statement M
     λ t. names-of-term-lts.spec (
       noted-at-reads.Asked,
       noted-at-reads.Learnt,
-      look-reads.Asked,
-      look-reads.Learnt,
+      below-at-reads.Asked,
+      below-at-reads.Learnt,
       note-names-reads.Asked,
       note-names-reads.Learnt,
       mark-name-reads.Asked,
@@ -246,13 +246,13 @@ pub +names-of-run+names-of-term-spec : {M : Type 1} → statement M
     (names-of-term-noted-at-requires t)
     (names-of-term-same-length t)
     (names-of-term-returns t)
-    (names-of-term-look-requires t)
+    (names-of-term-below-at-requires t)
     (names-of-term-enum-told t)
     (names-of-term-note-names-requires t)
     (names-of-term-enum-told-2 t)
     (names-of-term-mark-name-requires t)
     (names-of-term-note-names-requires-2 t)
-    (names-of-term-enum-known-below t)
+    (names-of-term-enum-known-place t)
     (names-of-term-names-of-term-requires t)
     (names-of-term-note-names-requires-3 t)
     (names-of-term-enum-told-3 t)

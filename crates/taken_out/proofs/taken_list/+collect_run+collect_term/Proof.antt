@@ -15,7 +15,7 @@ use Rattle.taken_out.proofs.taken_list.+collect_run+collect_term.Lts-co
 use Rattle.cells.proofs.run.operands.Reads as operands-reads
 use Rattle.taken_out.proofs.taken_list.note_taken.Reads as note-taken-reads
 use Rattle.taken_out.proofs.taken_list.put_pairs.Reads as put-pairs-reads
-use Rattle.taken_out.proofs.taken_variables.seen_at.Reads as seen-at-reads
+use Rattle.free_vars.proofs.noted_at.Reads as noted-at-reads
 use Rattle.formulas.proofs.view.normal_view.Reads as normal-view-reads
 use Rattle.forms.proofs.bindings.Reads as bindings-reads
 use Rattle.taken_out.proofs.taken_list.+collect_run+collect_term.{statement}
@@ -113,10 +113,10 @@ collect-run-returns-3 t c = search walks
 
 -- what the calls in `collect-term` ask and tell, below the measure t
 abbrev collect-term-calls : ℕ → collect-term-lts.Claims
-collect-term-calls t = (seen-at-reads.Asked, seen-at-reads.Learnt, normal-view-reads.Asked, normal-view-reads.Learnt, operands-reads.Asked, operands-reads.Learnt, collect-run-below t, collect-run.Post, note-taken-reads.Asked, note-taken-reads.Learnt, bindings-reads.Asked, bindings-reads.Learnt, put-pairs-reads.Asked, put-pairs-reads.Learnt, collect-term-below t, collect-term.Post)
+collect-term-calls t = (noted-at-reads.Asked, noted-at-reads.Learnt, normal-view-reads.Asked, normal-view-reads.Learnt, operands-reads.Asked, operands-reads.Learnt, collect-run-below t, collect-run.Post, note-taken-reads.Asked, note-taken-reads.Learnt, bindings-reads.Asked, bindings-reads.Learnt, put-pairs-reads.Asked, put-pairs-reads.Learnt, collect-term-below t, collect-term.Post)
 
-collect-term-seen-at-requires : (t : ℕ) → collect-term-lts.Need-seen-at-requires (collect-term-calls t) (collect-term-at t) collect-term.Post
-collect-term-seen-at-requires t c κs = search needs
+collect-term-noted-at-requires : (t : ℕ) → collect-term-lts.Need-noted-at-requires (collect-term-calls t) (collect-term-at t) collect-term.Post
+collect-term-noted-at-requires t c κs = search needs
 
 collect-term-same-length : (t : ℕ) → collect-term-lts.Need-same-length (collect-term-calls t) (collect-term-at t) collect-term.Post
 collect-term-same-length t c = search needs
@@ -233,8 +233,8 @@ pub +collect-run+collect-term-spec : {M : Type 1} → statement M
     (collect-run-same-length-4 t)
     (collect-run-returns-3 t))
     λ t. collect-term-lts.spec (
-      seen-at-reads.Asked,
-      seen-at-reads.Learnt,
+      noted-at-reads.Asked,
+      noted-at-reads.Learnt,
       normal-view-reads.Asked,
       normal-view-reads.Learnt,
       operands-reads.Asked,
@@ -252,7 +252,7 @@ pub +collect-run+collect-term-spec : {M : Type 1} → statement M
     )
     (collect-term-at t)
     collect-term.Post
-    (collect-term-seen-at-requires t)
+    (collect-term-noted-at-requires t)
     (collect-term-same-length t)
     (collect-term-returns t)
     (collect-term-normal-view-requires t)
