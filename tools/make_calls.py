@@ -12,13 +12,14 @@ import cases_clausification
 import cases_examples
 import cases_files
 import cases_free
+import cases_long_lists
 import cases_miniscope
 import cases_normal
 import cases_rules
 import cases_sorts
 from reference_program import is_tried, run
 
-CASES = (cases_files, cases_checks, cases_sorts, cases_free, cases_normal, cases_clauses, cases_rules, cases_miniscope,
+CASES = (cases_files, cases_checks, cases_sorts, cases_free, cases_normal, cases_clauses, cases_rules, cases_miniscope, cases_long_lists,
          cases_clausification, cases_examples)
 CRATE = pathlib.Path(__file__).resolve().parent.parent / 'crates' / 'calls'
 MISSING = 'no-such-file.call'
