@@ -6,7 +6,7 @@
 -- Assumes nothing.
 use Prim.Native.Nat.{ℕ, zero, suc, _+_, _-_, _*_, _^_, _≤_, _<_}
 use mathlib.Core.Path.{_≡_, refl, sym, ap, subst, _∙_}
-use mathlib.Core.Bool.{Bool, true, false, cond, _&&_}
+use mathlib.Core.Bool.{Bool, true, false, cond}
 use mathlib.Core.List.{List, [], _∷_}
 use lib.ListN.{length, getD, take, drop, replicate, length-drop, List·getD-eq-default}
 use lib.Seq.{drop-cons, take-all}
@@ -14,11 +14,11 @@ use lib.Dec.{ltb, leb, eqb}
 use native.Mathlib.Omega.{arith}
 use borrow.Author.Tests.{ltb-true, leb-true, leb-false, lt-ltb}
 use Rattle.cells.specs.Cell.{operandsOf}
-use Rattle.cells.specs.ByPlace.{by-test, byPlace, byPlace-is}
+use Rattle.cells.specs.ByPlace.{by-test, byPlace-is}
 use Rattle.formulas.specs.declared.view.NormalView.{NormalView}
 use Rattle.formulas.specs.declared.view.NormalView.the-variants.{Literal, Connective, Forall}
 use Rattle.formulas.specs.Formula.{allBefore}
-use Rattle.formulas.specs.Normal.{Normal, Normals, lit, nmany, nall, nnil, ncons}
+use Rattle.formulas.specs.Normal.{Normal, lit, nmany, nall}
 use Rattle.formulas.specs.Built.{normalView, normalsOf, normalBy, normalAt}
 use Rattle.clause_totals.specs.ClauseWalk.{formAt}
 

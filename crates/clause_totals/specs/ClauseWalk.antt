@@ -3,7 +3,7 @@
 -- Rests on pool's Cell, on Formula, Built, Clauses and Totals, on the enum `NormalView`, and on the struct `Totals` of the code.
 use Prim.Native.Nat.{ℕ, _+_, _-_, _≤_, _<_}
 use mathlib.Core.Path.{_≡_}
-use mathlib.Core.Bool.{Bool, true, false, cond}
+use mathlib.Core.Bool.{Bool, true, false}
 use mathlib.Core.List.{List, [], _∷_}
 use lib.ListN.{length, getD, set}
 use Rattle.cells.specs.Cell.{operandsOf}
@@ -27,11 +27,6 @@ pub record NoneReached (tags values memo : List ℕ) : Type 0 where
 pub record Reached (tags values memo : List ℕ) (r defined : Bool) : Type 0 where
   pub is : r ≡ defined
   pub right : NoneReached tags values memo
-
--- noting the answer s for x hands it back as r, and adds a no to the memo; past the memo's end nothing is added
-pub record Noted (memo : List ℕ) (x : ℕ) (s : Bool) (after : List ℕ) (r : Bool) : Type 0 where
-  pub same : r ≡ s
-  pub kept : after ≡ cond s memo (set memo x 1)
 
 -- ---- totals, cut at 8,193
 abbrev pub asTotals : code.Totals → Totals

@@ -2,59 +2,38 @@
 // so that each term that x reaches is visited once however terms are shared. A place past the memo's end is walked anew.
 use formulas::view::NormalView;
 use formulas::view::normal_view;
+use marks::mark_at;
+use marks::note_no;
 use pool::TermPlace;
 use pool::run::operands;
 ghost use Prim.Native.Nat.{_≤_};
 ghost use mathlib.Core.Path.{_≡_};
 ghost use mathlib.Core.Bool.{true};
-ghost use lib.ListN.{length, getD};
+ghost use lib.ListN.{length};
 ghost use Rattle.formulas.specs.Formula.{allBefore};
 ghost use Rattle.formulas.specs.Clauses.{emptyOr, emptyOrs};
 ghost use Rattle.formulas.specs.Built.{normalsOf};
-ghost use Rattle.clause_totals.specs.ClauseWalk.{formAt, NoneReached, Reached, Noted};
-
-// The memo's entry for the place u, and 0 past its end.
-fn noted_at(memo: &[u8], u: u32) -> u8
-    ensures { λ r. ⌜ r ≡ getD (now (memo .entry)) u 0 ⌝ }
-{
-    let at = u as usize;
-    if at < memo.len() { memo[at] } else { 0 }
-}
-
-// Notes the answer s for the term at x, and hands it back. A yes ends the whole walk, so that only a no is noted.
-fn note(memo: &mut [u8], x: TermPlace, s: bool) -> bool
-    ensures { λ r. ⌜ Noted (now (memo .entry)) (x .0) s (now (memo .exit)) r ⌝ }
-{
-    let at = x.0 as usize;
-    if s {
-        return true;
-    }
-    if at < memo.len() {
-        memo[at] = 1;
-        return false;
-    }
-    false
-}
+ghost use Rattle.clause_totals.specs.ClauseWalk.{formAt, NoneReached, Reached};
 
 // Whether an empty `or` is reached from the term at x: the term walker.
 fn from_term(tags: &[u32], values: &[u32], memo: &mut [u8], x: TermPlace) -> bool
     requires { ⌜ NoneReached (now tags) (now values) (now memo) ⌝ }
     ensures { λ r. ⌜ Reached (now (tags .entry)) (now (values .entry)) (now (memo .exit)) r (emptyOr (formAt (now (tags .entry)) (now (values .entry)) (x .0))) ⌝ }
 {
-    if noted_at(memo, x.0) == 1 {
+    if mark_at(memo, x.0) == 1 {
         return false;
     }
     let view = normal_view(tags, values, x);
     match view {
-        NormalView::Literal => note(memo, x, false),
-        NormalView::Forall(_) => note(memo, x, false),
+        NormalView::Literal => note_no(memo, x.0, false),
+        NormalView::Forall(_) => note_no(memo, x.0, false),
         NormalView::Connective(all) => {
             let run = operands(tags, values, x);
             if run.len() == 0 {
                 return !all;
             }
             let s = from_run(tags, values, memo, x, run);
-            note(memo, x, s)
+            note_no(memo, x.0, s)
         }
     }
 }

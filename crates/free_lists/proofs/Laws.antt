@@ -22,7 +22,7 @@ use Rattle.quantifiers.specs.declared.binding.FirstName.{FirstName}
 use Rattle.quantifiers.specs.declared.binding.FirstName.the-variants.{Name, Nothing}
 use Rattle.quantifiers.proofs.binding.Laws.{pairs-end, pairs-next, first-next}
 use Rattle.free_masks.specs.Mask.{maskOf}
-use Rattle.free_masks.proofs.Variables.{Variable, stands}
+use Rattle.free_masks.proofs.Variables.{stands}
 use Rattle.free_lists.specs.FreeLists.{isMissing, isMarked, firstMarked}
 
 -- ---- a marked pair

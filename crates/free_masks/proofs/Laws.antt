@@ -19,7 +19,8 @@ use Rattle.cells.specs.declared.Found.the-variants as found
 use Rattle.descriptions.specs.Description.{find}
 use Rattle.free_vars.specs.Free.{pairIn, anyOf, isFree}
 use Rattle.free_vars.specs.FreeMemo.{pairSort, pairsBind, freeBelow}
-use Rattle.free_vars.proofs.Laws.{zeros, any-none, any-first, look-self, look-low}
+use Rattle.marks.proofs.Laws.{zeros}
+use Rattle.free_vars.proofs.Laws.{any-none, any-first, look-self, look-low}
 use Rattle.term_names.specs.Names.{freeIn}
 use Rattle.term_names.specs.NamesWalk.{freeAmong, freeUnder, Exactly, Means}
 use Rattle.term_names.specs.declared.Below.{Below}

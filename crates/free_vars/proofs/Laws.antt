@@ -4,16 +4,18 @@ use Prim.Native.Nat.{ℕ, zero, suc, _+_, _-_, _≤_, _<_}
 use mathlib.Core.Path.{_≡_, refl, sym, ap, fun-ext, _∙_}
 use mathlib.Core.Bool.{Bool, true, false, cond, _||_}
 use mathlib.Core.List.{List, [], _∷_}
-use lib.ListN.{length, getD, take, drop, set, replicate, length-set, length-drop, length-replicate, getD-replicate, drop-of-length-le}
-use lib.Seq.{drop-cons, take-all, getD-set-same, getD-set-other, set-out, ext-getD}
+use lib.ListN.{length, getD, take, drop, set, replicate, length-drop, drop-of-length-le}
+use lib.Seq.{drop-cons, take-all, getD-set-other}
 use lib.Dec.{ltb, eqb}
 use native.Mathlib.Omega.{arith}
-use native.Mathlib.Numerals.{add-one, lt-of-le-of-ne}
+use native.Mathlib.Numerals.{add-one}
 use borrow.Author.Tests.{lt-ltb, le-ltb, eq-eqb, ne-eqb, eqb-true, eqb-false, ltb-true, ltb-false}
 use Rattle.cells.specs.Cell.{sortOf, operandsOf}
 use Rattle.cells.specs.ByPlace.{by-test, downTo, byPlace, byPlace-is}
+use Rattle.marks.specs.Marks.{Noted}
+use Rattle.marks.proofs.Laws.{zeros, Filled, fill-start, fill-next, fill-end}
 use Rattle.free_vars.specs.Free.{pairIn, boundBy, letBinds, anyOf, underPairs, freeStep, isFree, markOf, Marked}
-use Rattle.free_vars.specs.FreeMemo.{pairSort, isPair, pairsBind, freeBelow, Means, Right, Answered, Noted}
+use Rattle.free_vars.specs.FreeMemo.{pairSort, isPair, pairsBind, freeBelow, Means, Right, Answered}
 use Rattle.cells.specs.declared.TermPlace.{TermPlace}
 use Rattle.free_vars.specs.declared.Step.{Step}
 use Rattle.free_vars.specs.declared.Step.the-variants.{Yes, No, Body, Run}
@@ -125,20 +127,6 @@ module _ (tags values : List ℕ) (v t : ℕ) where
 
 pub ruleset looks = (look-noted, look-self, look-low, look-application, look-operator, look-bound, look-late, look-body)
 
--- ---- noting an answer; past the end of the memo nothing is set
-module _ (memo : List ℕ) (t : ℕ) (s : Bool) where
-  pub note-yes : s ≡ true → Noted memo t s memo true
-  note-yes e = record { same = sym e; kept = rw e }
-
-  module _ (e : s ≡ false) where
-    pub note-no : Noted memo t s (set memo t 1) false
-    note-no = record { same = sym e; kept = rw e }
-
-    pub note-past : length memo ≤ t → Noted memo t s memo false
-    note-past h = record { same = sym e; kept = rw (e, set-out memo t 1 h) }
-
-pub ruleset notes = (note-yes, note-no, note-past)
-
 -- ---- the answer at t, from the step r at t
 module _ (tags values : List ℕ) (v t : ℕ) (r : Step) (m : Means tags values v t r) where
   module _ (memo : List ℕ) (right : Right tags values v memo) where
@@ -212,11 +200,6 @@ module _ (tags values : List ℕ) (v t : ℕ) (run : List ℕ) where
 pub ruleset walks = (step-yes, step-no, step-body, step-run, noted, run-end, run-skip, run-found, run-on)
 
 -- ---- a fresh memo
-pub zeros : (k u : ℕ) → getD {A = ℕ} (replicate k 0) u 0 ≡ 0
-zeros zero u = refl
-zeros (suc k) zero = refl
-zeros (suc k) (suc u) = zeros k u
-
 pub fresh : (tags values : List ℕ) (v k : ℕ) → Right tags values v (replicate k 0)
 fresh tags values v k = record { at = λ u e. absurd (omega (arith, zeros k u)) }
 
@@ -273,33 +256,8 @@ module _ (tags values : List ℕ) (n t v : ℕ) where
 
 pub ruleset mark = (mark-past, mark-other, mark-later, mark-yes, mark-no)
 
--- ---- a loop that fills an array of k elements: the element u is f u, for each u before i
-pub record Filled (f : ℕ → ℕ) (k : ℕ) (l : List ℕ) (i : ℕ) : Type 0 where
-  pub size : length l ≡ k
-  pub before : (u : ℕ) → u < i → getD l u 0 ≡ f u
-
-module _ (f : ℕ → ℕ) (k : ℕ) (l : List ℕ) where
-  pub fill-start : length l ≡ k → Filled f k l 0
-  fill-start e = record { size = e; before = λ u h. absurd (omega arith) }
-
-  module _ (i : ℕ) (m : Filled f k l i) where
-    pub fill-next : i < length l → (x : ℕ) → x ≡ f i → Filled f k (set l i x) (i + 1)
-    fill-next h x e = record {
-      size = length-set l i x ∙ m .size;
-      before = λ u b. by-test (eqb u i)
-          (λ q. rw (eqb-true u i q) (getD-set-same l i x 0 h ∙ e))
-          (λ q. getD-set-other l i u x 0 (eqb-false u i q) ∙ m .before u (lt-of-le-of-ne (omega arith) (eqb-false u i q)));
-    }
-
-    pub fill-end : length l ≤ i → (u : ℕ) → u < k → getD l u 0 ≡ f u
-    fill-end h u b = m .before u (omega (arith, m .size))
-
+-- ---- the marks of a whole array
 pub marked : (tags values : List ℕ) (n t k : ℕ) (l : List ℕ) (i : ℕ) → Filled (markOf tags values n t) k l i → length l ≤ i → Marked tags values n t k l
 marked tags values n t k l i m h = record { size = m .size; at = fill-end _ k l i m h }
 
-pub cleared : (k : ℕ) (l : List ℕ) (i : ℕ) → Filled (λ u. 0) k l i → length l ≤ i → l ≡ replicate k 0
-cleared k l i m h =
-    ext-getD 0 l (replicate k 0) (m .size ∙ sym (length-replicate k 0))
-    (λ u b. fill-end _ k l i m h u (omega (arith, m .size)) ∙ sym (getD-replicate k u 0 0 (omega (arith, m .size))))
-
-pub ruleset fills = (fill-start, fill-next, marked, cleared)
+pub ruleset fills = (fill-start, fill-next, marked)

@@ -4,7 +4,7 @@ use Prim.Native.Nat.{ℕ, _+_, _<_}
 use mathlib.Core.Path.{_≡_}
 use mathlib.Core.Bool.{Bool, true, false, cond, _&&_}
 use mathlib.Core.List.{List}
-use lib.ListN.{getD, drop, set}
+use lib.ListN.{getD, drop}
 use lib.Dec.{ltb, eqb}
 use Rattle.cells.specs.Cell.{sortOf, operandsOf}
 use Rattle.free_vars.specs.Free.{pairIn, anyOf, isFree}
@@ -42,8 +42,3 @@ pub record Right (tags values : List ℕ) (v : ℕ) (memo : List ℕ) : Type 0 w
 pub record Answered (tags values : List ℕ) (v : ℕ) (memo : List ℕ) (s defined : Bool) : Type 0 where
   pub is : s ≡ defined
   pub right : Right tags values v memo
-
--- noting the answer s for t hands it back as r, and adds a no to the memo; past the memo's end nothing is added
-pub record Noted (memo : List ℕ) (t : ℕ) (s : Bool) (after : List ℕ) (r : Bool) : Type 0 where
-  pub same : r ≡ s
-  pub kept : after ≡ cond s memo (set memo t 1)

@@ -4,10 +4,12 @@ use cells::TermPlace;
 use cells::run::cell;
 use cells::run::operands;
 use cells::run::sort_of;
+use marks::mark_at;
+use marks::note_no;
 ghost use mathlib.Core.Path.{_≡_};
-ghost use lib.ListN.{length, getD, drop, replicate};
+ghost use lib.ListN.{length, drop};
 ghost use Rattle.free_vars.specs.Free.{pairIn, anyOf, isFree, markOf, Marked};
-ghost use Rattle.free_vars.specs.FreeMemo.{pairSort, isPair, pairsBind, freeBelow, Means, Right, Answered, Noted};
+ghost use Rattle.free_vars.specs.FreeMemo.{pairSort, isPair, pairsBind, freeBelow, Means, Right, Answered};
 
 // Whether the pair a, b is this name with this sort. A let's pair (`lets`) holds a value of that sort, a binder's the sort.
 fn is_pair(values: &[u32], lets: bool, name: u32, sort: u32, a: u32, b: u32) -> bool
@@ -61,20 +63,13 @@ pub enum Step {
     Run,
 }
 
-// The memo's entry for a place, and 0 past its end.
-pub fn noted_at(memo: &[u8], i: usize) -> u8
-    ensures { λ r. ⌜ r ≡ getD (now (memo .entry)) i 0 ⌝ }
-{
-    if i < memo.len() { memo[i] } else { 0 }
-}
-
 // What the walk finds at the term at t. The tests are those of the definition, in its order, after the memo.
 fn look(tags: &[u32], values: &[u32], memo: &[u8], v: TermPlace, t: TermPlace) -> Step
     requires { ⌜ Right (now tags) (now values) (v .0) (now memo) ⌝ }
     ensures { λ r. ⌜ Means (now (tags .entry)) (now (values .entry)) (v .0) (t .0) r ⌝ }
 {
     let at = t.0 as usize;
-    if noted_at(memo, at) == 1 {
+    if mark_at(memo, t.0) == 1 {
         return Step::No;
     }
     if t.0 == v.0 {
@@ -101,21 +96,6 @@ fn look(tags: &[u32], values: &[u32], memo: &[u8], v: TermPlace, t: TermPlace) -
     Step::Body(TermPlace(body))
 }
 
-// Notes the answer s for the term at t, and hands it back. A yes ends the whole walk, so that only a no is noted.
-fn note(memo: &mut [u8], t: TermPlace, s: bool) -> bool
-    ensures { λ r. ⌜ Noted (now (memo .entry)) (t .0) s (now (memo .exit)) r ⌝ }
-{
-    let at = t.0 as usize;
-    if s {
-        return true;
-    }
-    if at < memo.len() {
-        memo[at] = 1;
-        return false;
-    }
-    false
-}
-
 // Whether the variable at v is free in the term at t: the term walker.
 fn compute_free_vars(
     tags: &[u32],
@@ -130,14 +110,14 @@ fn compute_free_vars(
     let step = look(tags, values, memo, v, t);
     match step {
         Step::Yes => true,
-        Step::No => note(memo, t, false),
+        Step::No => note_no(memo, t.0, false),
         Step::Body(u) => {
             let s = compute_free_vars(tags, values, memo, v, u);
-            note(memo, t, s)
+            note_no(memo, t.0, s)
         }
         Step::Run => {
             let s = run_free_vars(tags, values, memo, v, t, operands(tags, values, t));
-            note(memo, t, s)
+            note_no(memo, t.0, s)
         }
     }
 }
@@ -203,16 +183,5 @@ pub fn mark_free_vars(tags: &[u32], values: &[u32], n: usize, t: TermPlace, mark
     while v < marks.len() {
         marks[v] = mark_of(tags, values, n, t, v);
         v += 1;
-    }
-}
-
-// Sets every mark to 0.
-pub fn clear_marks(marks: &mut [u8])
-    ensures { λ _. ⌜ now (marks .exit) ≡ replicate (length (now (marks .entry))) 0 ⌝ }
-{
-    let mut i: usize = 0;
-    while i < marks.len() {
-        marks[i] = 0;
-        i += 1;
     }
 }

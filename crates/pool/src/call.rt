@@ -2,9 +2,9 @@
 use answers::Answer;
 use cells::TermPlace;
 use cells::run::sort_of;
-use free_vars::clear_marks;
 use free_vars::mark_free_vars;
 use headers::well_formed::is_term;
+use marks::clear_marks;
 pub use pool_checks::check_pool_by;
 pub use pool_checks::check_term_by;
 use pool_checks::index_pool_by;

@@ -5,7 +5,8 @@ use crate::taken_variables::first_unbound_by_walks;
 use forms::bindings;
 use formulas::view::NormalView;
 use formulas::view::normal_view;
-use free_vars::noted_at;
+use marks::mark_at;
+use marks::set_mark;
 use pool::TermPlace;
 use pool::run::operands;
 use quantifiers::binding::FirstName;
@@ -47,16 +48,6 @@ fn put_pairs(cells: &mut [u32], k: usize, list: &[u32]) -> Collected
     Collected::From(j)
 }
 
-// Notes that the variables taken out of the term at x are collected.
-fn note_taken(seen: &mut [u8], x: u32)
-    ensures { λ _. ⌜ now (seen .exit) ≡ set (now (seen .entry)) x 1 ⌝ }
-{
-    let at = x as usize;
-    if at < seen.len() {
-        seen[at] = 1;
-    }
-}
-
 // Collects the variables that are taken out of the term at x: the term walker.
 fn collect_term(
     tags: &[u32],
@@ -69,8 +60,7 @@ fn collect_term(
     requires { ⌜ Right (now tags) (now values) (now seen) (pairsFrom (now cells) k) × (k ≤ length (now cells)) ⌝ }
     ensures { λ r. ⌜ Walked (now (tags .entry)) (now (values .entry)) (now (cells .entry)) k (now (seen .exit)) (now (cells .exit)) (takenAt (now (tags .entry)) (now (values .entry)) x) r ⌝ }
 {
-    let at = x as usize;
-    if noted_at(seen, at) == 1 {
+    if mark_at(seen, x) == 1 {
         return Collected::From(k);
     }
     let view = normal_view(tags, values, TermPlace(x));
@@ -79,7 +69,7 @@ fn collect_term(
         NormalView::Connective(_) => {
             let run = operands(tags, values, TermPlace(x));
             let r = collect_run(tags, values, seen, cells, k, x, run);
-            note_taken(seen, x);
+            set_mark(seen, x);
             r
         }
         NormalView::Forall(body) => {
@@ -88,7 +78,7 @@ fn collect_term(
                 return Collected::Full;
             };
             let r = collect_term(tags, values, seen, cells, j, body);
-            note_taken(seen, x);
+            set_mark(seen, x);
             r
         }
     }

@@ -5,7 +5,7 @@ use forms::bindings;
 use formulas::view::NormalView;
 use formulas::view::normal_view;
 use free_lists::first_missing_by;
-use free_vars::noted_at;
+use marks::mark_at;
 use pool::TermPlace;
 use pool::mark_names;
 use pool::run::operands;
@@ -73,8 +73,7 @@ fn look(
     requires { ⌜ Tabled (now tags) (now values) (now names) sought × Right (now tags) (now values) (isSought (now tags) (now values) n (bindingsOf (now right)) sought) (now seen) ⌝ }
     ensures { λ r. ⌜ Means (now (tags .entry)) (now (values .entry)) (isSought (now (tags .entry)) (now (values .entry)) n (bindingsOf (now (right .entry))) sought) x r ⌝ }
 {
-    let at = x as usize;
-    if noted_at(seen, at) == 1 {
+    if mark_at(seen, x) == 1 {
         return Step::Nothing;
     }
     let view = normal_view(tags, values, TermPlace(x));

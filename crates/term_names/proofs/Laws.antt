@@ -19,7 +19,8 @@ use Rattle.term_names.specs.Names.{bucketOf, mayBeFree, freeIn, Listed}
 use Rattle.term_names.specs.NamesWalk.{freeAmong, freeUnder, Exactly, Means, Right, Grown, Walked}
 use Rattle.term_names.specs.declared.Below.{Below}
 use Rattle.term_names.specs.declared.Below.the-variants.{Nothing, Variable, Body, Run}
-use Rattle.free_vars.proofs.Laws.{zeros, any-none, any-is, below-is, below-not, look-low, look-self, look-application, look-operator, look-bound, look-late, look-body}
+use Rattle.marks.proofs.Laws.{zeros}
+use Rattle.free_vars.proofs.Laws.{any-none, any-is, below-is, below-not, look-low, look-self, look-application, look-operator, look-bound, look-late, look-body}
 
 clash : {C : Type 0} → false ≡ true → C
 clash e = absurd (let z : _≡_ {A = ℕ} 0 1 = cc in omega arith)
@@ -46,17 +47,7 @@ module _ (names : List ℕ) (name sort at : ℕ) (is : at ≡ bucketOf name sort
 
 pub ruleset may = (may-past, may-here)
 
--- ---- an entry set to 1; past the end nothing is set
-module _ (l : List ℕ) (i at : ℕ) (is : at ≡ i) where
-  pub set-here : set l at 1 ≡ set l i 1
-  set-here = rw is
-
-  pub set-past : length l ≤ at → l ≡ set l i 1
-  set-past h = rw (← is, set-out l at 1 h)
-
-pub ruleset sets = (set-here, set-past)
-
--- a variable with this name and sort
+-- ---- a variable with this name and sort
 module _ (values : List ℕ) (v a s at : ℕ) (name : a ≡ getD values (v + 2) 0) (sort : s ≡ sortOf values v) (is : at ≡ bucketOf a s) (names : List ℕ) where
   pub mark-here : set names at 1 ≡ set names (bucketOf (getD values (v + 2) 0) (sortOf values v)) 1
   mark-here = rw (is, name, sort)

@@ -6,7 +6,8 @@ use cells::run::cell;
 use cells::run::operands;
 use cells::run::sort_of;
 use cells::run::wide;
-use free_vars::noted_at;
+use marks::mark_at;
+use marks::set_mark;
 ghost use mathlib.Core.Path.{_≡_};
 ghost use Prim.Native.Nat.{_+_};
 ghost use lib.ListN.{getD, set};
@@ -76,39 +77,28 @@ pub fn below_at(tags: &[u32], values: &[u32], t: TermPlace) -> Below
     Below::Body(TermPlace(body))
 }
 
-// Notes that the names of the term at t are in the table.
-fn note_names(seen: &mut [u8], t: TermPlace)
-    ensures { λ _. ⌜ now (seen .exit) ≡ set (now (seen .entry)) (t .0) 1 ⌝ }
-{
-    let at = t.0 as usize;
-    if at < seen.len() {
-        seen[at] = 1;
-    }
-}
-
 // Marks the names of the term at t: the term walker.
 fn names_of_term(tags: &[u32], values: &[u32], seen: &mut [u8], names: &mut [u8], t: TermPlace)
     requires { ⌜ Right (now tags) (now values) (now seen) (now names) ⌝ }
     ensures { λ _. ⌜ Walked (now (tags .entry)) (now (values .entry)) (now (names .entry)) (now (seen .exit)) (now (names .exit)) (freeIn (now (tags .entry)) (now (values .entry)) (t .0)) ⌝ }
 {
-    let at = t.0 as usize;
-    if noted_at(seen, at) == 1 {
+    if mark_at(seen, t.0) == 1 {
         return;
     }
     let place = below_at(tags, values, t);
     match place {
-        Below::Nothing => note_names(seen, t),
+        Below::Nothing => set_mark(seen, t.0),
         Below::Variable => {
             mark_name(values, names, t);
-            note_names(seen, t)
+            set_mark(seen, t.0)
         }
         Below::Body(u) => {
             names_of_term(tags, values, seen, names, u);
-            note_names(seen, t)
+            set_mark(seen, t.0)
         }
         Below::Run => {
             names_of_run(tags, values, seen, names, t, operands(tags, values, t));
-            note_names(seen, t)
+            set_mark(seen, t.0)
         }
     }
 }

@@ -1,11 +1,11 @@
 -- Laws of the walk for an empty `or` and of its memo, one for each way out of the code.
 -- Assumes nothing.
-use Prim.Native.Nat.{ℕ, _-_, _≤_}
+use Prim.Native.Nat.{ℕ, _-_}
 use mathlib.Core.Path.{_≡_, refl, sym, ap, _∙_}
 use mathlib.Core.Bool.{Bool, true, false, not, _||_}
 use mathlib.Core.List.{List, [], _∷_}
 use lib.ListN.{length, getD, take, drop, set, replicate}
-use lib.Seq.{getD-set-other, set-out}
+use lib.Seq.{getD-set-other}
 use lib.Dec.{eqb}
 use native.Mathlib.Omega.{arith}
 use borrow.Author.Tests.{eqb-true, eqb-false}
@@ -17,22 +17,9 @@ use Rattle.formulas.specs.Formula.{allBefore}
 use Rattle.formulas.specs.Normal.{Normal}
 use Rattle.formulas.specs.Clauses.{emptyOr, emptyOrs, isEmptyOr}
 use Rattle.formulas.specs.Built.{normalView, normalsOf}
-use Rattle.clause_totals.specs.ClauseWalk.{formAt, NoneReached, Reached, Noted}
+use Rattle.marks.specs.Marks.{Noted}
+use Rattle.clause_totals.specs.ClauseWalk.{formAt, NoneReached, Reached}
 use Rattle.clause_totals.proofs.Reading.{read-literal, read-forall, read-connective, run-before, run-split, zeros}
-
--- ---- noting an answer; past the end of the memo nothing is set
-module _ (memo : List ℕ) (x : ℕ) (s : Bool) where
-  pub note-yes : s ≡ true → Noted memo x s memo true
-  note-yes e = record { same = sym e; kept = rw e }
-
-  module _ (e : s ≡ false) where
-    pub note-no : Noted memo x s (set memo x 1) false
-    note-no = record { same = sym e; kept = rw e }
-
-    pub note-past : length memo ≤ x → Noted memo x s memo false
-    note-past h = record { same = sym e; kept = rw (e, set-out memo x 1 h) }
-
-pub ruleset notes = (note-yes, note-no, note-past)
 
 -- ---- operands
 none-empty : (f : ℕ → Normal (List ℕ) ℕ) (b : Bool) (run : List ℕ) → length run ≡ 0

@@ -12,7 +12,7 @@ use Rattle.free_vars.proofs.run_free_vars.Reads as run-free-vars
 use Rattle.free_vars.proofs.run_free_vars.Kinds as run-free-vars-kinds
 use Rattle.free_vars.proofs.+compute_free_vars+run_free_vars.Lts-run_free_vars as run-free-vars-lts
 use Rattle.free_vars.proofs.look.Reads as look-reads
-use Rattle.free_vars.proofs.note.Reads as note-reads
+use Rattle.marks.proofs.note_no.Reads as note-no-reads
 use Rattle.cells.proofs.run.operands.Reads as operands-reads
 use Rattle.free_vars.proofs.+compute_free_vars+run_free_vars.{statement}
 use Rattle.free_vars.proofs.+compute_free_vars+run_free_vars.Tie.{close}
@@ -58,7 +58,7 @@ run-free-vars-calls t = (run-free-vars-below t, run-free-vars.Post, compute-free
 
 -- what the calls in `compute-free-vars` ask and tell, below the measure t
 abbrev compute-free-vars-calls : ℕ → compute-free-vars-lts.Claims
-compute-free-vars-calls t = (look-reads.Asked, look-reads.Learnt, note-reads.Asked, note-reads.Learnt, compute-free-vars-below t, compute-free-vars.Post, operands-reads.Asked, operands-reads.Learnt, run-free-vars-below t, run-free-vars.Post)
+compute-free-vars-calls t = (look-reads.Asked, look-reads.Learnt, note-no-reads.Asked, note-no-reads.Learnt, compute-free-vars-below t, compute-free-vars.Post, operands-reads.Asked, operands-reads.Learnt, run-free-vars-below t, run-free-vars.Post)
 
 compute-free-vars-look-requires : (t : ℕ) → compute-free-vars-lts.Need-look-requires (compute-free-vars-calls t) (compute-free-vars-at t) compute-free-vars.Post
 compute-free-vars-look-requires t c κs = search needs
@@ -69,8 +69,8 @@ compute-free-vars-enum-told t c = search needs
 compute-free-vars-enum-told-2 : (t : ℕ) → compute-free-vars-lts.Need-enum-told-2 (compute-free-vars-calls t) (compute-free-vars-at t) compute-free-vars.Post
 compute-free-vars-enum-told-2 t c = search needs
 
-compute-free-vars-note-requires : (t : ℕ) → compute-free-vars-lts.Need-note-requires (compute-free-vars-calls t) (compute-free-vars-at t) compute-free-vars.Post
-compute-free-vars-note-requires t c κs = search needs
+compute-free-vars-note-no-requires : (t : ℕ) → compute-free-vars-lts.Need-note-no-requires (compute-free-vars-calls t) (compute-free-vars-at t) compute-free-vars.Post
+compute-free-vars-note-no-requires t c κs = search needs
 
 compute-free-vars-enum-known-step : (t : ℕ) → compute-free-vars-lts.Need-enum-known-step (compute-free-vars-calls t) (compute-free-vars-at t) compute-free-vars.Post
 compute-free-vars-enum-known-step t c = search needs
@@ -81,8 +81,8 @@ compute-free-vars-compute-free-vars-requires t c κs =
     let h = step-below _ _ _ _ _ (c .before .before .before .before .look .ensures) _ (c .before .before .step .given .1) in
     (omega arith, search needs)
 
-compute-free-vars-note-requires-2 : (t : ℕ) → compute-free-vars-lts.Need-note-requires-2 (compute-free-vars-calls t) (compute-free-vars-at t) compute-free-vars.Post
-compute-free-vars-note-requires-2 t c κs = search needs
+compute-free-vars-note-no-requires-2 : (t : ℕ) → compute-free-vars-lts.Need-note-no-requires-2 (compute-free-vars-calls t) (compute-free-vars-at t) compute-free-vars.Post
+compute-free-vars-note-no-requires-2 t c κs = search needs
 
 compute-free-vars-enum-told-3 : (t : ℕ) → compute-free-vars-lts.Need-enum-told-3 (compute-free-vars-calls t) (compute-free-vars-at t) compute-free-vars.Post
 compute-free-vars-enum-told-3 t c = search needs
@@ -94,8 +94,8 @@ compute-free-vars-run-free-vars-requires :
     (t : ℕ) → compute-free-vars-lts.Need-run-free-vars-requires (compute-free-vars-calls t) (compute-free-vars-at t) compute-free-vars.Post
 compute-free-vars-run-free-vars-requires t c κs = search needs
 
-compute-free-vars-note-requires-3 : (t : ℕ) → compute-free-vars-lts.Need-note-requires-3 (compute-free-vars-calls t) (compute-free-vars-at t) compute-free-vars.Post
-compute-free-vars-note-requires-3 t c κs = search needs
+compute-free-vars-note-no-requires-3 : (t : ℕ) → compute-free-vars-lts.Need-note-no-requires-3 (compute-free-vars-calls t) (compute-free-vars-at t) compute-free-vars.Post
+compute-free-vars-note-no-requires-3 t c κs = search needs
 
 compute-free-vars-same-length : (t : ℕ) → compute-free-vars-lts.Need-same-length (compute-free-vars-calls t) (compute-free-vars-at t) compute-free-vars.Post
 compute-free-vars-same-length t c = search needs
@@ -182,14 +182,14 @@ pub +compute-free-vars+run-free-vars-spec : {M : Type 1} → statement M
     (compute-free-vars-look-requires t)
     (compute-free-vars-enum-told t)
     (compute-free-vars-enum-told-2 t)
-    (compute-free-vars-note-requires t)
+    (compute-free-vars-note-no-requires t)
     (compute-free-vars-enum-known-step t)
     (compute-free-vars-compute-free-vars-requires t)
-    (compute-free-vars-note-requires-2 t)
+    (compute-free-vars-note-no-requires-2 t)
     (compute-free-vars-enum-told-3 t)
     (compute-free-vars-operands-requires t)
     (compute-free-vars-run-free-vars-requires t)
-    (compute-free-vars-note-requires-3 t)
+    (compute-free-vars-note-no-requires-3 t)
     (compute-free-vars-same-length t)
     (compute-free-vars-returns t)
     (compute-free-vars-same-length-2 t)

@@ -6,8 +6,8 @@ use Rattle.free_vars.proofs.look.Tie as tie
 cast-at : tie.Need-cast-at
 cast-at c = search needs
 
-noted-at-requires : tie.Need-noted-at-requires
-noted-at-requires c κs = search needs
+mark-at-requires : tie.Need-mark-at-requires
+mark-at-requires c κs = search needs
 
 returns : tie.Need-returns
 returns c = search looks
@@ -50,7 +50,7 @@ look-spec =
     tie.close
     (tie.spec
     cast-at
-    noted-at-requires
+    mark-at-requires
     returns
     returns-2
     cell-requires

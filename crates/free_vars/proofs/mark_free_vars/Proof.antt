@@ -1,5 +1,6 @@
 use borrow.Author.Needs.{needs}
-use Rattle.free_vars.proofs.Laws.{Filled, fills}
+use Rattle.marks.proofs.Laws.{Filled}
+use Rattle.free_vars.proofs.Laws.{fills}
 use Prim.Native.Nat.{_-_}
 use lib.ListN.{length}
 use Rattle.free_vars.specs.Free.{markOf}

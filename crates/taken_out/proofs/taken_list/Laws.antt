@@ -26,7 +26,7 @@ use Rattle.quantifiers.proofs.binding.Laws.{pairs-end, pairs-next}
 use Rattle.taken_out.specs.declared.taken_list.Collected.{Collected}
 use Rattle.taken_out.specs.declared.taken_list.Collected.the-variants.{From, Full}
 use Rattle.taken_out.specs.TakenList.{pairsFrom, takenAt, takenIn, Joined, Put, Right, Gathered, Walked}
-use Rattle.free_vars.proofs.Laws.{zeros}
+use Rattle.marks.proofs.Laws.{zeros}
 use Rattle.taken_out.proofs.taken_variables.Laws.{look-below, has-append, unbound-left}
 
 -- ---- truth values

@@ -14,8 +14,8 @@ use Rattle.term_names.proofs.+names_of_run+names_of_term.Lts-names_of_t
 use Rattle.cells.proofs.run.operands.Reads as operands-reads
 use Rattle.term_names.proofs.below_at.Reads as below-at-reads
 use Rattle.term_names.proofs.mark_name.Reads as mark-name-reads
-use Rattle.term_names.proofs.note_names.Reads as note-names-reads
-use Rattle.free_vars.proofs.noted_at.Reads as noted-at-reads
+use Rattle.marks.proofs.set_mark.Reads as set-mark-reads
+use Rattle.marks.proofs.mark_at.Reads as mark-at-reads
 use Rattle.term_names.proofs.+names_of_run+names_of_term.{statement}
 use Rattle.term_names.proofs.+names_of_run+names_of_term.Tie.{close}
 
@@ -106,13 +106,10 @@ names-of-run-returns-3 t c = search walks
 
 -- what the calls in `names-of-term` ask and tell, below the measure t
 abbrev names-of-term-calls : ℕ → names-of-term-lts.Claims
-names-of-term-calls t = (noted-at-reads.Asked, noted-at-reads.Learnt, below-at-reads.Asked, below-at-reads.Learnt, note-names-reads.Asked, note-names-reads.Learnt, mark-name-reads.Asked, mark-name-reads.Learnt, names-of-term-below t, names-of-term.Post, operands-reads.Asked, operands-reads.Learnt, names-of-run-below t, names-of-run.Post)
+names-of-term-calls t = (mark-at-reads.Asked, mark-at-reads.Learnt, below-at-reads.Asked, below-at-reads.Learnt, set-mark-reads.Asked, set-mark-reads.Learnt, mark-name-reads.Asked, mark-name-reads.Learnt, names-of-term-below t, names-of-term.Post, operands-reads.Asked, operands-reads.Learnt, names-of-run-below t, names-of-run.Post)
 
-names-of-term-cast-at : (t : ℕ) → names-of-term-lts.Need-cast-at (names-of-term-calls t) (names-of-term-at t) names-of-term.Post
-names-of-term-cast-at t c = search needs
-
-names-of-term-noted-at-requires : (t : ℕ) → names-of-term-lts.Need-noted-at-requires (names-of-term-calls t) (names-of-term-at t) names-of-term.Post
-names-of-term-noted-at-requires t c κs = search needs
+names-of-term-mark-at-requires : (t : ℕ) → names-of-term-lts.Need-mark-at-requires (names-of-term-calls t) (names-of-term-at t) names-of-term.Post
+names-of-term-mark-at-requires t c κs = search needs
 
 names-of-term-same-length : (t : ℕ) → names-of-term-lts.Need-same-length (names-of-term-calls t) (names-of-term-at t) names-of-term.Post
 names-of-term-same-length t c = search needs
@@ -126,8 +123,8 @@ names-of-term-below-at-requires t c κs = search needs
 names-of-term-enum-told : (t : ℕ) → names-of-term-lts.Need-enum-told (names-of-term-calls t) (names-of-term-at t) names-of-term.Post
 names-of-term-enum-told t c = search needs
 
-names-of-term-note-names-requires : (t : ℕ) → names-of-term-lts.Need-note-names-requires (names-of-term-calls t) (names-of-term-at t) names-of-term.Post
-names-of-term-note-names-requires t c κs = search needs
+names-of-term-set-mark-requires : (t : ℕ) → names-of-term-lts.Need-set-mark-requires (names-of-term-calls t) (names-of-term-at t) names-of-term.Post
+names-of-term-set-mark-requires t c κs = search needs
 
 names-of-term-enum-told-2 : (t : ℕ) → names-of-term-lts.Need-enum-told-2 (names-of-term-calls t) (names-of-term-at t) names-of-term.Post
 names-of-term-enum-told-2 t c = search needs
@@ -135,8 +132,8 @@ names-of-term-enum-told-2 t c = search needs
 names-of-term-mark-name-requires : (t : ℕ) → names-of-term-lts.Need-mark-name-requires (names-of-term-calls t) (names-of-term-at t) names-of-term.Post
 names-of-term-mark-name-requires t c κs = search needs
 
-names-of-term-note-names-requires-2 : (t : ℕ) → names-of-term-lts.Need-note-names-requires-2 (names-of-term-calls t) (names-of-term-at t) names-of-term.Post
-names-of-term-note-names-requires-2 t c κs = search needs
+names-of-term-set-mark-requires-2 : (t : ℕ) → names-of-term-lts.Need-set-mark-requires-2 (names-of-term-calls t) (names-of-term-at t) names-of-term.Post
+names-of-term-set-mark-requires-2 t c κs = search needs
 
 names-of-term-enum-known-place : (t : ℕ) → names-of-term-lts.Need-enum-known-place (names-of-term-calls t) (names-of-term-at t) names-of-term.Post
 names-of-term-enum-known-place t c = search needs
@@ -146,8 +143,8 @@ names-of-term-names-of-term-requires t c κs =
     let h = body-below _ _ _ _ (c .before .before .before .before .before .below-at .ensures) _ (c .before .before .before .place .given .1) in
     (omega arith, search needs)
 
-names-of-term-note-names-requires-3 : (t : ℕ) → names-of-term-lts.Need-note-names-requires-3 (names-of-term-calls t) (names-of-term-at t) names-of-term.Post
-names-of-term-note-names-requires-3 t c κs = search needs
+names-of-term-set-mark-requires-3 : (t : ℕ) → names-of-term-lts.Need-set-mark-requires-3 (names-of-term-calls t) (names-of-term-at t) names-of-term.Post
+names-of-term-set-mark-requires-3 t c κs = search needs
 
 names-of-term-enum-told-3 : (t : ℕ) → names-of-term-lts.Need-enum-told-3 (names-of-term-calls t) (names-of-term-at t) names-of-term.Post
 names-of-term-enum-told-3 t c = search needs
@@ -158,8 +155,8 @@ names-of-term-operands-requires t c κs = search needs
 names-of-term-names-of-run-requires : (t : ℕ) → names-of-term-lts.Need-names-of-run-requires (names-of-term-calls t) (names-of-term-at t) names-of-term.Post
 names-of-term-names-of-run-requires t c κs = search needs
 
-names-of-term-note-names-requires-4 : (t : ℕ) → names-of-term-lts.Need-note-names-requires-4 (names-of-term-calls t) (names-of-term-at t) names-of-term.Post
-names-of-term-note-names-requires-4 t c κs = search needs
+names-of-term-set-mark-requires-4 : (t : ℕ) → names-of-term-lts.Need-set-mark-requires-4 (names-of-term-calls t) (names-of-term-at t) names-of-term.Post
+names-of-term-set-mark-requires-4 t c κs = search needs
 
 names-of-term-same-length-2 : (t : ℕ) → names-of-term-lts.Need-same-length-2 (names-of-term-calls t) (names-of-term-at t) names-of-term.Post
 names-of-term-same-length-2 t c = search needs
@@ -195,7 +192,7 @@ names-of-term-returns-5 : (t : ℕ) → names-of-term-lts.Need-returns-5 (names-
 names-of-term-returns-5 t c =
     let at-run = c .before .before .before .before .before .before .before .before in
     let at-told = at-run .before .before .before .before in
-    walk-run _ _ _ _ (at-told .before .before .below-at .ensures) _ _ _ (at-told .enum-told3 .given .1) _ (at-run .before .operands .ensures) (at-run .names-of-run .ensures) _ (c .before .before .note-names4 .ensures)
+    walk-run _ _ _ _ (at-told .before .before .below-at .ensures) _ _ _ (at-told .enum-told3 .given .1) _ (at-run .before .operands .ensures) (at-run .names-of-run .ensures) _ (c .before .before .set-mark4 .ensures)
 
 pub +names-of-run+names-of-term-spec : {M : Type 1} → statement M
 +names-of-run+names-of-term-spec =
@@ -225,12 +222,12 @@ pub +names-of-run+names-of-term-spec : {M : Type 1} → statement M
     (names-of-run-same-length-4 t)
     (names-of-run-returns-3 t))
     λ t. names-of-term-lts.spec (
-      noted-at-reads.Asked,
-      noted-at-reads.Learnt,
+      mark-at-reads.Asked,
+      mark-at-reads.Learnt,
       below-at-reads.Asked,
       below-at-reads.Learnt,
-      note-names-reads.Asked,
-      note-names-reads.Learnt,
+      set-mark-reads.Asked,
+      set-mark-reads.Learnt,
       mark-name-reads.Asked,
       mark-name-reads.Learnt,
       names-of-term-below t,
@@ -242,23 +239,22 @@ pub +names-of-run+names-of-term-spec : {M : Type 1} → statement M
     )
     (names-of-term-at t)
     names-of-term.Post
-    (names-of-term-cast-at t)
-    (names-of-term-noted-at-requires t)
+    (names-of-term-mark-at-requires t)
     (names-of-term-same-length t)
     (names-of-term-returns t)
     (names-of-term-below-at-requires t)
     (names-of-term-enum-told t)
-    (names-of-term-note-names-requires t)
+    (names-of-term-set-mark-requires t)
     (names-of-term-enum-told-2 t)
     (names-of-term-mark-name-requires t)
-    (names-of-term-note-names-requires-2 t)
+    (names-of-term-set-mark-requires-2 t)
     (names-of-term-enum-known-place t)
     (names-of-term-names-of-term-requires t)
-    (names-of-term-note-names-requires-3 t)
+    (names-of-term-set-mark-requires-3 t)
     (names-of-term-enum-told-3 t)
     (names-of-term-operands-requires t)
     (names-of-term-names-of-run-requires t)
-    (names-of-term-note-names-requires-4 t)
+    (names-of-term-set-mark-requires-4 t)
     (names-of-term-same-length-2 t)
     (names-of-term-returns-2 t)
     (names-of-term-same-length-3 t)

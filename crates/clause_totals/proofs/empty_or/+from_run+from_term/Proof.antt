@@ -12,8 +12,8 @@ use Rattle.clause_totals.proofs.empty_or.from_term.Reads as from-term
 use Rattle.clause_totals.proofs.empty_or.from_term.Kinds as from-term-kinds
 use Rattle.clause_totals.proofs.empty_or.+from_run+from_term.Lts-from_term as from-term-lts
 use Rattle.cells.proofs.run.operands.Reads as operands-reads
-use Rattle.clause_totals.proofs.empty_or.note.Reads as note-reads
-use Rattle.clause_totals.proofs.empty_or.noted_at.Reads as noted-at-reads
+use Rattle.marks.proofs.note_no.Reads as note-no-reads
+use Rattle.marks.proofs.mark_at.Reads as mark-at-reads
 use Rattle.formulas.proofs.view.normal_view.Reads as normal-view-reads
 use Rattle.clause_totals.proofs.empty_or.+from_run+from_term.{statement}
 use Rattle.clause_totals.proofs.empty_or.+from_run+from_term.Tie.{close}
@@ -45,7 +45,7 @@ from-run-calls t = (from-term-below t, from-term.Post, from-run-below t, from-ru
 
 -- what the calls in `from-term` ask and tell, below the measure t
 abbrev from-term-calls : ℕ → from-term-lts.Claims
-from-term-calls t = (noted-at-reads.Asked, noted-at-reads.Learnt, normal-view-reads.Asked, normal-view-reads.Learnt, note-reads.Asked, note-reads.Learnt, operands-reads.Asked, operands-reads.Learnt, from-run-below t, from-run.Post)
+from-term-calls t = (mark-at-reads.Asked, mark-at-reads.Learnt, normal-view-reads.Asked, normal-view-reads.Learnt, note-no-reads.Asked, note-no-reads.Learnt, operands-reads.Asked, operands-reads.Learnt, from-run-below t, from-run.Post)
 
 from-run-returns : (t : ℕ) → from-run-lts.Need-returns (from-run-calls t) (from-run-at t) from-run.Post
 from-run-returns t c = search walks
@@ -80,8 +80,8 @@ from-run-same-length-2 t c = search needs
 from-run-returns-3 : (t : ℕ) → from-run-lts.Need-returns-3 (from-run-calls t) (from-run-at t) from-run.Post
 from-run-returns-3 t c = search walks
 
-from-term-noted-at-requires : (t : ℕ) → from-term-lts.Need-noted-at-requires (from-term-calls t) (from-term-at t) from-term.Post
-from-term-noted-at-requires t c κs = search needs
+from-term-mark-at-requires : (t : ℕ) → from-term-lts.Need-mark-at-requires (from-term-calls t) (from-term-at t) from-term.Post
+from-term-mark-at-requires t c κs = search needs
 
 from-term-same-length : (t : ℕ) → from-term-lts.Need-same-length (from-term-calls t) (from-term-at t) from-term.Post
 from-term-same-length t c = search needs
@@ -95,14 +95,14 @@ from-term-normal-view-requires t c κs = search needs
 from-term-enum-told : (t : ℕ) → from-term-lts.Need-enum-told (from-term-calls t) (from-term-at t) from-term.Post
 from-term-enum-told t c = search needs
 
-from-term-note-requires : (t : ℕ) → from-term-lts.Need-note-requires (from-term-calls t) (from-term-at t) from-term.Post
-from-term-note-requires t c κs = search needs
+from-term-note-no-requires : (t : ℕ) → from-term-lts.Need-note-no-requires (from-term-calls t) (from-term-at t) from-term.Post
+from-term-note-no-requires t c κs = search needs
 
 from-term-enum-told-2 : (t : ℕ) → from-term-lts.Need-enum-told-2 (from-term-calls t) (from-term-at t) from-term.Post
 from-term-enum-told-2 t c = search needs
 
-from-term-note-requires-2 : (t : ℕ) → from-term-lts.Need-note-requires-2 (from-term-calls t) (from-term-at t) from-term.Post
-from-term-note-requires-2 t c κs = search needs
+from-term-note-no-requires-2 : (t : ℕ) → from-term-lts.Need-note-no-requires-2 (from-term-calls t) (from-term-at t) from-term.Post
+from-term-note-no-requires-2 t c κs = search needs
 
 from-term-enum-known-view : (t : ℕ) → from-term-lts.Need-enum-known-view (from-term-calls t) (from-term-at t) from-term.Post
 from-term-enum-known-view t c = search needs
@@ -119,8 +119,8 @@ from-term-returns-2 t c = search walks
 from-term-from-run-requires : (t : ℕ) → from-term-lts.Need-from-run-requires (from-term-calls t) (from-term-at t) from-term.Post
 from-term-from-run-requires t c κs = (search needs, (search needs, search term-before))
 
-from-term-note-requires-3 : (t : ℕ) → from-term-lts.Need-note-requires-3 (from-term-calls t) (from-term-at t) from-term.Post
-from-term-note-requires-3 t c κs = search needs
+from-term-note-no-requires-3 : (t : ℕ) → from-term-lts.Need-note-no-requires-3 (from-term-calls t) (from-term-at t) from-term.Post
+from-term-note-no-requires-3 t c κs = search needs
 
 from-term-same-length-3 : (t : ℕ) → from-term-lts.Need-same-length-3 (from-term-calls t) (from-term-at t) from-term.Post
 from-term-same-length-3 t c = search needs
@@ -158,20 +158,20 @@ pub +from-run+from-term-spec : {M : Type 1} → statement M
     λ t. from-term-lts.spec (from-term-calls t)
     (from-term-at t)
     from-term.Post
-    (from-term-noted-at-requires t)
+    (from-term-mark-at-requires t)
     (from-term-same-length t)
     (from-term-returns t)
     (from-term-normal-view-requires t)
     (from-term-enum-told t)
-    (from-term-note-requires t)
+    (from-term-note-no-requires t)
     (from-term-enum-told-2 t)
-    (from-term-note-requires-2 t)
+    (from-term-note-no-requires-2 t)
     (from-term-enum-known-view t)
     (from-term-operands-requires t)
     (from-term-same-length-2 t)
     (from-term-returns-2 t)
     (from-term-from-run-requires t)
-    (from-term-note-requires-3 t)
+    (from-term-note-no-requires-3 t)
     (from-term-same-length-3 t)
     (from-term-returns-3 t)
     (from-term-same-length-4 t)

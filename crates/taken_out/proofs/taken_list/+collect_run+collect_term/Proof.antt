@@ -13,9 +13,9 @@ use Rattle.taken_out.proofs.taken_list.collect_term.Reads as collect-te
 use Rattle.taken_out.proofs.taken_list.collect_term.Kinds as collect-term-kinds
 use Rattle.taken_out.proofs.taken_list.+collect_run+collect_term.Lts-collect_term as collect-term-lts
 use Rattle.cells.proofs.run.operands.Reads as operands-reads
-use Rattle.taken_out.proofs.taken_list.note_taken.Reads as note-taken-reads
+use Rattle.marks.proofs.set_mark.Reads as set-mark-reads
 use Rattle.taken_out.proofs.taken_list.put_pairs.Reads as put-pairs-reads
-use Rattle.free_vars.proofs.noted_at.Reads as noted-at-reads
+use Rattle.marks.proofs.mark_at.Reads as mark-at-reads
 use Rattle.formulas.proofs.view.normal_view.Reads as normal-view-reads
 use Rattle.forms.proofs.bindings.Reads as bindings-reads
 use Rattle.taken_out.proofs.taken_list.+collect_run+collect_term.{statement}
@@ -113,10 +113,10 @@ collect-run-returns-3 t c = search walks
 
 -- what the calls in `collect-term` ask and tell, below the measure t
 abbrev collect-term-calls : ℕ → collect-term-lts.Claims
-collect-term-calls t = (noted-at-reads.Asked, noted-at-reads.Learnt, normal-view-reads.Asked, normal-view-reads.Learnt, operands-reads.Asked, operands-reads.Learnt, collect-run-below t, collect-run.Post, note-taken-reads.Asked, note-taken-reads.Learnt, bindings-reads.Asked, bindings-reads.Learnt, put-pairs-reads.Asked, put-pairs-reads.Learnt, collect-term-below t, collect-term.Post)
+collect-term-calls t = (mark-at-reads.Asked, mark-at-reads.Learnt, normal-view-reads.Asked, normal-view-reads.Learnt, operands-reads.Asked, operands-reads.Learnt, collect-run-below t, collect-run.Post, set-mark-reads.Asked, set-mark-reads.Learnt, bindings-reads.Asked, bindings-reads.Learnt, put-pairs-reads.Asked, put-pairs-reads.Learnt, collect-term-below t, collect-term.Post)
 
-collect-term-noted-at-requires : (t : ℕ) → collect-term-lts.Need-noted-at-requires (collect-term-calls t) (collect-term-at t) collect-term.Post
-collect-term-noted-at-requires t c κs = search needs
+collect-term-mark-at-requires : (t : ℕ) → collect-term-lts.Need-mark-at-requires (collect-term-calls t) (collect-term-at t) collect-term.Post
+collect-term-mark-at-requires t c κs = search needs
 
 collect-term-same-length : (t : ℕ) → collect-term-lts.Need-same-length (collect-term-calls t) (collect-term-at t) collect-term.Post
 collect-term-same-length t c = search needs
@@ -139,8 +139,8 @@ collect-term-operands-requires t c κs = search needs
 collect-term-collect-run-requires : (t : ℕ) → collect-term-lts.Need-collect-run-requires (collect-term-calls t) (collect-term-at t) collect-term.Post
 collect-term-collect-run-requires t c κs = (search needs, (search needs, search needs, search operands-before))
 
-collect-term-note-taken-requires : (t : ℕ) → collect-term-lts.Need-note-taken-requires (collect-term-calls t) (collect-term-at t) collect-term.Post
-collect-term-note-taken-requires t c κs = search needs
+collect-term-set-mark-requires : (t : ℕ) → collect-term-lts.Need-set-mark-requires (collect-term-calls t) (collect-term-at t) collect-term.Post
+collect-term-set-mark-requires t c κs = search needs
 
 collect-term-enum-known-view : (t : ℕ) → collect-term-lts.Need-enum-known-view (collect-term-calls t) (collect-term-at t) collect-term.Post
 collect-term-enum-known-view t c = search needs
@@ -176,8 +176,8 @@ collect-term-collect-term-requires t c κs =
     let p = put-from _ _ _ _ _ (at-put .put-pairs .ensures) _ (at-own .own .given .1) in
     (omega arith, (right-joined _ _ _ _ _ _ _ p _ (start .pre .1 .0), omega (arith, p .within)))
 
-collect-term-note-taken-requires-2 : (t : ℕ) → collect-term-lts.Need-note-taken-requires-2 (collect-term-calls t) (collect-term-at t) collect-term.Post
-collect-term-note-taken-requires-2 t c κs = search needs
+collect-term-set-mark-requires-2 : (t : ℕ) → collect-term-lts.Need-set-mark-requires-2 (collect-term-calls t) (collect-term-at t) collect-term.Post
+collect-term-set-mark-requires-2 t c κs = search needs
 
 collect-term-same-length-4 : (t : ℕ) → collect-term-lts.Need-same-length-4 (collect-term-calls t) (collect-term-at t) collect-term.Post
 collect-term-same-length-4 t c = search needs
@@ -206,7 +206,7 @@ collect-term-returns-5 t c =
     let at-own = at-call .before .before .before .before in
     let at-put = at-own .before .before .before .before in
     let at-view = at-put .before .before .before .before in
-    walk-forall _ _ _ _ _ _ (at-view .before .before .normal-view .ensures) _ (at-view .view .given .1) _ (at-put .before .bindings .ensures) _ _ (at-put .put-pairs .ensures) _ (at-own .own .given .1) _ _ _ (at-call .collect-term .ensures) _ (c .before .before .note-taken2 .ensures)
+    walk-forall _ _ _ _ _ _ (at-view .before .before .normal-view .ensures) _ (at-view .view .given .1) _ (at-put .before .bindings .ensures) _ _ (at-put .put-pairs .ensures) _ (at-own .own .given .1) _ _ _ (at-call .collect-term .ensures) _ (c .before .before .set-mark2 .ensures)
 
 pub +collect-run+collect-term-spec : {M : Type 1} → statement M
 +collect-run+collect-term-spec = close μ-collect-run μ-collect-term (λ t. collect-run-lts.spec (
@@ -233,16 +233,16 @@ pub +collect-run+collect-term-spec : {M : Type 1} → statement M
     (collect-run-same-length-4 t)
     (collect-run-returns-3 t))
     λ t. collect-term-lts.spec (
-      noted-at-reads.Asked,
-      noted-at-reads.Learnt,
+      mark-at-reads.Asked,
+      mark-at-reads.Learnt,
       normal-view-reads.Asked,
       normal-view-reads.Learnt,
       operands-reads.Asked,
       operands-reads.Learnt,
       collect-run-below t,
       collect-run.Post,
-      note-taken-reads.Asked,
-      note-taken-reads.Learnt,
+      set-mark-reads.Asked,
+      set-mark-reads.Learnt,
       bindings-reads.Asked,
       bindings-reads.Learnt,
       put-pairs-reads.Asked,
@@ -252,7 +252,7 @@ pub +collect-run+collect-term-spec : {M : Type 1} → statement M
     )
     (collect-term-at t)
     collect-term.Post
-    (collect-term-noted-at-requires t)
+    (collect-term-mark-at-requires t)
     (collect-term-same-length t)
     (collect-term-returns t)
     (collect-term-normal-view-requires t)
@@ -260,7 +260,7 @@ pub +collect-run+collect-term-spec : {M : Type 1} → statement M
     (collect-term-enum-told-2 t)
     (collect-term-operands-requires t)
     (collect-term-collect-run-requires t)
-    (collect-term-note-taken-requires t)
+    (collect-term-set-mark-requires t)
     (collect-term-enum-known-view t)
     (collect-term-bindings-requires t)
     (collect-term-put-pairs-requires t)
@@ -270,7 +270,7 @@ pub +collect-run+collect-term-spec : {M : Type 1} → statement M
     (collect-term-same-length-3 t)
     (collect-term-returns-2 t)
     (collect-term-collect-term-requires t)
-    (collect-term-note-taken-requires-2 t)
+    (collect-term-set-mark-requires-2 t)
     (collect-term-same-length-4 t)
     (collect-term-returns-3 t)
     (collect-term-same-length-5 t)

@@ -3,8 +3,8 @@ use borrow.Author.Needs.{needs}
 use Rattle.taken_out.proofs.taken_variables.look.Statement.{statement}
 use Rattle.taken_out.proofs.taken_variables.look.Tie as tie
 
-noted-at-requires : tie.Need-noted-at-requires
-noted-at-requires c κs = search needs
+mark-at-requires : tie.Need-mark-at-requires
+mark-at-requires c κs = search needs
 
 returns : tie.Need-returns
 returns c = search looks
@@ -49,7 +49,7 @@ pub look-spec : {M : Type 1} → statement M
 look-spec =
     tie.close
     (tie.spec
-    noted-at-requires
+    mark-at-requires
     returns
     normal-view-requires
     enum-told

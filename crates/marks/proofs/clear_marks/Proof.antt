@@ -1,9 +1,9 @@
 use borrow.Author.Needs.{needs}
-use Rattle.free_vars.proofs.Laws.{Filled, fills}
+use Rattle.marks.proofs.Laws.{Filled, fills}
 use Prim.Native.Nat.{_-_}
 use lib.ListN.{length}
-use Rattle.free_vars.proofs.clear_marks.Statement.{statement}
-use Rattle.free_vars.proofs.clear_marks.Tie as tie
+use Rattle.marks.proofs.clear_marks.Statement.{statement}
+use Rattle.marks.proofs.clear_marks.Tie as tie
 
 abbrev Inv-loop : tie.InvT-loop
 Inv-loop marks₀ i₀ marks i = Filled (λ u. 0) (length marks₀) marks i

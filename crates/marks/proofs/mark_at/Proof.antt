@@ -1,7 +1,7 @@
 use Rattle.cells.proofs.Cells.{cell-past}
 use borrow.Author.Needs.{needs}
-use Rattle.clause_totals.proofs.empty_or.noted_at.Statement.{statement}
-use Rattle.clause_totals.proofs.empty_or.noted_at.Tie as tie
+use Rattle.marks.proofs.mark_at.Statement.{statement}
+use Rattle.marks.proofs.mark_at.Tie as tie
 
 shared-slice-read-result : tie.Need-shared-slice-read-result
 shared-slice-read-result c = search needs
@@ -12,5 +12,5 @@ returns c = search needs
 returns-2 : tie.Need-returns-2
 returns-2 c = search cell-past
 
-pub noted-at-spec : {M : Type 1} → statement M
-noted-at-spec = tie.close (tie.spec shared-slice-read-result returns returns-2)
+pub mark-at-spec : {M : Type 1} → statement M
+mark-at-spec = tie.close (tie.spec shared-slice-read-result returns returns-2)
