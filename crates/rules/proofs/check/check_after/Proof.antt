@@ -1,5 +1,5 @@
 use native.Mathlib.Omega.{arith}
-use Rattle.rules.proofs.check.Laws.{steps, one-place, place-ready, index-ready, indexed-after}
+use Rattle.rules.proofs.check.Laws.{step-rule, step-other, step-30, step-zeroed, one-place, place-ready, index-ready, indexed-after}
 use borrow.Author.Needs.{needs}
 use Rattle.rules.proofs.check.check_after.Statement.{statement}
 use Rattle.rules.proofs.check.check_after.Tie as tie
@@ -20,19 +20,19 @@ same-length-2 : tie.Need-same-length-2
 same-length-2 c = search needs
 
 returns : tie.Need-returns
-returns c = (search steps, search (indexed-after, needs))
+returns c = (search step-rule, search (indexed-after, needs))
 
 same-length-3 : tie.Need-same-length-3
 same-length-3 c = search needs
 
 returns-2 : tie.Need-returns-2
-returns-2 c = (search steps, search (indexed-after, needs))
+returns-2 c = (search step-other, search (indexed-after, needs))
 
 same-length-4 : tie.Need-same-length-4
 same-length-4 c = search needs
 
 returns-3 : tie.Need-returns-3
-returns-3 c = (search steps, search (indexed-after, needs))
+returns-3 c = (search step-30, search (indexed-after, needs))
 
 cut-back-requires : tie.Need-cut-back-requires
 cut-back-requires c κs = search needs
@@ -44,7 +44,7 @@ same-length-6 : tie.Need-same-length-6
 same-length-6 c = search needs
 
 returns-4 : tie.Need-returns-4
-returns-4 c = (search steps, search (indexed-after, needs))
+returns-4 c = (search step-zeroed, search (indexed-after, needs))
 
 pub check-after-spec : {M : Type 1} → statement M
 check-after-spec =
