@@ -9,10 +9,10 @@ check-after-requires : tie.Need-check-after-requires
 check-after-requires c κs = search needs
 
 same-length : tie.Need-same-length
-same-length c = search needs
+same-length c = c .before .before .before .tags .given
 
 same-length-2 : tie.Need-same-length-2
-same-length-2 c = search needs
+same-length-2 c = c .before .values .given
 
 returns : tie.Need-returns
 returns c = search needs

@@ -14,10 +14,10 @@ apply-requires : tie.Need-apply-requires
 apply-requires c κs = (search index-ready, search place-ready)
 
 same-length : tie.Need-same-length
-same-length c = search needs
+same-length c = c .before .before .before .tags .given
 
 same-length-2 : tie.Need-same-length-2
-same-length-2 c = search needs
+same-length-2 c = c .before .values .given
 
 returns : tie.Need-returns
 returns c = (search step-rule, search (indexed-after, needs))
@@ -38,10 +38,10 @@ cut-back-requires : tie.Need-cut-back-requires
 cut-back-requires c κs = search needs
 
 same-length-5 : tie.Need-same-length-5
-same-length-5 c = search needs
+same-length-5 c = c .before .before .before .tags2 .given
 
 same-length-6 : tie.Need-same-length-6
-same-length-6 c = search needs
+same-length-6 c = c .before .values2 .given
 
 returns-4 : tie.Need-returns-4
 returns-4 c = (search step-zeroed, search (indexed-after, needs))
