@@ -38,6 +38,27 @@ fn carried(k: usize) -> u32
     4294967295
 }
 
+// The rule of a code other than 3 on the conclusion at x, which has passed its checks: these rules build nothing.
+fn apply_reading(tags: &[u32], values: &[u32], n: usize, rule: u32, x: TermPlace) -> Answer
+    requires { ⌜ (rule ≡ 3 → ⊥) ⌝ }
+    requires { ⌜ checkTerm (now tags) (now values) builtIn n (x .0) .code ≡ 0 ⌝ }
+    ensures { λ r. ⌜ r ≡ answerOf (ruleOutcome (now (tags .entry)) (now (values .entry)) n rule (x .0)) ⌝ }
+{
+    if rule == 1 {
+        return qnt_join(tags, values, x);
+    }
+    if rule == 2 {
+        return qnt_rm_unused(tags, values, n, x);
+    }
+    if rule == 4 {
+        return miniscope_distribute(tags, values, x);
+    }
+    if rule == 5 {
+        return miniscope_split(tags, values, n, x);
+    }
+    miniscope_ite(tags, values, n, x)
+}
+
 // The rule of a code on the conclusion at x, which has passed its checks. Rule 3 leaves zeroes past the count.
 fn apply(
     tags: &mut [u32],
@@ -52,22 +73,10 @@ fn apply(
     ensures { λ r. ⌜ Judged n rule (answerOf (ruleOutcome (now (tags .entry)) (now (values .entry)) n rule (x .0))) r (now (tags .entry)) (now (values .entry)) (now (tags .exit)) (now (values .exit)) ⌝ }
     ensures { λ _. ⌜ Index (now (tags .entry)) (now (values .entry)) n (now (index .exit)) ⌝ }
 {
-    if rule == 1 {
-        return qnt_join(tags, values, x);
-    }
-    if rule == 2 {
-        return qnt_rm_unused(tags, values, n, x);
-    }
     if rule == 3 {
         return qnt_cnf(tags, values, index, n, x);
     }
-    if rule == 4 {
-        return miniscope_distribute(tags, values, x);
-    }
-    if rule == 5 {
-        return miniscope_split(tags, values, n, x);
-    }
-    miniscope_ite(tags, values, n, x)
+    apply_reading(tags, values, n, rule, x)
 }
 
 // The checks before the rule, after the pool check, whose answer is `checked`: the refusal, or an acceptance.

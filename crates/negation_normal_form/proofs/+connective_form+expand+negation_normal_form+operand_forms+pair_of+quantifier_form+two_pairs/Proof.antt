@@ -186,16 +186,16 @@ connective-form-enum-told : (t : ℕ) → connective-form-lts.Need-enum-told (co
 connective-form-enum-told t c = search needs
 
 connective-form-same-length : (t : ℕ) → connective-form-lts.Need-same-length (connective-form-calls t) (connective-form-at t) connective-form.Post
-connective-form-same-length t c = search needs
+connective-form-same-length t c = c .before .before .before .before .before .before .before .before .before .tags .given
 
 connective-form-same-length-2 : (t : ℕ) → connective-form-lts.Need-same-length-2 (connective-form-calls t) (connective-form-at t) connective-form.Post
-connective-form-same-length-2 t c = search needs
+connective-form-same-length-2 t c = c .before .before .before .before .before .before .before .values .given
 
 connective-form-same-length-3 : (t : ℕ) → connective-form-lts.Need-same-length-3 (connective-form-calls t) (connective-form-at t) connective-form.Post
-connective-form-same-length-3 t c = search needs
+connective-form-same-length-3 t c = c .before .before .before .before .before .memo .given
 
 connective-form-same-length-4 : (t : ℕ) → connective-form-lts.Need-same-length-4 (connective-form-calls t) (connective-form-at t) connective-form.Post
-connective-form-same-length-4 t c = search needs
+connective-form-same-length-4 t c = c .before .before .before .row .given
 
 connective-form-returns : (t : ℕ) → connective-form-lts.Need-returns (connective-form-calls t) (connective-form-at t) connective-form.Post
 connective-form-returns t c =
@@ -212,16 +212,25 @@ connective-form-put-many-requires t c κs =
     (state-after normal _ _ _ _ _ _ _ _ _ (at-operand-forms .operand-forms .ensures .0 .builds) _ _ (at-m .m .given .1), (omega (arith, at-row .row .given, start .pre .1 .1 .0), (start .pre .1 .1 .1 .0, index-at _ _ _ _ _ _ (at-m .m .given .1) (at-operand-forms .operand-forms .ensures .1))))
 
 connective-form-same-length-5 : (t : ℕ) → connective-form-lts.Need-same-length-5 (connective-form-calls t) (connective-form-at t) connective-form.Post
-connective-form-same-length-5 t c = search needs
+connective-form-same-length-5 t c =
+    let at-tags2 = c .before .before .before .before .before in
+    let at-tags = at-tags2 .before .before .before .before .before .before .before .before .before .before .before .before .before .before .before .before .before in
+    at-tags2 .tags2 .given ∙ at-tags .tags .given
 
 connective-form-same-length-6 : (t : ℕ) → connective-form-lts.Need-same-length-6 (connective-form-calls t) (connective-form-at t) connective-form.Post
-connective-form-same-length-6 t c = search needs
+connective-form-same-length-6 t c =
+    let at-values2 = c .before .before .before in
+    let at-values = at-values2 .before .before .before .before .before .before .before .before .before .before .before .before .before .before .before .before .before in
+    at-values2 .values2 .given ∙ at-values .values .given
 
 connective-form-same-length-7 : (t : ℕ) → connective-form-lts.Need-same-length-7 (connective-form-calls t) (connective-form-at t) connective-form.Post
-connective-form-same-length-7 t c = search needs
+connective-form-same-length-7 t c = c .before .before .before .before .before .before .before .before .before .before .before .before .before .before .before .before .before .before .memo .given
 
 connective-form-same-length-8 : (t : ℕ) → connective-form-lts.Need-same-length-8 (connective-form-calls t) (connective-form-at t) connective-form.Post
-connective-form-same-length-8 t c = search needs
+connective-form-same-length-8 t c =
+    let at-row2 = c .before in
+    let at-row = at-row2 .before .before .before .before .before .before .before .before .before .before .before .before .before .before .before in
+    at-row2 .row2 .given ∙ at-row .row .given
 
 connective-form-returns-2 : (t : ℕ) → connective-form-lts.Need-returns-2 (connective-form-calls t) (connective-form-at t) connective-form.Post
 connective-form-returns-2 t c =
@@ -319,40 +328,40 @@ expand-quantifier-form-requires t c κs =
     (omega (arith, start .pre .0), (start .pre .1 .0, (start .pre .1 .1 .0, (start .pre .1 .1 .1 .0, (sym (at-view-of .view-of .ensures) ∙ at-view6 .view6 .given .1, start .pre .1 .1 .1 .1)))))
 
 expand-same-length : (t : ℕ) → expand-lts.Need-same-length (expand-calls t) (expand-at t) expand.Post
-expand-same-length t c = search needs
+expand-same-length t c = c .before .before .before .tags .given
 
 expand-same-length-2 : (t : ℕ) → expand-lts.Need-same-length-2 (expand-calls t) (expand-at t) expand.Post
-expand-same-length-2 t c = search needs
+expand-same-length-2 t c = c .before .values .given
 
 expand-returns : (t : ℕ) → expand-lts.Need-returns (expand-calls t) (expand-at t) expand.Post
 expand-returns t c = search (expands, indexings)
 
 expand-same-length-3 : (t : ℕ) → expand-lts.Need-same-length-3 (expand-calls t) (expand-at t) expand.Post
-expand-same-length-3 t c = search needs
+expand-same-length-3 t c = c .before .before .before .before .before .before .before .tags2 .given
 
 expand-same-length-4 : (t : ℕ) → expand-lts.Need-same-length-4 (expand-calls t) (expand-at t) expand.Post
-expand-same-length-4 t c = search needs
+expand-same-length-4 t c = c .before .before .before .before .before .values2 .given
 
 expand-same-length-5 : (t : ℕ) → expand-lts.Need-same-length-5 (expand-calls t) (expand-at t) expand.Post
-expand-same-length-5 t c = search needs
+expand-same-length-5 t c = c .before .before .before .memo .given
 
 expand-same-length-6 : (t : ℕ) → expand-lts.Need-same-length-6 (expand-calls t) (expand-at t) expand.Post
-expand-same-length-6 t c = search needs
+expand-same-length-6 t c = c .before .row .given
 
 expand-returns-2 : (t : ℕ) → expand-lts.Need-returns-2 (expand-calls t) (expand-at t) expand.Post
 expand-returns-2 t c = search (expands, indexings)
 
 expand-same-length-7 : (t : ℕ) → expand-lts.Need-same-length-7 (expand-calls t) (expand-at t) expand.Post
-expand-same-length-7 t c = search needs
+expand-same-length-7 t c = c .before .before .before .before .before .before .before .tags3 .given
 
 expand-same-length-8 : (t : ℕ) → expand-lts.Need-same-length-8 (expand-calls t) (expand-at t) expand.Post
-expand-same-length-8 t c = search needs
+expand-same-length-8 t c = c .before .before .before .before .before .values3 .given
 
 expand-same-length-9 : (t : ℕ) → expand-lts.Need-same-length-9 (expand-calls t) (expand-at t) expand.Post
-expand-same-length-9 t c = search needs
+expand-same-length-9 t c = c .before .before .before .memo2 .given
 
 expand-same-length-10 : (t : ℕ) → expand-lts.Need-same-length-10 (expand-calls t) (expand-at t) expand.Post
-expand-same-length-10 t c = search needs
+expand-same-length-10 t c = c .before .row2 .given
 
 expand-returns-3 : (t : ℕ) → expand-lts.Need-returns-3 (expand-calls t) (expand-at t) expand.Post
 expand-returns-3 t c =
@@ -360,61 +369,61 @@ expand-returns-3 t c =
     (at-connective-form .connective-form .ensures .0, at-connective-form .connective-form .ensures .1)
 
 expand-same-length-11 : (t : ℕ) → expand-lts.Need-same-length-11 (expand-calls t) (expand-at t) expand.Post
-expand-same-length-11 t c = search needs
+expand-same-length-11 t c = c .before .before .before .before .before .before .before .tags4 .given
 
 expand-same-length-12 : (t : ℕ) → expand-lts.Need-same-length-12 (expand-calls t) (expand-at t) expand.Post
-expand-same-length-12 t c = search needs
+expand-same-length-12 t c = c .before .before .before .before .before .values4 .given
 
 expand-same-length-13 : (t : ℕ) → expand-lts.Need-same-length-13 (expand-calls t) (expand-at t) expand.Post
-expand-same-length-13 t c = search needs
+expand-same-length-13 t c = c .before .before .before .memo3 .given
 
 expand-same-length-14 : (t : ℕ) → expand-lts.Need-same-length-14 (expand-calls t) (expand-at t) expand.Post
-expand-same-length-14 t c = search needs
+expand-same-length-14 t c = c .before .row3 .given
 
 expand-returns-4 : (t : ℕ) → expand-lts.Need-returns-4 (expand-calls t) (expand-at t) expand.Post
 expand-returns-4 t c = search (expands, indexings)
 
 expand-same-length-15 : (t : ℕ) → expand-lts.Need-same-length-15 (expand-calls t) (expand-at t) expand.Post
-expand-same-length-15 t c = search needs
+expand-same-length-15 t c = c .before .before .before .before .before .before .before .tags5 .given
 
 expand-same-length-16 : (t : ℕ) → expand-lts.Need-same-length-16 (expand-calls t) (expand-at t) expand.Post
-expand-same-length-16 t c = search needs
+expand-same-length-16 t c = c .before .before .before .before .before .values5 .given
 
 expand-same-length-17 : (t : ℕ) → expand-lts.Need-same-length-17 (expand-calls t) (expand-at t) expand.Post
-expand-same-length-17 t c = search needs
+expand-same-length-17 t c = c .before .before .before .memo4 .given
 
 expand-same-length-18 : (t : ℕ) → expand-lts.Need-same-length-18 (expand-calls t) (expand-at t) expand.Post
-expand-same-length-18 t c = search needs
+expand-same-length-18 t c = c .before .row4 .given
 
 expand-returns-5 : (t : ℕ) → expand-lts.Need-returns-5 (expand-calls t) (expand-at t) expand.Post
 expand-returns-5 t c = search (expands, indexings)
 
 expand-same-length-19 : (t : ℕ) → expand-lts.Need-same-length-19 (expand-calls t) (expand-at t) expand.Post
-expand-same-length-19 t c = search needs
+expand-same-length-19 t c = c .before .before .before .before .before .before .before .tags6 .given
 
 expand-same-length-20 : (t : ℕ) → expand-lts.Need-same-length-20 (expand-calls t) (expand-at t) expand.Post
-expand-same-length-20 t c = search needs
+expand-same-length-20 t c = c .before .before .before .before .before .values6 .given
 
 expand-same-length-21 : (t : ℕ) → expand-lts.Need-same-length-21 (expand-calls t) (expand-at t) expand.Post
-expand-same-length-21 t c = search needs
+expand-same-length-21 t c = c .before .before .before .memo5 .given
 
 expand-same-length-22 : (t : ℕ) → expand-lts.Need-same-length-22 (expand-calls t) (expand-at t) expand.Post
-expand-same-length-22 t c = search needs
+expand-same-length-22 t c = c .before .row5 .given
 
 expand-returns-6 : (t : ℕ) → expand-lts.Need-returns-6 (expand-calls t) (expand-at t) expand.Post
 expand-returns-6 t c = search (expands, indexings)
 
 expand-same-length-23 : (t : ℕ) → expand-lts.Need-same-length-23 (expand-calls t) (expand-at t) expand.Post
-expand-same-length-23 t c = search needs
+expand-same-length-23 t c = c .before .before .before .before .before .before .before .tags7 .given
 
 expand-same-length-24 : (t : ℕ) → expand-lts.Need-same-length-24 (expand-calls t) (expand-at t) expand.Post
-expand-same-length-24 t c = search needs
+expand-same-length-24 t c = c .before .before .before .before .before .values7 .given
 
 expand-same-length-25 : (t : ℕ) → expand-lts.Need-same-length-25 (expand-calls t) (expand-at t) expand.Post
-expand-same-length-25 t c = search needs
+expand-same-length-25 t c = c .before .before .before .memo6 .given
 
 expand-same-length-26 : (t : ℕ) → expand-lts.Need-same-length-26 (expand-calls t) (expand-at t) expand.Post
-expand-same-length-26 t c = search needs
+expand-same-length-26 t c = c .before .row6 .given
 
 expand-returns-7 : (t : ℕ) → expand-lts.Need-returns-7 (expand-calls t) (expand-at t) expand.Post
 expand-returns-7 t c =
@@ -452,16 +461,16 @@ negation-normal-form-enum-told : (t : ℕ) → negation-normal-form-lts.Need-enu
 negation-normal-form-enum-told t c = search needs
 
 negation-normal-form-same-length : (t : ℕ) → negation-normal-form-lts.Need-same-length (negation-normal-form-calls t) (negation-normal-form-at t) negation-normal-form.Post
-negation-normal-form-same-length t c = search needs
+negation-normal-form-same-length t c = c .before .before .before .before .before .before .before .before .before .tags .given
 
 negation-normal-form-same-length-2 : (t : ℕ) → negation-normal-form-lts.Need-same-length-2 (negation-normal-form-calls t) (negation-normal-form-at t) negation-normal-form.Post
-negation-normal-form-same-length-2 t c = search needs
+negation-normal-form-same-length-2 t c = c .before .before .before .before .before .before .before .values .given
 
 negation-normal-form-same-length-3 : (t : ℕ) → negation-normal-form-lts.Need-same-length-3 (negation-normal-form-calls t) (negation-normal-form-at t) negation-normal-form.Post
-negation-normal-form-same-length-3 t c = search needs
+negation-normal-form-same-length-3 t c = c .before .before .before .before .before .memo .given
 
 negation-normal-form-same-length-4 : (t : ℕ) → negation-normal-form-lts.Need-same-length-4 (negation-normal-form-calls t) (negation-normal-form-at t) negation-normal-form.Post
-negation-normal-form-same-length-4 t c = search needs
+negation-normal-form-same-length-4 t c = c .before .before .before .row .given
 
 negation-normal-form-returns-2 : (t : ℕ) → negation-normal-form-lts.Need-returns-2 (negation-normal-form-calls t) (negation-normal-form-at t) negation-normal-form.Post
 negation-normal-form-returns-2 t c =
@@ -491,16 +500,16 @@ negation-normal-form-slice-write-memo t c =
     search needs
 
 negation-normal-form-same-length-5 : (t : ℕ) → negation-normal-form-lts.Need-same-length-5 (negation-normal-form-calls t) (negation-normal-form-at t) negation-normal-form.Post
-negation-normal-form-same-length-5 t c = search needs
+negation-normal-form-same-length-5 t c = c .before .before .before .before .before .before .before .before .before .before .tags .given
 
 negation-normal-form-same-length-6 : (t : ℕ) → negation-normal-form-lts.Need-same-length-6 (negation-normal-form-calls t) (negation-normal-form-at t) negation-normal-form.Post
-negation-normal-form-same-length-6 t c = search needs
+negation-normal-form-same-length-6 t c = c .before .before .before .before .before .before .before .before .values .given
 
 negation-normal-form-same-length-7 : (t : ℕ) → negation-normal-form-lts.Need-same-length-7 (negation-normal-form-calls t) (negation-normal-form-at t) negation-normal-form.Post
 negation-normal-form-same-length-7 t c = search needs
 
 negation-normal-form-same-length-8 : (t : ℕ) → negation-normal-form-lts.Need-same-length-8 (negation-normal-form-calls t) (negation-normal-form-at t) negation-normal-form.Post
-negation-normal-form-same-length-8 t c = search needs
+negation-normal-form-same-length-8 t c = c .before .before .before .before .row .given
 
 negation-normal-form-returns-3 : (t : ℕ) → negation-normal-form-lts.Need-returns-3 (negation-normal-form-calls t) (negation-normal-form-at t) negation-normal-form.Post
 negation-normal-form-returns-3 t c =
@@ -555,16 +564,16 @@ operand-forms-enum-told : (t : ℕ) → operand-forms-lts.Need-enum-told (operan
 operand-forms-enum-told t c = search needs
 
 operand-forms-same-length-3 : (t : ℕ) → operand-forms-lts.Need-same-length-3 (operand-forms-calls t) (operand-forms-at t) operand-forms.Post
-operand-forms-same-length-3 t c = search needs
+operand-forms-same-length-3 t c = c .before .before .before .before .before .before .before .before .before .tags .given
 
 operand-forms-same-length-4 : (t : ℕ) → operand-forms-lts.Need-same-length-4 (operand-forms-calls t) (operand-forms-at t) operand-forms.Post
-operand-forms-same-length-4 t c = search needs
+operand-forms-same-length-4 t c = c .before .before .before .before .before .before .before .values .given
 
 operand-forms-same-length-5 : (t : ℕ) → operand-forms-lts.Need-same-length-5 (operand-forms-calls t) (operand-forms-at t) operand-forms.Post
-operand-forms-same-length-5 t c = search needs
+operand-forms-same-length-5 t c = c .before .before .before .before .before .memo .given
 
 operand-forms-same-length-6 : (t : ℕ) → operand-forms-lts.Need-same-length-6 (operand-forms-calls t) (operand-forms-at t) operand-forms.Post
-operand-forms-same-length-6 t c = search needs
+operand-forms-same-length-6 t c = c .before .before .before .row .given
 
 operand-forms-returns-2 : (t : ℕ) → operand-forms-lts.Need-returns-2 (operand-forms-calls t) (operand-forms-at t) operand-forms.Post
 operand-forms-returns-2 t c = search (operand-walks, indexings)
@@ -585,16 +594,28 @@ operand-forms-operand-forms-requires t c κs =
     (omega (arith, run-short _ _ _ _ (start .pre .1 .0 .state) _ (start .pre .1 .1 .1 .0) _ (at-operands .operands .ensures), at-if1 .if1 .left, start .pre .0), (ready-after normal _ _ _ _ _ _ _ _ _ (j .formed) _ _ (at-m .m .given .1) (omega (arith, at-memo .memo .given, start .pre .1 .0 .room)), (omega (arith, at-row .row .given, start .pre .1 .1 .0), (start .pre .1 .1 .1 .0, (before-same _ _ _ _ _ (j .formed .puts .left) _ (start .pre .1 .1 .1 .1 .0), index-at _ _ _ _ _ _ (at-m .m .given .1) (at-negation-normal-form .negation-normal-form .ensures .1))))))
 
 operand-forms-same-length-7 : (t : ℕ) → operand-forms-lts.Need-same-length-7 (operand-forms-calls t) (operand-forms-at t) operand-forms.Post
-operand-forms-same-length-7 t c = search needs
+operand-forms-same-length-7 t c =
+    let at-tags2 = c .before .before .before .before .before .before .before in
+    let at-tags = at-tags2 .before .before .before .before .before .before .before .before .before .before .before .before .before .before .before .before .before in
+    at-tags2 .tags2 .given ∙ at-tags .tags .given
 
 operand-forms-same-length-8 : (t : ℕ) → operand-forms-lts.Need-same-length-8 (operand-forms-calls t) (operand-forms-at t) operand-forms.Post
-operand-forms-same-length-8 t c = search needs
+operand-forms-same-length-8 t c =
+    let at-values2 = c .before .before .before .before .before in
+    let at-values = at-values2 .before .before .before .before .before .before .before .before .before .before .before .before .before .before .before .before .before in
+    at-values2 .values2 .given ∙ at-values .values .given
 
 operand-forms-same-length-9 : (t : ℕ) → operand-forms-lts.Need-same-length-9 (operand-forms-calls t) (operand-forms-at t) operand-forms.Post
-operand-forms-same-length-9 t c = search needs
+operand-forms-same-length-9 t c =
+    let at-memo2 = c .before .before .before in
+    let at-memo = at-memo2 .before .before .before .before .before .before .before .before .before .before .before .before .before .before .before .before .before in
+    at-memo2 .memo2 .given ∙ at-memo .memo .given
 
 operand-forms-same-length-10 : (t : ℕ) → operand-forms-lts.Need-same-length-10 (operand-forms-calls t) (operand-forms-at t) operand-forms.Post
-operand-forms-same-length-10 t c = search needs
+operand-forms-same-length-10 t c =
+    let at-row2 = c .before in
+    let at-row = at-row2 .before .before .before .before .before .before .before .before .before .before .before .before .before .before .before .before .before in
+    at-row2 .row2 .given ∙ at-row .row .given
 
 operand-forms-returns-3 : (t : ℕ) → operand-forms-lts.Need-returns-3 (operand-forms-calls t) (operand-forms-at t) operand-forms.Post
 operand-forms-returns-3 t c =
@@ -617,16 +638,16 @@ pair-of-enum-told : (t : ℕ) → pair-of-lts.Need-enum-told (pair-of-calls t) (
 pair-of-enum-told t c = search needs
 
 pair-of-same-length : (t : ℕ) → pair-of-lts.Need-same-length (pair-of-calls t) (pair-of-at t) pair-of.Post
-pair-of-same-length t c = search needs
+pair-of-same-length t c = c .before .before .before .before .before .before .before .before .before .tags .given
 
 pair-of-same-length-2 : (t : ℕ) → pair-of-lts.Need-same-length-2 (pair-of-calls t) (pair-of-at t) pair-of.Post
-pair-of-same-length-2 t c = search needs
+pair-of-same-length-2 t c = c .before .before .before .before .before .before .before .values .given
 
 pair-of-same-length-3 : (t : ℕ) → pair-of-lts.Need-same-length-3 (pair-of-calls t) (pair-of-at t) pair-of.Post
-pair-of-same-length-3 t c = search needs
+pair-of-same-length-3 t c = c .before .before .before .before .before .memo .given
 
 pair-of-same-length-4 : (t : ℕ) → pair-of-lts.Need-same-length-4 (pair-of-calls t) (pair-of-at t) pair-of.Post
-pair-of-same-length-4 t c = search needs
+pair-of-same-length-4 t c = c .before .before .before .row .given
 
 pair-of-returns : (t : ℕ) → pair-of-lts.Need-returns (pair-of-calls t) (pair-of-at t) pair-of.Post
 pair-of-returns t c = search (pairs, indexings)
@@ -648,16 +669,28 @@ pair-of-enum-told-2 : (t : ℕ) → pair-of-lts.Need-enum-told-2 (pair-of-calls 
 pair-of-enum-told-2 t c = search needs
 
 pair-of-same-length-5 : (t : ℕ) → pair-of-lts.Need-same-length-5 (pair-of-calls t) (pair-of-at t) pair-of.Post
-pair-of-same-length-5 t c = search needs
+pair-of-same-length-5 t c =
+    let at-tags2 = c .before .before .before .before .before .before .before .before .before in
+    let at-tags = at-tags2 .before .before .before .before .before .before .before .before .before .before .before .before .before .before .before .before .before in
+    at-tags2 .tags2 .given ∙ at-tags .tags .given
 
 pair-of-same-length-6 : (t : ℕ) → pair-of-lts.Need-same-length-6 (pair-of-calls t) (pair-of-at t) pair-of.Post
-pair-of-same-length-6 t c = search needs
+pair-of-same-length-6 t c =
+    let at-values2 = c .before .before .before .before .before .before .before in
+    let at-values = at-values2 .before .before .before .before .before .before .before .before .before .before .before .before .before .before .before .before .before in
+    at-values2 .values2 .given ∙ at-values .values .given
 
 pair-of-same-length-7 : (t : ℕ) → pair-of-lts.Need-same-length-7 (pair-of-calls t) (pair-of-at t) pair-of.Post
-pair-of-same-length-7 t c = search needs
+pair-of-same-length-7 t c =
+    let at-memo2 = c .before .before .before .before .before in
+    let at-memo = at-memo2 .before .before .before .before .before .before .before .before .before .before .before .before .before .before .before .before .before in
+    at-memo2 .memo2 .given ∙ at-memo .memo .given
 
 pair-of-same-length-8 : (t : ℕ) → pair-of-lts.Need-same-length-8 (pair-of-calls t) (pair-of-at t) pair-of.Post
-pair-of-same-length-8 t c = search needs
+pair-of-same-length-8 t c =
+    let at-row2 = c .before .before .before in
+    let at-row = at-row2 .before .before .before .before .before .before .before .before .before .before .before .before .before .before .before .before .before in
+    at-row2 .row2 .given ∙ at-row .row .given
 
 pair-of-returns-2 : (t : ℕ) → pair-of-lts.Need-returns-2 (pair-of-calls t) (pair-of-at t) pair-of.Post
 pair-of-returns-2 t c =
@@ -677,23 +710,26 @@ pair-of-same-length-9 t c =
     let at-tags3 = c .before .before .before in
     let at-tags2 = at-tags3 .before .before .before .before .before .before .before .before .before .before .before .before .before .before .before in
     let at-tags = at-tags2 .before .before .before .before .before .before .before .before .before .before .before .before .before .before .before .before .before in
-    omega (arith, at-tags .tags .given, at-tags2 .tags2 .given, at-tags3 .tags3 .given)
+    at-tags3 .tags3 .given ∙ (at-tags2 .tags2 .given ∙ at-tags .tags .given)
 
 pair-of-same-length-10 : (t : ℕ) → pair-of-lts.Need-same-length-10 (pair-of-calls t) (pair-of-at t) pair-of.Post
 pair-of-same-length-10 t c =
     let at-values3 = c .before in
     let at-values2 = at-values3 .before .before .before .before .before .before .before .before .before .before .before .before .before .before .before in
     let at-values = at-values2 .before .before .before .before .before .before .before .before .before .before .before .before .before .before .before .before .before in
-    omega (arith, at-values .values .given, at-values2 .values2 .given, at-values3 .values3 .given)
+    at-values3 .values3 .given ∙ (at-values2 .values2 .given ∙ at-values .values .given)
 
 pair-of-same-length-11 : (t : ℕ) → pair-of-lts.Need-same-length-11 (pair-of-calls t) (pair-of-at t) pair-of.Post
 pair-of-same-length-11 t c =
     let at-memo2 = c .before .before .before .before .before .before .before .before .before .before .before .before .before .before in
     let at-memo = at-memo2 .before .before .before .before .before .before .before .before .before .before .before .before .before .before .before .before .before in
-    omega (arith, at-memo .memo .given, at-memo2 .memo2 .given)
+    at-memo2 .memo2 .given ∙ at-memo .memo .given
 
 pair-of-same-length-12 : (t : ℕ) → pair-of-lts.Need-same-length-12 (pair-of-calls t) (pair-of-at t) pair-of.Post
-pair-of-same-length-12 t c = search needs
+pair-of-same-length-12 t c =
+    let at-row2 = c .before .before .before .before .before .before .before .before .before .before .before .before in
+    let at-row = at-row2 .before .before .before .before .before .before .before .before .before .before .before .before .before .before .before .before .before in
+    at-row2 .row2 .given ∙ at-row .row .given
 
 pair-of-returns-3 : (t : ℕ) → pair-of-lts.Need-returns-3 (pair-of-calls t) (pair-of-at t) pair-of.Post
 pair-of-returns-3 t c =
@@ -717,16 +753,16 @@ quantifier-form-enum-told : (t : ℕ) → quantifier-form-lts.Need-enum-told (qu
 quantifier-form-enum-told t c = search needs
 
 quantifier-form-same-length : (t : ℕ) → quantifier-form-lts.Need-same-length (quantifier-form-calls t) (quantifier-form-at t) quantifier-form.Post
-quantifier-form-same-length t c = search needs
+quantifier-form-same-length t c = c .before .before .before .before .before .before .before .before .before .tags .given
 
 quantifier-form-same-length-2 : (t : ℕ) → quantifier-form-lts.Need-same-length-2 (quantifier-form-calls t) (quantifier-form-at t) quantifier-form.Post
-quantifier-form-same-length-2 t c = search needs
+quantifier-form-same-length-2 t c = c .before .before .before .before .before .before .before .values .given
 
 quantifier-form-same-length-3 : (t : ℕ) → quantifier-form-lts.Need-same-length-3 (quantifier-form-calls t) (quantifier-form-at t) quantifier-form.Post
-quantifier-form-same-length-3 t c = search needs
+quantifier-form-same-length-3 t c = c .before .before .before .before .before .memo .given
 
 quantifier-form-same-length-4 : (t : ℕ) → quantifier-form-lts.Need-same-length-4 (quantifier-form-calls t) (quantifier-form-at t) quantifier-form.Post
-quantifier-form-same-length-4 t c = search needs
+quantifier-form-same-length-4 t c = c .before .before .before .row .given
 
 quantifier-form-returns : (t : ℕ) → quantifier-form-lts.Need-returns (quantifier-form-calls t) (quantifier-form-at t) quantifier-form.Post
 quantifier-form-returns t c =
@@ -743,16 +779,25 @@ quantifier-form-put-quantifier-requires t c κs =
     (state-after normal _ _ _ _ _ _ _ _ _ (at-body .negation-normal-form .ensures .0 .formed) _ _ (at-form .form .given .1), (omega (arith, at-row .row .given, start .pre .1 .1 .0), (start .pre .1 .1 .1 .0, index-at _ _ _ _ _ _ (at-form .form .given .1) (at-body .negation-normal-form .ensures .1))))
 
 quantifier-form-same-length-5 : (t : ℕ) → quantifier-form-lts.Need-same-length-5 (quantifier-form-calls t) (quantifier-form-at t) quantifier-form.Post
-quantifier-form-same-length-5 t c = search needs
+quantifier-form-same-length-5 t c =
+    let at-tags2 = c .before .before .before .before .before in
+    let at-tags = at-tags2 .before .before .before .before .before .before .before .before .before .before .before .before .before .before .before .before in
+    at-tags2 .tags2 .given ∙ at-tags .tags .given
 
 quantifier-form-same-length-6 : (t : ℕ) → quantifier-form-lts.Need-same-length-6 (quantifier-form-calls t) (quantifier-form-at t) quantifier-form.Post
-quantifier-form-same-length-6 t c = search needs
+quantifier-form-same-length-6 t c =
+    let at-values2 = c .before .before .before in
+    let at-values = at-values2 .before .before .before .before .before .before .before .before .before .before .before .before .before .before .before .before in
+    at-values2 .values2 .given ∙ at-values .values .given
 
 quantifier-form-same-length-7 : (t : ℕ) → quantifier-form-lts.Need-same-length-7 (quantifier-form-calls t) (quantifier-form-at t) quantifier-form.Post
-quantifier-form-same-length-7 t c = search needs
+quantifier-form-same-length-7 t c = c .before .before .before .before .before .before .before .before .before .before .before .before .before .before .before .before .before .memo .given
 
 quantifier-form-same-length-8 : (t : ℕ) → quantifier-form-lts.Need-same-length-8 (quantifier-form-calls t) (quantifier-form-at t) quantifier-form.Post
-quantifier-form-same-length-8 t c = search needs
+quantifier-form-same-length-8 t c =
+    let at-row2 = c .before in
+    let at-row = at-row2 .before .before .before .before .before .before .before .before .before .before .before .before .before .before in
+    at-row2 .row2 .given ∙ at-row .row .given
 
 quantifier-form-returns-2 : (t : ℕ) → quantifier-form-lts.Need-returns-2 (quantifier-form-calls t) (quantifier-form-at t) quantifier-form.Post
 quantifier-form-returns-2 t c =
@@ -774,16 +819,16 @@ two-pairs-enum-told : (t : ℕ) → two-pairs-lts.Need-enum-told (two-pairs-call
 two-pairs-enum-told t c = search needs
 
 two-pairs-same-length : (t : ℕ) → two-pairs-lts.Need-same-length (two-pairs-calls t) (two-pairs-at t) two-pairs.Post
-two-pairs-same-length t c = search needs
+two-pairs-same-length t c = c .before .before .before .before .before .before .before .before .before .tags .given
 
 two-pairs-same-length-2 : (t : ℕ) → two-pairs-lts.Need-same-length-2 (two-pairs-calls t) (two-pairs-at t) two-pairs.Post
-two-pairs-same-length-2 t c = search needs
+two-pairs-same-length-2 t c = c .before .before .before .before .before .before .before .values .given
 
 two-pairs-same-length-3 : (t : ℕ) → two-pairs-lts.Need-same-length-3 (two-pairs-calls t) (two-pairs-at t) two-pairs.Post
-two-pairs-same-length-3 t c = search needs
+two-pairs-same-length-3 t c = c .before .before .before .before .before .memo .given
 
 two-pairs-same-length-4 : (t : ℕ) → two-pairs-lts.Need-same-length-4 (two-pairs-calls t) (two-pairs-at t) two-pairs.Post
-two-pairs-same-length-4 t c = search needs
+two-pairs-same-length-4 t c = c .before .before .before .row .given
 
 two-pairs-returns : (t : ℕ) → two-pairs-lts.Need-returns (two-pairs-calls t) (two-pairs-at t) two-pairs.Post
 two-pairs-returns t c = search (twos, indexings)
@@ -805,16 +850,28 @@ two-pairs-enum-told-2 : (t : ℕ) → two-pairs-lts.Need-enum-told-2 (two-pairs-
 two-pairs-enum-told-2 t c = search needs
 
 two-pairs-same-length-5 : (t : ℕ) → two-pairs-lts.Need-same-length-5 (two-pairs-calls t) (two-pairs-at t) two-pairs.Post
-two-pairs-same-length-5 t c = search needs
+two-pairs-same-length-5 t c =
+    let at-tags2 = c .before .before .before .before .before .before .before .before .before in
+    let at-tags = at-tags2 .before .before .before .before .before .before .before .before .before .before .before .before .before .before .before .before .before in
+    at-tags2 .tags2 .given ∙ at-tags .tags .given
 
 two-pairs-same-length-6 : (t : ℕ) → two-pairs-lts.Need-same-length-6 (two-pairs-calls t) (two-pairs-at t) two-pairs.Post
-two-pairs-same-length-6 t c = search needs
+two-pairs-same-length-6 t c =
+    let at-values2 = c .before .before .before .before .before .before .before in
+    let at-values = at-values2 .before .before .before .before .before .before .before .before .before .before .before .before .before .before .before .before .before in
+    at-values2 .values2 .given ∙ at-values .values .given
 
 two-pairs-same-length-7 : (t : ℕ) → two-pairs-lts.Need-same-length-7 (two-pairs-calls t) (two-pairs-at t) two-pairs.Post
-two-pairs-same-length-7 t c = search needs
+two-pairs-same-length-7 t c =
+    let at-memo2 = c .before .before .before .before .before in
+    let at-memo = at-memo2 .before .before .before .before .before .before .before .before .before .before .before .before .before .before .before .before .before in
+    at-memo2 .memo2 .given ∙ at-memo .memo .given
 
 two-pairs-same-length-8 : (t : ℕ) → two-pairs-lts.Need-same-length-8 (two-pairs-calls t) (two-pairs-at t) two-pairs.Post
-two-pairs-same-length-8 t c = search needs
+two-pairs-same-length-8 t c =
+    let at-row2 = c .before .before .before in
+    let at-row = at-row2 .before .before .before .before .before .before .before .before .before .before .before .before .before .before .before .before .before in
+    at-row2 .row2 .given ∙ at-row .row .given
 
 two-pairs-returns-2 : (t : ℕ) → two-pairs-lts.Need-returns-2 (two-pairs-calls t) (two-pairs-at t) two-pairs.Post
 two-pairs-returns-2 t c =
@@ -835,23 +892,26 @@ two-pairs-same-length-9 t c =
     let at-tags3 = c .before .before .before in
     let at-tags2 = at-tags3 .before .before .before .before .before .before .before .before .before .before .before .before .before .before .before in
     let at-tags = at-tags2 .before .before .before .before .before .before .before .before .before .before .before .before .before .before .before .before .before in
-    omega (arith, at-tags .tags .given, at-tags2 .tags2 .given, at-tags3 .tags3 .given)
+    at-tags3 .tags3 .given ∙ (at-tags2 .tags2 .given ∙ at-tags .tags .given)
 
 two-pairs-same-length-10 : (t : ℕ) → two-pairs-lts.Need-same-length-10 (two-pairs-calls t) (two-pairs-at t) two-pairs.Post
 two-pairs-same-length-10 t c =
     let at-values3 = c .before in
     let at-values2 = at-values3 .before .before .before .before .before .before .before .before .before .before .before .before .before .before .before in
     let at-values = at-values2 .before .before .before .before .before .before .before .before .before .before .before .before .before .before .before .before .before in
-    omega (arith, at-values .values .given, at-values2 .values2 .given, at-values3 .values3 .given)
+    at-values3 .values3 .given ∙ (at-values2 .values2 .given ∙ at-values .values .given)
 
 two-pairs-same-length-11 : (t : ℕ) → two-pairs-lts.Need-same-length-11 (two-pairs-calls t) (two-pairs-at t) two-pairs.Post
 two-pairs-same-length-11 t c =
     let at-memo2 = c .before .before .before .before .before .before .before .before .before .before .before .before .before .before in
     let at-memo = at-memo2 .before .before .before .before .before .before .before .before .before .before .before .before .before .before .before .before .before in
-    omega (arith, at-memo .memo .given, at-memo2 .memo2 .given)
+    at-memo2 .memo2 .given ∙ at-memo .memo .given
 
 two-pairs-same-length-12 : (t : ℕ) → two-pairs-lts.Need-same-length-12 (two-pairs-calls t) (two-pairs-at t) two-pairs.Post
-two-pairs-same-length-12 t c = search needs
+two-pairs-same-length-12 t c =
+    let at-row2 = c .before .before .before .before .before .before .before .before .before .before .before .before in
+    let at-row = at-row2 .before .before .before .before .before .before .before .before .before .before .before .before .before .before .before .before .before in
+    at-row2 .row2 .given ∙ at-row .row .given
 
 two-pairs-returns-3 : (t : ℕ) → two-pairs-lts.Need-returns-3 (two-pairs-calls t) (two-pairs-at t) two-pairs.Post
 two-pairs-returns-3 t c =

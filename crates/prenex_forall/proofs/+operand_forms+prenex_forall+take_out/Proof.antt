@@ -1,6 +1,6 @@
 use borrow.Author.Needs.{needs}
 use native.Mathlib.Omega.{arith}
-use mathlib.Core.Path.{refl}
+use mathlib.Core.Path.{refl, _∙_}
 use Rattle.building.specs.Walk.{taken-out}
 use Rattle.building.proofs.terms.Cells.{parts, run-short}
 use Rattle.building.proofs.build.Walks.{slot-first, before-same, operand-before, state-after, place-small, ready-after, one-term, form-full, form-kept, operand-walks, operands-next}
@@ -129,16 +129,16 @@ operand-forms-enum-told : (t : ℕ) → operand-forms-lts.Need-enum-told (operan
 operand-forms-enum-told t c = search needs
 
 operand-forms-same-length-3 : (t : ℕ) → operand-forms-lts.Need-same-length-3 (operand-forms-calls t) (operand-forms-at t) operand-forms.Post
-operand-forms-same-length-3 t c = search needs
+operand-forms-same-length-3 t c = c .before .before .before .before .before .before .before .before .before .tags .given
 
 operand-forms-same-length-4 : (t : ℕ) → operand-forms-lts.Need-same-length-4 (operand-forms-calls t) (operand-forms-at t) operand-forms.Post
-operand-forms-same-length-4 t c = search needs
+operand-forms-same-length-4 t c = c .before .before .before .before .before .before .before .values .given
 
 operand-forms-same-length-5 : (t : ℕ) → operand-forms-lts.Need-same-length-5 (operand-forms-calls t) (operand-forms-at t) operand-forms.Post
-operand-forms-same-length-5 t c = search needs
+operand-forms-same-length-5 t c = c .before .before .before .before .before .memo .given
 
 operand-forms-same-length-6 : (t : ℕ) → operand-forms-lts.Need-same-length-6 (operand-forms-calls t) (operand-forms-at t) operand-forms.Post
-operand-forms-same-length-6 t c = search needs
+operand-forms-same-length-6 t c = c .before .before .before .row .given
 
 operand-forms-returns-2 : (t : ℕ) → operand-forms-lts.Need-returns-2 (operand-forms-calls t) (operand-forms-at t) operand-forms.Post
 operand-forms-returns-2 t c = search (operand-walks, indexings)
@@ -159,16 +159,28 @@ operand-forms-operand-forms-requires t c κs =
     (omega (arith, run-short _ _ _ _ (start .pre .1 .0 .state) _ (start .pre .1 .1 .1 .0) _ (at-operands .operands .ensures), at-if1 .if1 .left, start .pre .0), (ready-after taken-out _ _ _ _ _ _ _ _ _ (j .formed) _ _ (at-m .m .given .1) (omega (arith, at-memo .memo .given, start .pre .1 .0 .room)), (omega (arith, at-row .row .given, start .pre .1 .1 .0), (start .pre .1 .1 .1 .0, (before-same _ _ _ _ _ (j .formed .puts .left) _ (start .pre .1 .1 .1 .1 .0), index-at _ _ _ _ _ _ (at-m .m .given .1) (at-prenex-forall .prenex-forall .ensures .1))))))
 
 operand-forms-same-length-7 : (t : ℕ) → operand-forms-lts.Need-same-length-7 (operand-forms-calls t) (operand-forms-at t) operand-forms.Post
-operand-forms-same-length-7 t c = search needs
+operand-forms-same-length-7 t c =
+    let at-tags2 = c .before .before .before .before .before .before .before in
+    let at-tags = at-tags2 .before .before .before .before .before .before .before .before .before .before .before .before .before .before .before .before .before in
+    at-tags2 .tags2 .given ∙ at-tags .tags .given
 
 operand-forms-same-length-8 : (t : ℕ) → operand-forms-lts.Need-same-length-8 (operand-forms-calls t) (operand-forms-at t) operand-forms.Post
-operand-forms-same-length-8 t c = search needs
+operand-forms-same-length-8 t c =
+    let at-values2 = c .before .before .before .before .before in
+    let at-values = at-values2 .before .before .before .before .before .before .before .before .before .before .before .before .before .before .before .before .before in
+    at-values2 .values2 .given ∙ at-values .values .given
 
 operand-forms-same-length-9 : (t : ℕ) → operand-forms-lts.Need-same-length-9 (operand-forms-calls t) (operand-forms-at t) operand-forms.Post
-operand-forms-same-length-9 t c = search needs
+operand-forms-same-length-9 t c =
+    let at-memo2 = c .before .before .before in
+    let at-memo = at-memo2 .before .before .before .before .before .before .before .before .before .before .before .before .before .before .before .before .before in
+    at-memo2 .memo2 .given ∙ at-memo .memo .given
 
 operand-forms-same-length-10 : (t : ℕ) → operand-forms-lts.Need-same-length-10 (operand-forms-calls t) (operand-forms-at t) operand-forms.Post
-operand-forms-same-length-10 t c = search needs
+operand-forms-same-length-10 t c =
+    let at-row2 = c .before in
+    let at-row = at-row2 .before .before .before .before .before .before .before .before .before .before .before .before .before .before .before .before .before in
+    at-row2 .row2 .given ∙ at-row .row .given
 
 operand-forms-returns-3 : (t : ℕ) → operand-forms-lts.Need-returns-3 (operand-forms-calls t) (operand-forms-at t) operand-forms.Post
 operand-forms-returns-3 t c =
@@ -210,16 +222,16 @@ prenex-forall-enum-told : (t : ℕ) → prenex-forall-lts.Need-enum-told (prenex
 prenex-forall-enum-told t c = search needs
 
 prenex-forall-same-length : (t : ℕ) → prenex-forall-lts.Need-same-length (prenex-forall-calls t) (prenex-forall-at t) prenex-forall.Post
-prenex-forall-same-length t c = search needs
+prenex-forall-same-length t c = c .before .before .before .before .before .before .before .before .before .tags .given
 
 prenex-forall-same-length-2 : (t : ℕ) → prenex-forall-lts.Need-same-length-2 (prenex-forall-calls t) (prenex-forall-at t) prenex-forall.Post
-prenex-forall-same-length-2 t c = search needs
+prenex-forall-same-length-2 t c = c .before .before .before .before .before .before .before .values .given
 
 prenex-forall-same-length-3 : (t : ℕ) → prenex-forall-lts.Need-same-length-3 (prenex-forall-calls t) (prenex-forall-at t) prenex-forall.Post
-prenex-forall-same-length-3 t c = search needs
+prenex-forall-same-length-3 t c = c .before .before .before .before .before .memo .given
 
 prenex-forall-same-length-4 : (t : ℕ) → prenex-forall-lts.Need-same-length-4 (prenex-forall-calls t) (prenex-forall-at t) prenex-forall.Post
-prenex-forall-same-length-4 t c = search needs
+prenex-forall-same-length-4 t c = c .before .before .before .row .given
 
 prenex-forall-returns-2 : (t : ℕ) → prenex-forall-lts.Need-returns-2 (prenex-forall-calls t) (prenex-forall-at t) prenex-forall.Post
 prenex-forall-returns-2 t c =
@@ -249,16 +261,16 @@ prenex-forall-slice-write-memo t c =
     search needs
 
 prenex-forall-same-length-5 : (t : ℕ) → prenex-forall-lts.Need-same-length-5 (prenex-forall-calls t) (prenex-forall-at t) prenex-forall.Post
-prenex-forall-same-length-5 t c = search needs
+prenex-forall-same-length-5 t c = c .before .before .before .before .before .before .before .before .before .before .tags .given
 
 prenex-forall-same-length-6 : (t : ℕ) → prenex-forall-lts.Need-same-length-6 (prenex-forall-calls t) (prenex-forall-at t) prenex-forall.Post
-prenex-forall-same-length-6 t c = search needs
+prenex-forall-same-length-6 t c = c .before .before .before .before .before .before .before .before .values .given
 
 prenex-forall-same-length-7 : (t : ℕ) → prenex-forall-lts.Need-same-length-7 (prenex-forall-calls t) (prenex-forall-at t) prenex-forall.Post
 prenex-forall-same-length-7 t c = search needs
 
 prenex-forall-same-length-8 : (t : ℕ) → prenex-forall-lts.Need-same-length-8 (prenex-forall-calls t) (prenex-forall-at t) prenex-forall.Post
-prenex-forall-same-length-8 t c = search needs
+prenex-forall-same-length-8 t c = c .before .before .before .before .row .given
 
 prenex-forall-returns-3 : (t : ℕ) → prenex-forall-lts.Need-returns-3 (prenex-forall-calls t) (prenex-forall-at t) prenex-forall.Post
 prenex-forall-returns-3 t c =
@@ -316,16 +328,16 @@ take-out-enum-told-2 : (t : ℕ) → take-out-lts.Need-enum-told-2 (take-out-cal
 take-out-enum-told-2 t c = search needs
 
 take-out-same-length : (t : ℕ) → take-out-lts.Need-same-length (take-out-calls t) (take-out-at t) take-out.Post
-take-out-same-length t c = search needs
+take-out-same-length t c = c .before .before .before .before .before .before .before .before .before .tags2 .given
 
 take-out-same-length-2 : (t : ℕ) → take-out-lts.Need-same-length-2 (take-out-calls t) (take-out-at t) take-out.Post
-take-out-same-length-2 t c = search needs
+take-out-same-length-2 t c = c .before .before .before .before .before .before .before .values2 .given
 
 take-out-same-length-3 : (t : ℕ) → take-out-lts.Need-same-length-3 (take-out-calls t) (take-out-at t) take-out.Post
-take-out-same-length-3 t c = search needs
+take-out-same-length-3 t c = c .before .before .before .before .before .memo2 .given
 
 take-out-same-length-4 : (t : ℕ) → take-out-lts.Need-same-length-4 (take-out-calls t) (take-out-at t) take-out.Post
-take-out-same-length-4 t c = search needs
+take-out-same-length-4 t c = c .before .before .before .row2 .given
 
 take-out-returns : (t : ℕ) → take-out-lts.Need-returns (take-out-calls t) (take-out-at t) take-out.Post
 take-out-returns t c =
@@ -353,31 +365,40 @@ take-out-returns-2 : (t : ℕ) → take-out-lts.Need-returns-2 (take-out-calls t
 take-out-returns-2 t c = search (takes, indexings)
 
 take-out-same-length-7 : (t : ℕ) → take-out-lts.Need-same-length-7 (take-out-calls t) (take-out-at t) take-out.Post
-take-out-same-length-7 t c = search needs
+take-out-same-length-7 t c = c .before .before .before .before .before .before .before .tags .given
 
 take-out-same-length-8 : (t : ℕ) → take-out-lts.Need-same-length-8 (take-out-calls t) (take-out-at t) take-out.Post
-take-out-same-length-8 t c = search needs
+take-out-same-length-8 t c = c .before .before .before .before .before .values .given
 
 take-out-same-length-9 : (t : ℕ) → take-out-lts.Need-same-length-9 (take-out-calls t) (take-out-at t) take-out.Post
-take-out-same-length-9 t c = search needs
+take-out-same-length-9 t c = c .before .before .before .memo .given
 
 take-out-same-length-10 : (t : ℕ) → take-out-lts.Need-same-length-10 (take-out-calls t) (take-out-at t) take-out.Post
-take-out-same-length-10 t c = search needs
+take-out-same-length-10 t c = c .before .row .given
 
 take-out-returns-3 : (t : ℕ) → take-out-lts.Need-returns-3 (take-out-calls t) (take-out-at t) take-out.Post
 take-out-returns-3 t c = search (takes, indexings)
 
 take-out-same-length-11 : (t : ℕ) → take-out-lts.Need-same-length-11 (take-out-calls t) (take-out-at t) take-out.Post
-take-out-same-length-11 t c = search needs
+take-out-same-length-11 t c =
+    let at-tags3 = c .before .before .before .before .before in
+    let at-tags2 = at-tags3 .before .before .before .before .before .before .before .before .before .before .before .before .before .before .before .before .before in
+    at-tags3 .tags3 .given ∙ at-tags2 .tags2 .given
 
 take-out-same-length-12 : (t : ℕ) → take-out-lts.Need-same-length-12 (take-out-calls t) (take-out-at t) take-out.Post
-take-out-same-length-12 t c = search needs
+take-out-same-length-12 t c =
+    let at-values3 = c .before .before .before in
+    let at-values2 = at-values3 .before .before .before .before .before .before .before .before .before .before .before .before .before .before .before .before .before in
+    at-values3 .values3 .given ∙ at-values2 .values2 .given
 
 take-out-same-length-13 : (t : ℕ) → take-out-lts.Need-same-length-13 (take-out-calls t) (take-out-at t) take-out.Post
-take-out-same-length-13 t c = search needs
+take-out-same-length-13 t c = c .before .before .before .before .before .before .before .before .before .before .before .before .before .before .before .before .before .before .memo2 .given
 
 take-out-same-length-14 : (t : ℕ) → take-out-lts.Need-same-length-14 (take-out-calls t) (take-out-at t) take-out.Post
-take-out-same-length-14 t c = search needs
+take-out-same-length-14 t c =
+    let at-row3 = c .before in
+    let at-row2 = at-row3 .before .before .before .before .before .before .before .before .before .before .before .before .before .before .before in
+    at-row3 .row3 .given ∙ at-row2 .row2 .given
 
 take-out-returns-4 : (t : ℕ) → take-out-lts.Need-returns-4 (take-out-calls t) (take-out-at t) take-out.Post
 take-out-returns-4 t c =

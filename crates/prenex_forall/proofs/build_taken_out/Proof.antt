@@ -17,10 +17,10 @@ prenex-forall-requires : tie.Need-prenex-forall-requires
 prenex-forall-requires c κs = (ready-first _ _ _ (c .before .before .before .before .before .before .before .pre .0) taken-out 8192 (omega arith), (zeros-long 8192, c .before .before .before .before .before .before .before .pre .1))
 
 same-length : tie.Need-same-length
-same-length c = search needs
+same-length c = c .before .before .before .before .before .tags .given
 
 same-length-2 : tie.Need-same-length-2
-same-length-2 c = search needs
+same-length-2 c = c .before .before .before .values .given
 
 returns : tie.Need-returns
 returns c = search (taken-built, indexings)

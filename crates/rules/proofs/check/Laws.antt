@@ -42,66 +42,59 @@ pub rule-from : (k : ℕ) → 1 ≤ k → leb k 6 ≡ isRule k
 unfolding isRule
 rule-from k h = rw (le-leb 1 k h)
 
-pub ruleset codes = (rule-low, rule-from)
+-- ---- the rules that build nothing
+module _ (tags values : List ℕ) (n rule x : ℕ) (r : Answer) where
+  abbrev Is : Type 0
+  Is = r ≡ answerOf (ruleOutcome tags values n rule x)
 
--- ---- arrays that nothing has changed
-judged : (n rule : ℕ) (defined r : Answer) (tags values : List ℕ) → (rule ≡ 3 → ⊥) → r ≡ defined → Judged n rule defined r tags values tags values
-judged n rule defined r tags values other e = record { answer = e; tags-kept = kept tags; values-kept = kept values }
-  where
-    kept : (l : List ℕ) → Kept n rule l l
-    kept l = record { same = λ o. refl; zeroed = λ o. absurd (other o) }
+  pub apply-join : rule ≡ 1 → r ≡ answerOf (qntJoin tags values x) → Is
+  unfolding ruleOutcome
+  apply-join e q = rw (eq-eqb _ _ e) q
+
+  pub apply-rm-unused : rule ≡ 2 → r ≡ answerOf (qntRmUnused tags values n x) → Is
+  unfolding ruleOutcome
+  apply-rm-unused e q = rw (ne-eqb rule 1 (λ z. omega arith), eq-eqb _ _ e) q
+
+  pub apply-distribute : rule ≡ 4 → r ≡ answerOf (miniscopeDistribute tags values x) → Is
+  unfolding ruleOutcome
+  apply-distribute e q =
+      rw (ne-eqb rule 1 (λ z. omega arith), ne-eqb rule 2 (λ z. omega arith), ne-eqb rule 3 (λ z. omega arith), eq-eqb _ _ e) q
+
+  pub apply-split : rule ≡ 5 → r ≡ answerOf (miniscopeSplit tags values n x) → Is
+  unfolding ruleOutcome
+  apply-split e q =
+      rw (
+        ne-eqb rule 1 (λ z. omega arith),
+        ne-eqb rule 2 (λ z. omega arith),
+        ne-eqb rule 3 (λ z. omega arith),
+        ne-eqb rule 4 (λ z. omega arith),
+        eq-eqb _ _ e,
+      ) q
+
+  pub apply-ite : (rule ≡ 1 → ⊥) → (rule ≡ 2 → ⊥) → (rule ≡ 3 → ⊥) → (rule ≡ 4 → ⊥) → (rule ≡ 5 → ⊥)
+      → r ≡ answerOf (miniscopeIte tags values n x) → Is
+  unfolding ruleOutcome
+  apply-ite a b c d e q = rw (ne-eqb _ _ a, ne-eqb _ _ b, ne-eqb _ _ c, ne-eqb _ _ d, ne-eqb _ _ e) q
 
 -- ---- the rules
-module _ (tags values : List ℕ) (n rule x : ℕ) where
-  abbrev defined : Answer
-  defined = answerOf (ruleOutcome tags values n rule x)
+module _ (tags values : List ℕ) (n rule x : ℕ) (r : Answer) where
+  abbrev After : List ℕ → List ℕ → Type 0
+  After = Judged n rule (answerOf (ruleOutcome tags values n rule x)) r tags values
 
-  abbrev After : Answer → List ℕ → List ℕ → Type 0
-  After r = Judged n rule defined r tags values
+  pub apply-other : (rule ≡ 3 → ⊥) → r ≡ answerOf (ruleOutcome tags values n rule x) → After tags values
+  apply-other other e = record { answer = e; tags-kept = kept tags; values-kept = kept values }
+    where
+      kept : (l : List ℕ) → Kept n rule l l
+      kept l = record { same = λ o. refl; zeroed = λ o. absurd (other o) }
 
-  module _ (r : Answer) where
-    pub apply-join : rule ≡ 1 → r ≡ answerOf (qntJoin tags values x) → After r tags values
-    unfolding ruleOutcome
-    apply-join e q = judged n rule defined r tags values (λ o. omega arith) (rw (eq-eqb _ _ e) q)
-
-    pub apply-rm-unused : rule ≡ 2 → r ≡ answerOf (qntRmUnused tags values n x) → After r tags values
-    unfolding ruleOutcome
-    apply-rm-unused e q = judged n rule defined r tags values (λ o. omega arith) (rw (ne-eqb rule 1 (λ z. omega arith), eq-eqb _ _ e) q)
-
-    pub apply-distribute : rule ≡ 4 → r ≡ answerOf (miniscopeDistribute tags values x) → After r tags values
-    unfolding ruleOutcome
-    apply-distribute e q =
-        judged n rule defined r tags values (λ o. omega arith)
-        (rw (ne-eqb rule 1 (λ z. omega arith), ne-eqb rule 2 (λ z. omega arith), ne-eqb rule 3 (λ z. omega arith), eq-eqb _ _ e) q)
-
-    pub apply-split : rule ≡ 5 → r ≡ answerOf (miniscopeSplit tags values n x) → After r tags values
-    unfolding ruleOutcome
-    apply-split e q =
-        judged n rule defined r tags values (λ o. omega arith)
-        (rw (
-          ne-eqb rule 1 (λ z. omega arith),
-          ne-eqb rule 2 (λ z. omega arith),
-          ne-eqb rule 3 (λ z. omega arith),
-          ne-eqb rule 4 (λ z. omega arith),
-          eq-eqb _ _ e,
-        ) q)
-
-    pub apply-ite : (rule ≡ 1 → ⊥) → (rule ≡ 2 → ⊥) → (rule ≡ 3 → ⊥) → (rule ≡ 4 → ⊥) → (rule ≡ 5 → ⊥)
-        → r ≡ answerOf (miniscopeIte tags values n x) → After r tags values
-    unfolding ruleOutcome
-    apply-ite a b c d e q =
-        judged n rule defined r tags values c (rw (ne-eqb _ _ a, ne-eqb _ _ b, ne-eqb _ _ c, ne-eqb _ _ d, ne-eqb _ _ e) q)
-
-    pub apply-cnf : rule ≡ 3 → (tags′ values′ : List ℕ) → Clausified tags values n x r tags′ values′ → After r tags′ values′
-    unfolding ruleOutcome
-    apply-cnf e tags′ values′ c =
-        record {
-          answer = rw (ne-eqb rule 1 (λ z. omega arith), ne-eqb rule 2 (λ z. omega arith), eq-eqb _ _ e) (c .answer);
-          tags-kept = record { same = λ o. absurd (o e); zeroed = λ o. c .tags-are };
-          values-kept = record { same = λ o. absurd (o e); zeroed = λ o. c .values-are };
-        }
-
-pub ruleset applies = (apply-join, apply-rm-unused, apply-distribute, apply-split, apply-ite, apply-cnf)
+  pub apply-cnf : rule ≡ 3 → (tags′ values′ : List ℕ) → Clausified tags values n x r tags′ values′ → After tags′ values′
+  unfolding ruleOutcome
+  apply-cnf e tags′ values′ c =
+      record {
+        answer = rw (ne-eqb rule 1 (λ z. omega arith), ne-eqb rule 2 (λ z. omega arith), eq-eqb _ _ e) (c .answer);
+        tags-kept = record { same = λ o. absurd (o e); zeroed = λ o. c .tags-are };
+        values-kept = record { same = λ o. absurd (o e); zeroed = λ o. c .values-are };
+      }
 
 -- ---- a conclusion that passes its checks
 module _ (tags values table : List ℕ) (n x : ℕ) where
@@ -153,8 +146,6 @@ module _ (tags : List ℕ) (n rule : ℕ) (conclusion : List ℕ) (a : Answer) w
         pub before-passed : not t ≡ false → (r : Answer) → r ≡ accepted 0 0 → r ≡ beforeRule tags n rule conclusion a
         unfolding beforeRule andThen
         before-passed f r e = rw (eq-eqb _ _ ok, ← k, not-false known o, eq-eqb _ _ one, ← term, not-false t f) e
-
-pub ruleset befores = (before-pool, before-unknown, before-length, before-place, before-passed)
 
 -- ---- the rule after them: early is their answer
 module _ (tags values table : List ℕ) (n rule : ℕ) (conclusion : List ℕ) (a : Answer) (is : a ≡ checkPool tags values table n)
@@ -254,8 +245,6 @@ module _ (tags values table : List ℕ) (n rule : ℕ) (conclusion : List ℕ) (
       values-are = rw (eq-eqb _ _ e, ne-eqb _ _ h) (cut .values-are);
       follows = truth;
     }
-
-pub ruleset steps = (step-rule, step-other, step-30, step-zeroed)
 
 pub indexed-after : (tags values : List ℕ) (n : ℕ) (a : Answer) (index : List ℕ) → Index tags values n index → Indexed tags values n a index
 indexed-after tags values n a index i = record { passed = λ ok. i }

@@ -13,7 +13,7 @@ put-line-requires : tie.Need-put-line-requires
 put-line-requires c κs = search needs
 
 same-length : tie.Need-same-length
-same-length c = search needs
+same-length c = c .before .out .given
 
 returns-2 : tie.Need-returns-2
 returns-2 c = search (file, needs)
@@ -31,7 +31,7 @@ put-line-requires-2 : tie.Need-put-line-requires-2
 put-line-requires-2 c κs = search needs
 
 same-length-2 : tie.Need-same-length-2
-same-length-2 c = search needs
+same-length-2 c = c .before .out2 .given
 
 returns-3 : tie.Need-returns-3
 returns-3 c = search (file, needs)
@@ -43,7 +43,7 @@ put-line-requires-3 : tie.Need-put-line-requires-3
 put-line-requires-3 c κs = search needs
 
 same-length-3 : tie.Need-same-length-3
-same-length-3 c = search needs
+same-length-3 c = c .before .out3 .given
 
 returns-4 : tie.Need-returns-4
 returns-4 c = search (file, needs)
@@ -76,7 +76,7 @@ put-line-requires-4 : tie.Need-put-line-requires-4
 put-line-requires-4 c κs = search needs
 
 same-length-4 : tie.Need-same-length-4
-same-length-4 c = search needs
+same-length-4 c = c .before .out4 .given
 
 returns-5 : tie.Need-returns-5
 returns-5 c = search (file, needs)
@@ -88,7 +88,7 @@ answer-steps-requires : tie.Need-answer-steps-requires
 answer-steps-requires c κs = search needs
 
 same-length-5 : tie.Need-same-length-5
-same-length-5 c = search needs
+same-length-5 c = c .before .out5 .given
 
 returns-6 : tie.Need-returns-6
 returns-6 c = search (file, needs)

@@ -1,3 +1,4 @@
+use mathlib.Core.Path.{_∙_}
 use borrow.Author.Needs.{needs}
 use lib.ListN.{length}
 use Rattle.clause_totals.proofs.Reading.{head-falls, rest-before}
@@ -57,7 +58,7 @@ from-run-from-term-requires : (t : ℕ) → from-run-lts.Need-from-term-requires
 from-run-from-term-requires t c κs = (search head-falls, search needs)
 
 from-run-same-length : (t : ℕ) → from-run-lts.Need-same-length (from-run-calls t) (from-run-at t) from-run.Post
-from-run-same-length t c = search needs
+from-run-same-length t c = c .before .before .memo .given
 
 from-run-returns-2 : (t : ℕ) → from-run-lts.Need-returns-2 (from-run-calls t) (from-run-at t) from-run.Post
 from-run-returns-2 t c = search walks
@@ -75,7 +76,10 @@ from-run-from-run-requires : (t : ℕ) → from-run-lts.Need-from-run-requires (
 from-run-from-run-requires t c κs = (search needs, (search needs, search rest-before))
 
 from-run-same-length-2 : (t : ℕ) → from-run-lts.Need-same-length-2 (from-run-calls t) (from-run-at t) from-run.Post
-from-run-same-length-2 t c = search needs
+from-run-same-length-2 t c =
+    let at-memo2 = c .before in
+    let at-memo = at-memo2 .before .before .before .before .before .before in
+    at-memo2 .memo2 .given ∙ at-memo .memo .given
 
 from-run-returns-3 : (t : ℕ) → from-run-lts.Need-returns-3 (from-run-calls t) (from-run-at t) from-run.Post
 from-run-returns-3 t c = search walks
@@ -123,19 +127,22 @@ from-term-note-no-requires-3 : (t : ℕ) → from-term-lts.Need-note-no-requires
 from-term-note-no-requires-3 t c κs = search needs
 
 from-term-same-length-3 : (t : ℕ) → from-term-lts.Need-same-length-3 (from-term-calls t) (from-term-at t) from-term.Post
-from-term-same-length-3 t c = search needs
+from-term-same-length-3 t c = c .before .memo .given
 
 from-term-returns-3 : (t : ℕ) → from-term-lts.Need-returns-3 (from-term-calls t) (from-term-at t) from-term.Post
 from-term-returns-3 t c = search walks
 
 from-term-same-length-4 : (t : ℕ) → from-term-lts.Need-same-length-4 (from-term-calls t) (from-term-at t) from-term.Post
-from-term-same-length-4 t c = search needs
+from-term-same-length-4 t c = c .before .memo2 .given
 
 from-term-returns-4 : (t : ℕ) → from-term-lts.Need-returns-4 (from-term-calls t) (from-term-at t) from-term.Post
 from-term-returns-4 t c = search walks
 
 from-term-same-length-5 : (t : ℕ) → from-term-lts.Need-same-length-5 (from-term-calls t) (from-term-at t) from-term.Post
-from-term-same-length-5 t c = search needs
+from-term-same-length-5 t c =
+    let at-memo4 = c .before in
+    let at-memo3 = at-memo4 .before .before .before .before in
+    at-memo4 .memo4 .given ∙ at-memo3 .memo3 .given
 
 from-term-returns-5 : (t : ℕ) → from-term-lts.Need-returns-5 (from-term-calls t) (from-term-at t) from-term.Post
 from-term-returns-5 t c = search walks

@@ -1,3 +1,4 @@
+use mathlib.Core.Path.{_∙_}
 use borrow.Author.Needs.{needs}
 use lib.ListN.{length}
 use Rattle.clause_totals.proofs.Reading.{head-falls}
@@ -86,10 +87,16 @@ count-operands-count-operands-requires t c κs =
     (search needs, rest-ask _ _ _ _ _ _ (some .before .before .before .before .before .before .pre .1) (some .if1 .left) _ _ _ (counted .list-totals .ensures))
 
 count-operands-same-length : (t : ℕ) → count-operands-lts.Need-same-length (count-operands-calls t) (count-operands-at t) count-operands.Post
-count-operands-same-length t c = search needs
+count-operands-same-length t c =
+    let at-counts2 = c .before .before .before in
+    let at-counts = at-counts2 .before .before .before .before .before .before .before .before in
+    at-counts2 .counts2 .given ∙ at-counts .counts .given
 
 count-operands-same-length-2 : (t : ℕ) → count-operands-lts.Need-same-length-2 (count-operands-calls t) (count-operands-at t) count-operands.Post
-count-operands-same-length-2 t c = search needs
+count-operands-same-length-2 t c =
+    let at-sizes2 = c .before in
+    let at-sizes = at-sizes2 .before .before .before .before .before .before .before .before in
+    at-sizes2 .sizes2 .given ∙ at-sizes .sizes .given
 
 count-operands-returns-2 : (t : ℕ) → count-operands-lts.Need-returns-2 (count-operands-calls t) (count-operands-at t) count-operands.Post
 count-operands-returns-2 t c = search walks
@@ -149,28 +156,34 @@ list-totals-note-requires-3 : (t : ℕ) → list-totals-lts.Need-note-requires-3
 list-totals-note-requires-3 t c κs = (search run-fits, search needs)
 
 list-totals-same-length-3 : (t : ℕ) → list-totals-lts.Need-same-length-3 (list-totals-calls t) (list-totals-at t) list-totals.Post
-list-totals-same-length-3 t c = search needs
+list-totals-same-length-3 t c = c .before .before .before .counts .given
 
 list-totals-same-length-4 : (t : ℕ) → list-totals-lts.Need-same-length-4 (list-totals-calls t) (list-totals-at t) list-totals.Post
-list-totals-same-length-4 t c = search needs
+list-totals-same-length-4 t c = c .before .sizes .given
 
 list-totals-returns-2 : (t : ℕ) → list-totals-lts.Need-returns-2 (list-totals-calls t) (list-totals-at t) list-totals.Post
 list-totals-returns-2 t c = search walks
 
 list-totals-same-length-5 : (t : ℕ) → list-totals-lts.Need-same-length-5 (list-totals-calls t) (list-totals-at t) list-totals.Post
-list-totals-same-length-5 t c = search needs
+list-totals-same-length-5 t c = c .before .before .before .counts2 .given
 
 list-totals-same-length-6 : (t : ℕ) → list-totals-lts.Need-same-length-6 (list-totals-calls t) (list-totals-at t) list-totals.Post
-list-totals-same-length-6 t c = search needs
+list-totals-same-length-6 t c = c .before .sizes2 .given
 
 list-totals-returns-3 : (t : ℕ) → list-totals-lts.Need-returns-3 (list-totals-calls t) (list-totals-at t) list-totals.Post
 list-totals-returns-3 t c = search walks
 
 list-totals-same-length-7 : (t : ℕ) → list-totals-lts.Need-same-length-7 (list-totals-calls t) (list-totals-at t) list-totals.Post
-list-totals-same-length-7 t c = search needs
+list-totals-same-length-7 t c =
+    let at-counts4 = c .before .before .before in
+    let at-counts3 = at-counts4 .before .before .before .before .before .before .before .before .before .before in
+    at-counts4 .counts4 .given ∙ at-counts3 .counts3 .given
 
 list-totals-same-length-8 : (t : ℕ) → list-totals-lts.Need-same-length-8 (list-totals-calls t) (list-totals-at t) list-totals.Post
-list-totals-same-length-8 t c = search needs
+list-totals-same-length-8 t c =
+    let at-sizes4 = c .before in
+    let at-sizes3 = at-sizes4 .before .before .before .before .before .before .before .before .before .before in
+    at-sizes4 .sizes4 .given ∙ at-sizes3 .sizes3 .given
 
 list-totals-returns-4 : (t : ℕ) → list-totals-lts.Need-returns-4 (list-totals-calls t) (list-totals-at t) list-totals.Post
 list-totals-returns-4 t c = search walks

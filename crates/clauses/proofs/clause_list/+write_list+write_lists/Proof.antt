@@ -1,3 +1,4 @@
+use mathlib.Core.Path.{_∙_}
 use borrow.Author.Needs.{needs}
 use denote.Ref.{now}
 use lib.ListN.{length}
@@ -194,7 +195,7 @@ write-list-same-length : (t : ℕ) → write-list-lts.Need-same-length (
   write-lists-below t,
   write-lists.Post,
 ) (write-list-at t) write-list.Post
-write-list-same-length t c = search needs
+write-list-same-length t c = c .before .before .before .literals3 .given
 
 write-list-same-length-2 : (t : ℕ) → write-list-lts.Need-same-length-2 (
   normal-view-reads.Asked,
@@ -208,7 +209,7 @@ write-list-same-length-2 : (t : ℕ) → write-list-lts.Need-same-length-2 (
   write-lists-below t,
   write-lists.Post,
 ) (write-list-at t) write-list.Post
-write-list-same-length-2 t c = search needs
+write-list-same-length-2 t c = c .before .ends3 .given
 
 write-list-returns-2 : (t : ℕ) → write-list-lts.Need-returns-2 (
   normal-view-reads.Asked,
@@ -250,7 +251,7 @@ write-list-same-length-3 : (t : ℕ) → write-list-lts.Need-same-length-3 (
   write-lists-below t,
   write-lists.Post,
 ) (write-list-at t) write-list.Post
-write-list-same-length-3 t c = search needs
+write-list-same-length-3 t c = c .before .before .before .literals .given
 
 write-list-same-length-4 : (t : ℕ) → write-list-lts.Need-same-length-4 (
   normal-view-reads.Asked,
@@ -264,7 +265,7 @@ write-list-same-length-4 : (t : ℕ) → write-list-lts.Need-same-length-4 (
   write-lists-below t,
   write-lists.Post,
 ) (write-list-at t) write-list.Post
-write-list-same-length-4 t c = search needs
+write-list-same-length-4 t c = c .before .ends .given
 
 write-list-returns-3 : (t : ℕ) → write-list-lts.Need-returns-3 (
   normal-view-reads.Asked,
@@ -292,7 +293,7 @@ write-list-same-length-5 : (t : ℕ) → write-list-lts.Need-same-length-5 (
   write-lists-below t,
   write-lists.Post,
 ) (write-list-at t) write-list.Post
-write-list-same-length-5 t c = search needs
+write-list-same-length-5 t c = c .before .before .before .literals2 .given
 
 write-list-same-length-6 : (t : ℕ) → write-list-lts.Need-same-length-6 (
   normal-view-reads.Asked,
@@ -306,7 +307,7 @@ write-list-same-length-6 : (t : ℕ) → write-list-lts.Need-same-length-6 (
   write-lists-below t,
   write-lists.Post,
 ) (write-list-at t) write-list.Post
-write-list-same-length-6 t c = search needs
+write-list-same-length-6 t c = c .before .ends2 .given
 
 write-list-returns-4 : (t : ℕ) → write-list-lts.Need-returns-4 (
   normal-view-reads.Asked,
@@ -334,7 +335,7 @@ write-list-same-length-7 : (t : ℕ) → write-list-lts.Need-same-length-7 (
   write-lists-below t,
   write-lists.Post,
 ) (write-list-at t) write-list.Post
-write-list-same-length-7 t c = search needs
+write-list-same-length-7 t c = c .before .before .before .literals4 .given
 
 write-list-same-length-8 : (t : ℕ) → write-list-lts.Need-same-length-8 (
   normal-view-reads.Asked,
@@ -348,7 +349,7 @@ write-list-same-length-8 : (t : ℕ) → write-list-lts.Need-same-length-8 (
   write-lists-below t,
   write-lists.Post,
 ) (write-list-at t) write-list.Post
-write-list-same-length-8 t c = search needs
+write-list-same-length-8 t c = c .before .ends4 .given
 
 write-list-returns-5 : (t : ℕ) → write-list-lts.Need-returns-5 (
   normal-view-reads.Asked,
@@ -426,7 +427,10 @@ write-lists-same-length : (t : ℕ) → write-lists-lts.Need-same-length (
   write-lists-below t,
   write-lists.Post,
 ) (write-lists-at t) write-lists.Post
-write-lists-same-length t c = search needs
+write-lists-same-length t c =
+    let at-literals2 = c .before .before .before in
+    let at-literals = at-literals2 .before .before .before .before .before .before .before .before in
+    at-literals2 .literals2 .given ∙ at-literals .literals .given
 
 write-lists-same-length-2 : (t : ℕ) → write-lists-lts.Need-same-length-2 (
   write-list-below t,
@@ -434,7 +438,10 @@ write-lists-same-length-2 : (t : ℕ) → write-lists-lts.Need-same-length-2 (
   write-lists-below t,
   write-lists.Post,
 ) (write-lists-at t) write-lists.Post
-write-lists-same-length-2 t c = search needs
+write-lists-same-length-2 t c =
+    let at-ends2 = c .before in
+    let at-ends = at-ends2 .before .before .before .before .before .before .before .before in
+    at-ends2 .ends2 .given ∙ at-ends .ends .given
 
 write-lists-returns-2 : (t : ℕ) → write-lists-lts.Need-returns-2 (
   write-list-below t,

@@ -13,10 +13,10 @@ list-with-requires : tie.Need-list-with-requires
 list-with-requires c κs = (fresh _ _ 8192 (search needs), search needs)
 
 same-length : tie.Need-same-length
-same-length c = search needs
+same-length c = c .before .before .before .literals .given
 
 same-length-2 : tie.Need-same-length-2
-same-length-2 c = search needs
+same-length-2 c = c .before .ends .given
 
 returns : tie.Need-returns
 returns c = search needs

@@ -1,3 +1,4 @@
+use mathlib.Core.Path.{_∙_}
 use Rattle.clauses.proofs.clause_list.Laws.{list-answers, list-ready}
 use borrow.Author.Needs.{needs}
 use Rattle.clauses.proofs.clause_list.list_with.Statement.{statement}
@@ -13,10 +14,10 @@ refused-requires : tie.Need-refused-requires
 refused-requires c κs = search needs
 
 same-length : tie.Need-same-length
-same-length c = search needs
+same-length c = c .before .before .before .before .before .before .literals .given
 
 same-length-2 : tie.Need-same-length-2
-same-length-2 c = search needs
+same-length-2 c = c .before .before .before .before .ends .given
 
 returns : tie.Need-returns
 returns c = search list-answers
@@ -28,16 +29,22 @@ list-counted-requires c κs =
     list-ready _ _ _ _ (cut .cut-back .ensures) _ _ _ _ (start .pre .0) (start .pre .1)
 
 same-length-3 : tie.Need-same-length-3
-same-length-3 c = search needs
+same-length-3 c = c .before .before .before .before .before .before .before .counts .given
 
 same-length-4 : tie.Need-same-length-4
-same-length-4 c = search needs
+same-length-4 c = c .before .before .before .before .before .sizes .given
 
 same-length-5 : tie.Need-same-length-5
-same-length-5 c = search needs
+same-length-5 c =
+    let at-literals2 = c .before .before .before in
+    let at-literals = at-literals2 .before .before .before .before .before .before .before .before .before .before .before .before .before .before .before in
+    at-literals2 .literals2 .given ∙ at-literals .literals .given
 
 same-length-6 : tie.Need-same-length-6
-same-length-6 c = search needs
+same-length-6 c =
+    let at-ends2 = c .before in
+    let at-ends = at-ends2 .before .before .before .before .before .before .before .before .before .before .before .before .before .before .before in
+    at-ends2 .ends2 .given ∙ at-ends .ends .given
 
 returns-2 : tie.Need-returns-2
 returns-2 c = search list-answers

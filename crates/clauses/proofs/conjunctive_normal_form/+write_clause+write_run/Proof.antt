@@ -1,3 +1,4 @@
+use mathlib.Core.Path.{_∙_}
 use borrow.Author.Needs.{needs}
 use lib.ListN.{length}
 use Rattle.clauses.proofs.conjunctive_normal_form.Laws.{rooms, asks, and-falls, run-first, run-falls, run-rest, run-here-some, run-rest-some, writes}
@@ -81,7 +82,7 @@ write-clause-write-clause-requires : (t : ℕ) → write-clause-lts.Need-write-c
 write-clause-write-clause-requires t c κs = (search and-falls, search asks)
 
 write-clause-same-length : (t : ℕ) → write-clause-lts.Need-same-length (write-clause-calls t) (write-clause-at t) write-clause.Post
-write-clause-same-length t c = search needs
+write-clause-same-length t c = c .before .out3 .given
 
 write-clause-returns : (t : ℕ) → write-clause-lts.Need-returns (write-clause-calls t) (write-clause-at t) write-clause.Post
 write-clause-returns t c = search writes
@@ -93,19 +94,19 @@ write-clause-write-run-requires : (t : ℕ) → write-clause-lts.Need-write-run-
 write-clause-write-run-requires t c κs = (search needs, search asks)
 
 write-clause-same-length-2 : (t : ℕ) → write-clause-lts.Need-same-length-2 (write-clause-calls t) (write-clause-at t) write-clause.Post
-write-clause-same-length-2 t c = search needs
+write-clause-same-length-2 t c = c .before .out .given
 
 write-clause-returns-2 : (t : ℕ) → write-clause-lts.Need-returns-2 (write-clause-calls t) (write-clause-at t) write-clause.Post
 write-clause-returns-2 t c = search writes
 
 write-clause-same-length-3 : (t : ℕ) → write-clause-lts.Need-same-length-3 (write-clause-calls t) (write-clause-at t) write-clause.Post
-write-clause-same-length-3 t c = search needs
+write-clause-same-length-3 t c = c .before .out2 .given
 
 write-clause-returns-3 : (t : ℕ) → write-clause-lts.Need-returns-3 (write-clause-calls t) (write-clause-at t) write-clause.Post
 write-clause-returns-3 t c = search writes
 
 write-clause-same-length-4 : (t : ℕ) → write-clause-lts.Need-same-length-4 (write-clause-calls t) (write-clause-at t) write-clause.Post
-write-clause-same-length-4 t c = search needs
+write-clause-same-length-4 t c = c .before .out4 .given
 
 write-clause-returns-4 : (t : ℕ) → write-clause-lts.Need-returns-4 (write-clause-calls t) (write-clause-at t) write-clause.Post
 write-clause-returns-4 t c = search writes
@@ -143,7 +144,10 @@ write-run-write-run-requires t c κs =
     )
 
 write-run-same-length : (t : ℕ) → write-run-lts.Need-same-length (write-run-calls t) (write-run-at t) write-run.Post
-write-run-same-length t c = search needs
+write-run-same-length t c =
+    let at-out2 = c .before in
+    let at-out = at-out2 .before .before .before .before .before in
+    at-out2 .out2 .given ∙ at-out .out .given
 
 write-run-returns-2 : (t : ℕ) → write-run-lts.Need-returns-2 (write-run-calls t) (write-run-at t) write-run.Post
 write-run-returns-2 t c = search writes

@@ -1,3 +1,4 @@
+use mathlib.Core.Path.{_∙_}
 use native.Mathlib.Omega.{arith}
 use Rattle.building.proofs.Clausal.{normal-state, normal-below}
 use Rattle.building.proofs.build.Indexing.{index-at}
@@ -19,10 +20,10 @@ index-headers-requires : tie.Need-index-headers-requires
 index-headers-requires c κs = search no-normal-ask
 
 same-length : tie.Need-same-length
-same-length c = search needs
+same-length c = c .before .before .before .before .before .before .before .before .before .tags .given
 
 same-length-2 : tie.Need-same-length-2
-same-length-2 c = search needs
+same-length-2 c = c .before .before .before .before .before .before .before .values .given
 
 returns : tie.Need-returns
 returns c = (search no-normal-forms, search no-normal-index)
@@ -42,10 +43,16 @@ index-headers-requires-2 c κs =
     _ _ _ (c .before .before .before .before .before .before .before .before .before .build-taken-out .ensures .0) (omega (arith, c .before .before .before .before .before .before .before .before .before .before .before .before .before .before .before .before .before .before .before .tags .given)) (omega (arith, c .before .before .before .before .before .before .before .before .before .before .before .before .before .before .before .before .before .values .given)) (c .before .before .before .enum-told2 .given .1)
 
 same-length-3 : tie.Need-same-length-3
-same-length-3 c = search needs
+same-length-3 c =
+    let at-tags2 = c .before .before .before .before .before .before .before .before .before in
+    let at-tags = at-tags2 .before .before .before .before .before .before .before .before .before .before .before in
+    at-tags2 .tags2 .given ∙ at-tags .tags .given
 
 same-length-4 : tie.Need-same-length-4
-same-length-4 c = search needs
+same-length-4 c =
+    let at-values2 = c .before .before .before .before .before .before .before in
+    let at-values = at-values2 .before .before .before .before .before .before .before .before .before .before .before in
+    at-values2 .values2 .given ∙ at-values .values .given
 
 returns-2 : tie.Need-returns-2
 returns-2 c = (
@@ -63,10 +70,16 @@ forget-requires c κs = (
 )
 
 same-length-5 : tie.Need-same-length-5
-same-length-5 c = search needs
+same-length-5 c =
+    let at-tags2 = c .before .before .before .before .before .before .before .before .before .before in
+    let at-tags = at-tags2 .before .before .before .before .before .before .before .before .before .before .before in
+    at-tags2 .tags2 .given ∙ at-tags .tags .given
 
 same-length-6 : tie.Need-same-length-6
-same-length-6 c = search needs
+same-length-6 c =
+    let at-values2 = c .before .before .before .before .before .before .before .before in
+    let at-values = at-values2 .before .before .before .before .before .before .before .before .before .before .before in
+    at-values2 .values2 .given ∙ at-values .values .given
 
 returns-3 : tie.Need-returns-3
 returns-3 c = (

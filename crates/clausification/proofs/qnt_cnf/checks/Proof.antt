@@ -102,10 +102,10 @@ clausified-requires c κs = (
 )
 
 same-length-11 : tie.Need-same-length-11
-same-length-11 c = search needs
+same-length-11 c = c .before .before .before .tags .given
 
 same-length-12 : tie.Need-same-length-12
-same-length-12 c = search needs
+same-length-12 c = c .before .values .given
 
 returns-6 : tie.Need-returns-6
 returns-6 c = (

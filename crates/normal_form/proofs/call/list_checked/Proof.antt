@@ -1,3 +1,4 @@
+use mathlib.Core.Path.{_∙_}
 use native.Mathlib.Omega.{arith}
 use Rattle.normal_form.proofs.call.Clauses.{list-full, list-none, list-made, list-parts, list-state, list-below, list-lent}
 use Rattle.normal_form.proofs.call.Laws.{count-fits}
@@ -27,16 +28,22 @@ refused-requires-2 : tie.Need-refused-requires-2
 refused-requires-2 c κs = search needs
 
 same-length : tie.Need-same-length
-same-length c = search needs
+same-length c =
+    let at-tags2 = c .before .before .before .before .before .before .before .before .before .before .before .before in
+    let at-tags = at-tags2 .before .before .before .before .before .before .before .before .before in
+    at-tags2 .tags2 .given ∙ at-tags .tags .given
 
 same-length-2 : tie.Need-same-length-2
-same-length-2 c = search needs
+same-length-2 c =
+    let at-values2 = c .before .before .before .before .before .before .before .before .before .before in
+    let at-values = at-values2 .before .before .before .before .before .before .before .before .before in
+    at-values2 .values2 .given ∙ at-values .values .given
 
 same-length-3 : tie.Need-same-length-3
-same-length-3 c = search needs
+same-length-3 c = c .before .before .before .before .before .literals .given
 
 same-length-4 : tie.Need-same-length-4
-same-length-4 c = search needs
+same-length-4 c = c .before .before .before .ends .given
 
 returns : tie.Need-returns
 returns c =
@@ -67,16 +74,22 @@ refused-requires-3 : tie.Need-refused-requires-3
 refused-requires-3 c κs = search needs
 
 same-length-5 : tie.Need-same-length-5
-same-length-5 c = search needs
+same-length-5 c =
+    let at-tags3 = c .before .before .before .before in
+    let at-tags = at-tags3 .before .before .before .before .before .before .before .before .before .before .before .before .before .before .before .before .before .before .before .before .before in
+    at-tags3 .tags3 .given ∙ at-tags .tags .given
 
 same-length-6 : tie.Need-same-length-6
-same-length-6 c = search needs
+same-length-6 c =
+    let at-values3 = c .before .before in
+    let at-values = at-values3 .before .before .before .before .before .before .before .before .before .before .before .before .before .before .before .before .before .before .before .before .before in
+    at-values3 .values3 .given ∙ at-values .values .given
 
 same-length-7 : tie.Need-same-length-7
-same-length-7 c = search needs
+same-length-7 c = c .before .before .before .before .before .before .before .before .before .before .before .before .before .literals2 .given
 
 same-length-8 : tie.Need-same-length-8
-same-length-8 c = search needs
+same-length-8 c = c .before .before .before .before .before .before .before .before .before .before .before .ends2 .given
 
 returns-2 : tie.Need-returns-2
 returns-2 c =
@@ -92,16 +105,22 @@ cast-t47 : tie.Need-cast-t47
 cast-t47 c = search count-fits
 
 same-length-9 : tie.Need-same-length-9
-same-length-9 c = search needs
+same-length-9 c =
+    let at-tags4 = c .before .before .before in
+    let at-tags = at-tags4 .before .before .before .before .before .before .before .before .before .before .before .before .before .before .before .before .before .before .before .before .before in
+    at-tags4 .tags4 .given ∙ at-tags .tags .given
 
 same-length-10 : tie.Need-same-length-10
-same-length-10 c = search needs
+same-length-10 c =
+    let at-values4 = c .before in
+    let at-values = at-values4 .before .before .before .before .before .before .before .before .before .before .before .before .before .before .before .before .before .before .before .before .before in
+    at-values4 .values4 .given ∙ at-values .values .given
 
 same-length-11 : tie.Need-same-length-11
-same-length-11 c = search needs
+same-length-11 c = c .before .before .before .before .before .before .before .before .before .before .before .before .literals2 .given
 
 same-length-12 : tie.Need-same-length-12
-same-length-12 c = search needs
+same-length-12 c = c .before .before .before .before .before .before .before .before .before .before .ends2 .given
 
 returns-3 : tie.Need-returns-3
 returns-3 c =

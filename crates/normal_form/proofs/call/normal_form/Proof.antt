@@ -1,3 +1,4 @@
+use mathlib.Core.Path.{_∙_}
 use Rattle.normal_form.proofs.call.Laws.{normals, checked-ready, count-fits}
 use borrow.Author.Needs.{needs}
 use Rattle.normal_form.proofs.call.normal_form.Statement.{statement}
@@ -19,10 +20,10 @@ cut-back-requires : tie.Need-cut-back-requires
 cut-back-requires c κs = search needs
 
 same-length-3 : tie.Need-same-length-3
-same-length-3 c = search needs
+same-length-3 c = c .before .before .before .tags .given
 
 same-length-4 : tie.Need-same-length-4
-same-length-4 c = search needs
+same-length-4 c = c .before .values .given
 
 returns-2 : tie.Need-returns-2
 returns-2 c = search normals
@@ -47,10 +48,16 @@ refused-requires : tie.Need-refused-requires
 refused-requires c κs = search needs
 
 same-length-5 : tie.Need-same-length-5
-same-length-5 c = search needs
+same-length-5 c =
+    let at-tags3 = c .before .before .before .before in
+    let at-tags2 = at-tags3 .before .before .before .before .before .before .before .before .before in
+    at-tags3 .tags3 .given ∙ at-tags2 .tags2 .given
 
 same-length-6 : tie.Need-same-length-6
-same-length-6 c = search needs
+same-length-6 c =
+    let at-values3 = c .before .before in
+    let at-values2 = at-values3 .before .before .before .before .before .before .before .before .before in
+    at-values3 .values3 .given ∙ at-values2 .values2 .given
 
 returns-3 : tie.Need-returns-3
 returns-3 c = search normals
@@ -65,10 +72,16 @@ accepted-requires : tie.Need-accepted-requires
 accepted-requires c κs = search needs
 
 same-length-7 : tie.Need-same-length-7
-same-length-7 c = search needs
+same-length-7 c =
+    let at-tags4 = c .before .before .before .before in
+    let at-tags2 = at-tags4 .before .before .before .before .before .before .before .before .before .before in
+    at-tags4 .tags4 .given ∙ at-tags2 .tags2 .given
 
 same-length-8 : tie.Need-same-length-8
-same-length-8 c = search needs
+same-length-8 c =
+    let at-values4 = c .before .before in
+    let at-values2 = at-values4 .before .before .before .before .before .before .before .before .before .before in
+    at-values4 .values4 .given ∙ at-values2 .values2 .given
 
 returns-4 : tie.Need-returns-4
 returns-4 c = search normals

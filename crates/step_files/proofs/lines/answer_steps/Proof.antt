@@ -37,7 +37,7 @@ put-lines-requires : tie.Need-put-lines-requires
 put-lines-requires c κs = (search made-ready, search needs)
 
 same-length : tie.Need-same-length
-same-length c = search needs
+same-length c = c .before .out .given
 
 returns : tie.Need-returns
 returns c = search needs
