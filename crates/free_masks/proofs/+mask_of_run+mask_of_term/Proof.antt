@@ -1,3 +1,4 @@
+use mathlib.Core.Path.{_∙_}
 use Rattle.free_masks.proofs.Laws.{walks, body-below, variable-tag, known-room, among-room, unbound-fits}
 use native.Mathlib.Omega.{arith}
 use lib.ListN.{length}
@@ -69,7 +70,7 @@ mask-of-run-mask-of-run-requires : (t : ℕ) → mask-of-run-lts.Need-mask-of-ru
 mask-of-run-mask-of-run-requires t c κs = search needs
 
 mask-of-run-same-length : (t : ℕ) → mask-of-run-lts.Need-same-length (mask-of-run-calls t) (mask-of-run-at t) mask-of-run.Post
-mask-of-run-same-length t c = search needs
+mask-of-run-same-length t c = c .before .memo .given
 
 mask-of-run-returns-2 : (t : ℕ) → mask-of-run-lts.Need-returns-2 (mask-of-run-calls t) (mask-of-run-at t) mask-of-run.Post
 mask-of-run-returns-2 t c = search walks
@@ -90,7 +91,10 @@ mask-of-run-mask-of-run-requires-2 : (t : ℕ) → mask-of-run-lts.Need-mask-of-
 mask-of-run-mask-of-run-requires-2 t c κs = search needs
 
 mask-of-run-same-length-2 : (t : ℕ) → mask-of-run-lts.Need-same-length-2 (mask-of-run-calls t) (mask-of-run-at t) mask-of-run.Post
-mask-of-run-same-length-2 t c = search needs
+mask-of-run-same-length-2 t c =
+    let at-memo3 = c .before in
+    let at-memo2 = at-memo3 .before .before .before .before .before in
+    at-memo3 .memo3 .given ∙ at-memo2 .memo2 .given
 
 mask-of-run-returns-3 : (t : ℕ) → mask-of-run-lts.Need-returns-3 (mask-of-run-calls t) (mask-of-run-at t) mask-of-run.Post
 mask-of-run-returns-3 t c = search walks
@@ -169,25 +173,31 @@ mask-of-term-note-mask-requires-4 t c κs =
     among-room (c .before .before .before .before .before .before .before .before .before .before .before .before .before .before .before .before .before .args .list .now) (c .before .before .before .before .before .before .before .before .before .before .before .before .before .before .before .before .before .pre .1 .0) _ _ _ _ _ _ _ (c .before .before .before .mask-of-run .ensures)
 
 mask-of-term-same-length-2 : (t : ℕ) → mask-of-term-lts.Need-same-length-2 (mask-of-term-calls t) (mask-of-term-at t) mask-of-term.Post
-mask-of-term-same-length-2 t c = search needs
+mask-of-term-same-length-2 t c = c .before .memo .given
 
 mask-of-term-returns-2 : (t : ℕ) → mask-of-term-lts.Need-returns-2 (mask-of-term-calls t) (mask-of-term-at t) mask-of-term.Post
 mask-of-term-returns-2 t c = search walks
 
 mask-of-term-same-length-3 : (t : ℕ) → mask-of-term-lts.Need-same-length-3 (mask-of-term-calls t) (mask-of-term-at t) mask-of-term.Post
-mask-of-term-same-length-3 t c = search needs
+mask-of-term-same-length-3 t c = c .before .memo2 .given
 
 mask-of-term-returns-3 : (t : ℕ) → mask-of-term-lts.Need-returns-3 (mask-of-term-calls t) (mask-of-term-at t) mask-of-term.Post
 mask-of-term-returns-3 t c = search walks
 
 mask-of-term-same-length-4 : (t : ℕ) → mask-of-term-lts.Need-same-length-4 (mask-of-term-calls t) (mask-of-term-at t) mask-of-term.Post
-mask-of-term-same-length-4 t c = search needs
+mask-of-term-same-length-4 t c =
+    let at-memo4 = c .before in
+    let at-memo3 = at-memo4 .before .before .before .before .before .before .before in
+    at-memo4 .memo4 .given ∙ at-memo3 .memo3 .given
 
 mask-of-term-returns-4 : (t : ℕ) → mask-of-term-lts.Need-returns-4 (mask-of-term-calls t) (mask-of-term-at t) mask-of-term.Post
 mask-of-term-returns-4 t c = search walks
 
 mask-of-term-same-length-5 : (t : ℕ) → mask-of-term-lts.Need-same-length-5 (mask-of-term-calls t) (mask-of-term-at t) mask-of-term.Post
-mask-of-term-same-length-5 t c = search needs
+mask-of-term-same-length-5 t c =
+    let at-memo6 = c .before in
+    let at-memo5 = at-memo6 .before .before .before .before in
+    at-memo6 .memo6 .given ∙ at-memo5 .memo5 .given
 
 mask-of-term-returns-5 : (t : ℕ) → mask-of-term-lts.Need-returns-5 (mask-of-term-calls t) (mask-of-term-at t) mask-of-term.Post
 mask-of-term-returns-5 t c = search walks

@@ -1,3 +1,4 @@
+use mathlib.Core.Path.{_∙_}
 use borrow.Author.Needs.{needs}
 use native.Mathlib.Omega.{arith}
 use lib.ListN.{length}
@@ -104,19 +105,25 @@ compute-free-vars-returns : (t : ℕ) → compute-free-vars-lts.Need-returns (co
 compute-free-vars-returns t c = search walks
 
 compute-free-vars-same-length-2 : (t : ℕ) → compute-free-vars-lts.Need-same-length-2 (compute-free-vars-calls t) (compute-free-vars-at t) compute-free-vars.Post
-compute-free-vars-same-length-2 t c = search needs
+compute-free-vars-same-length-2 t c = c .before .memo .given
 
 compute-free-vars-returns-2 : (t : ℕ) → compute-free-vars-lts.Need-returns-2 (compute-free-vars-calls t) (compute-free-vars-at t) compute-free-vars.Post
 compute-free-vars-returns-2 t c = search walks
 
 compute-free-vars-same-length-3 : (t : ℕ) → compute-free-vars-lts.Need-same-length-3 (compute-free-vars-calls t) (compute-free-vars-at t) compute-free-vars.Post
-compute-free-vars-same-length-3 t c = search needs
+compute-free-vars-same-length-3 t c =
+    let at-memo3 = c .before in
+    let at-memo2 = at-memo3 .before .before .before .before in
+    at-memo3 .memo3 .given ∙ at-memo2 .memo2 .given
 
 compute-free-vars-returns-3 : (t : ℕ) → compute-free-vars-lts.Need-returns-3 (compute-free-vars-calls t) (compute-free-vars-at t) compute-free-vars.Post
 compute-free-vars-returns-3 t c = search walks
 
 compute-free-vars-same-length-4 : (t : ℕ) → compute-free-vars-lts.Need-same-length-4 (compute-free-vars-calls t) (compute-free-vars-at t) compute-free-vars.Post
-compute-free-vars-same-length-4 t c = search needs
+compute-free-vars-same-length-4 t c =
+    let at-memo5 = c .before in
+    let at-memo4 = at-memo5 .before .before .before .before in
+    at-memo5 .memo5 .given ∙ at-memo4 .memo4 .given
 
 compute-free-vars-returns-4 : (t : ℕ) → compute-free-vars-lts.Need-returns-4 (compute-free-vars-calls t) (compute-free-vars-at t) compute-free-vars.Post
 compute-free-vars-returns-4 t c = search walks
@@ -140,7 +147,7 @@ run-free-vars-run-free-vars-requires : (t : ℕ) → run-free-vars-lts.Need-run-
 run-free-vars-run-free-vars-requires t c κs = search needs
 
 run-free-vars-same-length : (t : ℕ) → run-free-vars-lts.Need-same-length (run-free-vars-calls t) (run-free-vars-at t) run-free-vars.Post
-run-free-vars-same-length t c = search needs
+run-free-vars-same-length t c = c .before .memo .given
 
 run-free-vars-returns-2 : (t : ℕ) → run-free-vars-lts.Need-returns-2 (run-free-vars-calls t) (run-free-vars-at t) run-free-vars.Post
 run-free-vars-returns-2 t c = search walks
@@ -150,7 +157,7 @@ run-free-vars-compute-free-vars-requires :
 run-free-vars-compute-free-vars-requires t c κs = search needs
 
 run-free-vars-same-length-2 : (t : ℕ) → run-free-vars-lts.Need-same-length-2 (run-free-vars-calls t) (run-free-vars-at t) run-free-vars.Post
-run-free-vars-same-length-2 t c = search needs
+run-free-vars-same-length-2 t c = c .before .before .memo2 .given
 
 run-free-vars-returns-3 : (t : ℕ) → run-free-vars-lts.Need-returns-3 (run-free-vars-calls t) (run-free-vars-at t) run-free-vars.Post
 run-free-vars-returns-3 t c = search walks
@@ -169,7 +176,10 @@ run-free-vars-run-free-vars-requires-2 : (t : ℕ) → run-free-vars-lts.Need-ru
 run-free-vars-run-free-vars-requires-2 t c κs = search needs
 
 run-free-vars-same-length-3 : (t : ℕ) → run-free-vars-lts.Need-same-length-3 (run-free-vars-calls t) (run-free-vars-at t) run-free-vars.Post
-run-free-vars-same-length-3 t c = search needs
+run-free-vars-same-length-3 t c =
+    let at-memo3 = c .before in
+    let at-memo2 = at-memo3 .before .before .before .before .before .before in
+    at-memo3 .memo3 .given ∙ at-memo2 .memo2 .given
 
 run-free-vars-returns-4 : (t : ℕ) → run-free-vars-lts.Need-returns-4 (run-free-vars-calls t) (run-free-vars-at t) run-free-vars.Post
 run-free-vars-returns-4 t c = search walks

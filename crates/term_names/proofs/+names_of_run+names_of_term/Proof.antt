@@ -1,3 +1,4 @@
+use mathlib.Core.Path.{_∙_}
 use borrow.Author.Needs.{needs}
 use Rattle.term_names.proofs.Laws.{walks, walk-run, body-below}
 use native.Mathlib.Omega.{arith}
@@ -72,10 +73,10 @@ names-of-run-names-of-run-requires : (t : ℕ) → names-of-run-lts.Need-names-o
 names-of-run-names-of-run-requires t c κs = search needs
 
 names-of-run-same-length : (t : ℕ) → names-of-run-lts.Need-same-length (names-of-run-calls t) (names-of-run-at t) names-of-run.Post
-names-of-run-same-length t c = search needs
+names-of-run-same-length t c = c .before .before .before .seen .given
 
 names-of-run-same-length-2 : (t : ℕ) → names-of-run-lts.Need-same-length-2 (names-of-run-calls t) (names-of-run-at t) names-of-run.Post
-names-of-run-same-length-2 t c = search needs
+names-of-run-same-length-2 t c = c .before .names .given
 
 names-of-run-returns-2 : (t : ℕ) → names-of-run-lts.Need-returns-2 (names-of-run-calls t) (names-of-run-at t) names-of-run.Post
 names-of-run-returns-2 t c = search walks
@@ -96,10 +97,16 @@ names-of-run-names-of-run-requires-2 : (t : ℕ) → names-of-run-lts.Need-names
 names-of-run-names-of-run-requires-2 t c κs = search needs
 
 names-of-run-same-length-3 : (t : ℕ) → names-of-run-lts.Need-same-length-3 (names-of-run-calls t) (names-of-run-at t) names-of-run.Post
-names-of-run-same-length-3 t c = search needs
+names-of-run-same-length-3 t c =
+    let at-seen3 = c .before .before .before in
+    let at-seen2 = at-seen3 .before .before .before .before .before .before .before .before in
+    at-seen3 .seen3 .given ∙ at-seen2 .seen2 .given
 
 names-of-run-same-length-4 : (t : ℕ) → names-of-run-lts.Need-same-length-4 (names-of-run-calls t) (names-of-run-at t) names-of-run.Post
-names-of-run-same-length-4 t c = search needs
+names-of-run-same-length-4 t c =
+    let at-names3 = c .before in
+    let at-names2 = at-names3 .before .before .before .before .before .before .before .before in
+    at-names3 .names3 .given ∙ at-names2 .names2 .given
 
 names-of-run-returns-3 : (t : ℕ) → names-of-run-lts.Need-returns-3 (names-of-run-calls t) (names-of-run-at t) names-of-run.Post
 names-of-run-returns-3 t c = search walks
@@ -159,34 +166,40 @@ names-of-term-set-mark-requires-4 : (t : ℕ) → names-of-term-lts.Need-set-mar
 names-of-term-set-mark-requires-4 t c κs = search needs
 
 names-of-term-same-length-2 : (t : ℕ) → names-of-term-lts.Need-same-length-2 (names-of-term-calls t) (names-of-term-at t) names-of-term.Post
-names-of-term-same-length-2 t c = search needs
+names-of-term-same-length-2 t c = c .before .seen .given
 
 names-of-term-returns-2 : (t : ℕ) → names-of-term-lts.Need-returns-2 (names-of-term-calls t) (names-of-term-at t) names-of-term.Post
 names-of-term-returns-2 t c = search walks
 
 names-of-term-same-length-3 : (t : ℕ) → names-of-term-lts.Need-same-length-3 (names-of-term-calls t) (names-of-term-at t) names-of-term.Post
-names-of-term-same-length-3 t c = search needs
+names-of-term-same-length-3 t c = c .before .seen2 .given
 
 names-of-term-same-length-4 : (t : ℕ) → names-of-term-lts.Need-same-length-4 (names-of-term-calls t) (names-of-term-at t) names-of-term.Post
-names-of-term-same-length-4 t c = search needs
+names-of-term-same-length-4 t c = c .before .before .before .before .before .names .given
 
 names-of-term-returns-3 : (t : ℕ) → names-of-term-lts.Need-returns-3 (names-of-term-calls t) (names-of-term-at t) names-of-term.Post
 names-of-term-returns-3 t c = search walks
 
 names-of-term-same-length-5 : (t : ℕ) → names-of-term-lts.Need-same-length-5 (names-of-term-calls t) (names-of-term-at t) names-of-term.Post
-names-of-term-same-length-5 t c = search needs
+names-of-term-same-length-5 t c =
+    let at-seen4 = c .before in
+    let at-seen3 = at-seen4 .before .before .before .before .before .before in
+    at-seen4 .seen4 .given ∙ at-seen3 .seen3 .given
 
 names-of-term-same-length-6 : (t : ℕ) → names-of-term-lts.Need-same-length-6 (names-of-term-calls t) (names-of-term-at t) names-of-term.Post
-names-of-term-same-length-6 t c = search needs
+names-of-term-same-length-6 t c = c .before .before .before .before .before .names2 .given
 
 names-of-term-returns-4 : (t : ℕ) → names-of-term-lts.Need-returns-4 (names-of-term-calls t) (names-of-term-at t) names-of-term.Post
 names-of-term-returns-4 t c = search walks
 
 names-of-term-same-length-7 : (t : ℕ) → names-of-term-lts.Need-same-length-7 (names-of-term-calls t) (names-of-term-at t) names-of-term.Post
-names-of-term-same-length-7 t c = search needs
+names-of-term-same-length-7 t c =
+    let at-seen6 = c .before in
+    let at-seen5 = at-seen6 .before .before .before .before .before .before in
+    at-seen6 .seen6 .given ∙ at-seen5 .seen5 .given
 
 names-of-term-same-length-8 : (t : ℕ) → names-of-term-lts.Need-same-length-8 (names-of-term-calls t) (names-of-term-at t) names-of-term.Post
-names-of-term-same-length-8 t c = search needs
+names-of-term-same-length-8 t c = c .before .before .before .before .before .names3 .given
 
 names-of-term-returns-5 : (t : ℕ) → names-of-term-lts.Need-returns-5 (names-of-term-calls t) (names-of-term-at t) names-of-term.Post
 names-of-term-returns-5 t c =

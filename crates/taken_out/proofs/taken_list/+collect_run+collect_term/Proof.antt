@@ -1,3 +1,4 @@
+use mathlib.Core.Path.{_∙_}
 use borrow.Author.Needs.{needs}
 use Rattle.taken_out.proofs.taken_list.Laws.{walks, walk-forall, operands-before, put-from, walk-from, right-joined}
 use Rattle.taken_out.proofs.taken_variables.Laws.{look-below, head-before, rest-before}
@@ -76,10 +77,10 @@ collect-run-enum-told : (t : ℕ) → collect-run-lts.Need-enum-told (collect-ru
 collect-run-enum-told t c = search needs
 
 collect-run-same-length : (t : ℕ) → collect-run-lts.Need-same-length (collect-run-calls t) (collect-run-at t) collect-run.Post
-collect-run-same-length t c = search needs
+collect-run-same-length t c = c .before .before .before .before .before .seen .given
 
 collect-run-same-length-2 : (t : ℕ) → collect-run-lts.Need-same-length-2 (collect-run-calls t) (collect-run-at t) collect-run.Post
-collect-run-same-length-2 t c = search needs
+collect-run-same-length-2 t c = c .before .before .before .cells .given
 
 collect-run-returns-2 : (t : ℕ) → collect-run-lts.Need-returns-2 (collect-run-calls t) (collect-run-at t) collect-run.Post
 collect-run-returns-2 t c = search walks
@@ -103,10 +104,16 @@ collect-run-collect-run-requires t c κs =
     (search needs, (w .right, omega (arith, w .joined .within), rest-before _ _ (start .pre .1 .2) (at-if1 .if1 .left)))
 
 collect-run-same-length-3 : (t : ℕ) → collect-run-lts.Need-same-length-3 (collect-run-calls t) (collect-run-at t) collect-run.Post
-collect-run-same-length-3 t c = search needs
+collect-run-same-length-3 t c =
+    let at-seen2 = c .before .before .before in
+    let at-seen = at-seen2 .before .before .before .before .before .before .before .before .before .before .before in
+    at-seen2 .seen2 .given ∙ at-seen .seen .given
 
 collect-run-same-length-4 : (t : ℕ) → collect-run-lts.Need-same-length-4 (collect-run-calls t) (collect-run-at t) collect-run.Post
-collect-run-same-length-4 t c = search needs
+collect-run-same-length-4 t c =
+    let at-cells2 = c .before in
+    let at-cells = at-cells2 .before .before .before .before .before .before .before .before .before .before .before in
+    at-cells2 .cells2 .given ∙ at-cells .cells .given
 
 collect-run-returns-3 : (t : ℕ) → collect-run-lts.Need-returns-3 (collect-run-calls t) (collect-run-at t) collect-run.Post
 collect-run-returns-3 t c = search walks
@@ -161,7 +168,7 @@ collect-term-same-length-2 : (t : ℕ) → collect-term-lts.Need-same-length-2 (
 collect-term-same-length-2 t c = search needs
 
 collect-term-same-length-3 : (t : ℕ) → collect-term-lts.Need-same-length-3 (collect-term-calls t) (collect-term-at t) collect-term.Post
-collect-term-same-length-3 t c = search needs
+collect-term-same-length-3 t c = c .before .before .before .cells2 .given
 
 collect-term-returns-2 : (t : ℕ) → collect-term-lts.Need-returns-2 (collect-term-calls t) (collect-term-at t) collect-term.Post
 collect-term-returns-2 t c = search walks
@@ -186,19 +193,28 @@ collect-term-returns-3 : (t : ℕ) → collect-term-lts.Need-returns-3 (collect-
 collect-term-returns-3 t c = search walks
 
 collect-term-same-length-5 : (t : ℕ) → collect-term-lts.Need-same-length-5 (collect-term-calls t) (collect-term-at t) collect-term.Post
-collect-term-same-length-5 t c = search needs
+collect-term-same-length-5 t c =
+    let at-seen2 = c .before in
+    let at-seen = at-seen2 .before .before .before .before .before .before in
+    at-seen2 .seen2 .given ∙ at-seen .seen .given
 
 collect-term-same-length-6 : (t : ℕ) → collect-term-lts.Need-same-length-6 (collect-term-calls t) (collect-term-at t) collect-term.Post
-collect-term-same-length-6 t c = search needs
+collect-term-same-length-6 t c = c .before .before .before .before .before .cells .given
 
 collect-term-returns-4 : (t : ℕ) → collect-term-lts.Need-returns-4 (collect-term-calls t) (collect-term-at t) collect-term.Post
 collect-term-returns-4 t c = search walks
 
 collect-term-same-length-7 : (t : ℕ) → collect-term-lts.Need-same-length-7 (collect-term-calls t) (collect-term-at t) collect-term.Post
-collect-term-same-length-7 t c = search needs
+collect-term-same-length-7 t c =
+    let at-seen4 = c .before in
+    let at-seen3 = at-seen4 .before .before .before .before .before .before in
+    at-seen4 .seen4 .given ∙ at-seen3 .seen3 .given
 
 collect-term-same-length-8 : (t : ℕ) → collect-term-lts.Need-same-length-8 (collect-term-calls t) (collect-term-at t) collect-term.Post
-collect-term-same-length-8 t c = search needs
+collect-term-same-length-8 t c =
+    let at-cells3 = c .before .before .before .before .before in
+    let at-cells2 = at-cells3 .before .before .before .before .before .before .before .before .before .before in
+    at-cells3 .cells3 .given ∙ at-cells2 .cells2 .given
 
 collect-term-returns-5 : (t : ℕ) → collect-term-lts.Need-returns-5 (collect-term-calls t) (collect-term-at t) collect-term.Post
 collect-term-returns-5 t c =

@@ -1,3 +1,4 @@
+use mathlib.Core.Path.{_∙_}
 use Rattle.taken_out.proofs.taken_variables.Laws.{walks, step-below, step-before, head-before, rest-before}
 use lib.ListN.{length}
 use native.Mathlib.Omega.{arith}
@@ -79,13 +80,16 @@ from-run-from-run-requires t c κs =
     (search needs, (start .pre .1 .0, search needs, rest-before _ _ (start .pre .1 .2) (at-if1 .if1 .left)))
 
 from-run-same-length : (t : ℕ) → from-run-lts.Need-same-length (from-run-calls t) (from-run-at t) from-run.Post
-from-run-same-length t c = search needs
+from-run-same-length t c = c .before .before .before .before .seen .given
 
 from-run-returns-2 : (t : ℕ) → from-run-lts.Need-returns-2 (from-run-calls t) (from-run-at t) from-run.Post
 from-run-returns-2 t c = search walks
 
 from-run-same-length-2 : (t : ℕ) → from-run-lts.Need-same-length-2 (from-run-calls t) (from-run-at t) from-run.Post
-from-run-same-length-2 t c = search needs
+from-run-same-length-2 t c =
+    let at-seen2 = c .before in
+    let at-seen = at-seen2 .before .before .before .before .before .before .before in
+    at-seen2 .seen2 .given ∙ at-seen .seen .given
 
 from-run-returns-3 : (t : ℕ) → from-run-lts.Need-returns-3 (from-run-calls t) (from-run-at t) from-run.Post
 from-run-returns-3 t c = search walks
@@ -134,19 +138,25 @@ from-term-returns : (t : ℕ) → from-term-lts.Need-returns (from-term-calls t)
 from-term-returns t c = search walks
 
 from-term-same-length-2 : (t : ℕ) → from-term-lts.Need-same-length-2 (from-term-calls t) (from-term-at t) from-term.Post
-from-term-same-length-2 t c = search needs
+from-term-same-length-2 t c = c .before .seen .given
 
 from-term-returns-2 : (t : ℕ) → from-term-lts.Need-returns-2 (from-term-calls t) (from-term-at t) from-term.Post
 from-term-returns-2 t c = search walks
 
 from-term-same-length-3 : (t : ℕ) → from-term-lts.Need-same-length-3 (from-term-calls t) (from-term-at t) from-term.Post
-from-term-same-length-3 t c = search needs
+from-term-same-length-3 t c =
+    let at-seen3 = c .before in
+    let at-seen2 = at-seen3 .before .before .before .before in
+    at-seen3 .seen3 .given ∙ at-seen2 .seen2 .given
 
 from-term-returns-3 : (t : ℕ) → from-term-lts.Need-returns-3 (from-term-calls t) (from-term-at t) from-term.Post
 from-term-returns-3 t c = search walks
 
 from-term-same-length-4 : (t : ℕ) → from-term-lts.Need-same-length-4 (from-term-calls t) (from-term-at t) from-term.Post
-from-term-same-length-4 t c = search needs
+from-term-same-length-4 t c =
+    let at-seen5 = c .before in
+    let at-seen4 = at-seen5 .before .before .before .before in
+    at-seen5 .seen5 .given ∙ at-seen4 .seen4 .given
 
 from-term-returns-4 : (t : ℕ) → from-term-lts.Need-returns-4 (from-term-calls t) (from-term-at t) from-term.Post
 from-term-returns-4 t c = search walks
