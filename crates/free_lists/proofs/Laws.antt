@@ -9,7 +9,7 @@ use lib.Seq.{take-all, length-take-le, drop-drop}
 use lib.Arith.{digits-div, digits-mod}
 use lib.Dec.{eqb, ltb}
 use native.Mathlib.Omega.{arith}
-use borrow.Author.Tests.{eq-eqb, ne-eqb, ltb-true, ltb-false}
+use borrow.Author.Tests.{eq-eqb, ne-eqb, ltb-true, ltb-false, not-true, not-false}
 use Rattle.cells.specs.ByPlace.{by-test}
 use Rattle.cells.specs.declared.Found.{Found}
 use Rattle.cells.specs.declared.Found.the-variants as found
@@ -76,14 +76,14 @@ pub group-first : (other : List Binding) (test : Binding → Bool) (l g : List �
 group-first other test l g q mask is r e = e ∙ rw (q, is) (ap nameOf (marked-is other test (bindingsOf (take 62 l))))
 
 -- ---- a pair that may be missing
-module _ (there free : Bool) (r : Bool) (is : r ≡ there) where
-  pub missing-there : r ≡ true → false ≡ (not there && free)
-  missing-there e = rw (← is, e)
+module _ (there free s : Bool) (is : s ≡ free) where
+  pub missing-closed : not s ≡ true → false ≡ (not there && free)
+  missing-closed e = rw (← is, not-true s e) (by-test there (λ o. rw o) (λ o. rw o))
 
-  pub missing-free : r ≡ false → (s : Bool) → s ≡ free → s ≡ (not there && free)
-  missing-free e s q = rw (← is, e, q)
+  pub missing-open : not s ≡ false → (r : Bool) → r ≡ there → not r ≡ (not there && free)
+  missing-open e r q = rw (← is, not-false s e, q) (by-test there (λ o. rw o) (λ o. rw o))
 
-pub ruleset missing = (missing-there, missing-free)
+pub ruleset missing = (missing-closed, missing-open)
 
 -- a pair whose bucket is not set: its variable, if it stands in the pool, is a variable of that name and sort
 free-unlisted : (tags values names : List ℕ) (n t : ℕ) → Listed tags values names (freeIn tags values t) → (a : Binding) → mayBeFree names (a .name) (a .sort) ≡ false

@@ -60,10 +60,10 @@ fn first_in_group(
 fn may_be_missing(names: &[u8], other: &[u32], name: u32, sort: u32) -> bool
     ensures { λ r. ⌜ r ≡ (not (has (bindingsOf (now (other .entry))) (pair name sort)) && mayBeFree (now (names .entry)) name sort) ⌝ }
 {
-    if has(other, name, sort) {
+    if !may_be_free(names, name, sort) {
         return false;
     }
-    may_be_free(names, name, sort)
+    !has(other, name, sort)
 }
 
 // The first pair of a list that another lacks and whose variable is free in the term at t, with the table of the term's names.

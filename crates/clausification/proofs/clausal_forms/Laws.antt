@@ -20,7 +20,8 @@ use Rattle.building.proofs.Clausal.{tags-kept, values-kept, clausal-on, clausal
 use Rattle.clausification.specs.ClausalForms.{FormsBuilt}
 use Rattle.clausification.specs.declared.clausal_forms.Forms.the-variants.{At, Full}
 
-cell-same : (n : ℕ) (l l′ : List ℕ) → take n l′ ≡ take n l → (i : ℕ) → i < n → getD l i 0 ≡ getD l′ i 0
+-- a cell below n, of arrays with equal first n cells
+pub cell-same : (n : ℕ) (l l′ : List ℕ) → take n l′ ≡ take n l → (i : ℕ) → i < n → getD l i 0 ≡ getD l′ i 0
 cell-same n l l′ e i h = sym (getD-take n l i 0 h) ∙ (ap (λ (k : List ℕ). getD k i 0) (sym e) ∙ getD-take n l′ i 0 h)
 
 -- ---- arrays that have kept the pool's cells

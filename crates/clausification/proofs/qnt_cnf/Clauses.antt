@@ -30,6 +30,7 @@ use Rattle.clausification.specs.ClausalForms.{Both, FormsBuilt}
 use Rattle.clausification.specs.declared.clausal_forms.Forms.{Forms}
 use Rattle.clausification.specs.declared.clausal_forms.Forms.the-variants.{At, Full}
 use Rattle.clausification.specs.Promises.{forallAt, followsIn, Sides, Leaves}
+use Rattle.clausification.proofs.clausal_forms.Laws.{cell-same}
 use Rattle.clausification.proofs.clause_search.Laws.{clauses-listed}
 use Rattle.clausification.proofs.qnt_cnf.Follows.{follows-kept}
 
@@ -102,9 +103,6 @@ module _ (n t : ℕ) (tags values : List ℕ) (f : Forms) (tags₂ values₂ : L
 pub ruleset parts = (all-within, all-within-values, all-part, all-part-values, source-within, source-within-values, source-part, source-part-values)
 
 -- ---- the answers
-cell-same : (n : ℕ) (l l′ : List ℕ) → take n l′ ≡ take n l → (i : ℕ) → i < n → getD l′ i 0 ≡ getD l i 0
-cell-same n l l′ e i h = sym (getD-take n l′ i 0 h) ∙ (ap (λ (k : List ℕ). getD k i 0) e ∙ getD-take n l i 0 h)
-
 module _ (tags values : List ℕ) (n l left r right : ℕ) (ask : Sides tags values n l left r right) where
   passed : Passed tags values builtIn n
   passed = pool-passes tags values builtIn n (pool-accepts tags values builtIn n (ask .passed))
@@ -191,8 +189,8 @@ module _ (tags values : List ℕ) (n l left r right : ℕ) (ask : Sides tags val
         same = record {
           long = passed .whole;
           long′ = omega (arith, source-part-values n left tags values f tags₂ values₂ built x m y k e, first .state .source);
-          tags-same = λ i h. getD-take m tags₂ i 0 (omega (arith, first .state .source)) ∙ cell-same n tags tags₂ (kept .tags-kept) i h;
-          values-same = λ i h. getD-take m values₂ i 0 (omega (arith, first .state .source)) ∙ cell-same n values values₂ (kept .values-kept) i h;
+          tags-same = λ i h. getD-take m tags₂ i 0 (omega (arith, first .state .source)) ∙ sym (cell-same n tags tags₂ (kept .tags-kept) i h);
+          values-same = λ i h. getD-take m values₂ i 0 (omega (arith, first .state .source)) ∙ sym (cell-same n values values₂ (kept .values-kept) i h);
         }
 
         pub clausified-follows : (p : Answer) → p ≡ answerOf (followsIn (take m tags₂) (take m values₂) n x l r right (clausesIn literals ends 0 (a .first)))

@@ -19,7 +19,7 @@ use Rattle.cells.specs.declared.Found.{Found}
 use Rattle.cells.specs.declared.Found.the-variants.{At, Nothing}
 use Rattle.cells.proofs.Cells.{same-eq, same-refl}
 use Rattle.cells.proofs.Walks.{first-end, first-here, first-next, first-last}
-use Rattle.descriptions.proofs.description.Fills.{Fills, filled, more, orElse, fills-grown, header-grown, well-formed-fills}
+use Rattle.descriptions.proofs.description.Fills.{Fills, filled, more, orElse, or-nothing, fills-grown, header-grown, well-formed-fills}
 use Rattle.description_index.proofs.index.Laws.{chain-suc, on-or, on-same}
 
 -- ---- the walk over the headers below a place that it reaches
@@ -217,11 +217,7 @@ module _ (tags values : List ℕ) (p : ℕ) (index : List ℕ) (s : Index tags v
       in-other n =
           by-test (test′ p)
           (λ e. let (x, y) = at-same tags′ values′ p tag cells e in absurd (n (rw (bucket, x, y))))
-          (λ e. rw (e, other (8192 + d) (λ o. absurd (omega arith)) (λ o. n (omega arith)), kept) (or-nothing (find tags values p tag cells)))
-        where
-          or-nothing : (f : Found) → f ≡ orElse f Nothing
-          or-nothing (At q) = refl
-          or-nothing Nothing = refl
+          (λ e. rw (e, other (8192 + d) (λ o. absurd (omega arith)) (λ o. n (omega arith)), kept) (sym (or-nothing (find tags values p tag cells))))
 
       holds⁺ : lookUp tags′ values′ index⁺ tag cells ≡ find tags′ values′ p′ tag cells
       holds⁺ =

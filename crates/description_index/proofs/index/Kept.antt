@@ -6,11 +6,9 @@ use mathlib.Core.List.{List}
 use lib.ListN.{getD}
 use native.Mathlib.Omega.{arith}
 use Rattle.cells.specs.Cell.{isAt}
-use Rattle.cells.specs.declared.Found.{Found}
-use Rattle.cells.specs.declared.Found.the-variants.{At, Nothing}
 use Rattle.cells.proofs.Walks.{first-end}
 use Rattle.descriptions.specs.Description.{find}
-use Rattle.descriptions.proofs.description.Fills.{orElse}
+use Rattle.descriptions.proofs.description.Fills.{orElse, or-nothing}
 use Rattle.descriptions.proofs.description.Growth.{Same, cells-same, at-same, find-grown}
 use Rattle.description_index.specs.Index.{bucketOf, asFound, lookUp, Within, bucketAt, Index}
 use Rattle.description_index.proofs.index.Laws.{on-same}
@@ -33,10 +31,6 @@ module _ (n : ℕ) (tags values tags′ values′ : List ℕ) (same : Same n tag
       below : (c : ℕ) → getD index i 0 ≡ c → c ≤ n
       below zero e = omega arith
       below (suc q) e = omega (arith, s .entry i q e .before)
-
-  or-nothing : (f : Found) → orElse f Nothing ≡ f
-  or-nothing (At q) = refl
-  or-nothing Nothing = refl
 
   holds-kept : (tag : ℕ) (cells : List ℕ) → lookUp tags′ values′ index tag cells ≡ find tags′ values′ n tag cells
   unfolding lookUp

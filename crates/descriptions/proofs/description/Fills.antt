@@ -64,6 +64,10 @@ abbrev pub orElse : Found → Found → Found
 orElse (At p) after = At p
 orElse Nothing after = after
 
+pub or-nothing : (f : Found) → orElse f Nothing ≡ f
+or-nothing (At p) = refl
+or-nothing Nothing = refl
+
 -- a pool of n cells has grown to n′ cells, and those below n are the same
 module _ (values : List ℕ) (n : ℕ) (values′ : List ℕ) (n′ : ℕ) (grows : n ≤ n′) (same : (p : ℕ) → p < n → getD values′ p 0 ≡ getD values p 0) where
   fills-from : (p : ℕ) → Fills values n p → Fills values′ n′ n → Fills values′ n′ p
