@@ -7,8 +7,8 @@
 STEPS reads a step file and prints its answers; ORACLE called with `steps` does the same by the Rust. FOLDER has a build.sh that
 builds ORACLE into the folder that it is given. The files come from the seed (bench_files.py). Each program runs on a file until
 its runs have at least so much user time together; what is given is the mean of a run. A table has for each file the ratio of the
-two, the ratio of what both take above `true`, a program that does nothing, how ours grows from the file before, of half the cells, the
-times, the runs, and how many answers are alike of those that the Rust was asked for; after it come the ratios of the group.
+two, how ours grows from the file before, of half the cells, the times, the runs, and how many answers are alike of those that
+the Rust was asked for; after it come the ratios of the group. Before the tables stands what `true` takes, a program that does nothing.
 
 With --hostile only STEPS runs, on each of the hostile files once, under a stack limit; with --check its answers are held to the
 reference.
@@ -61,31 +61,27 @@ def measured(command, paths, least):
 
 
 # ---- ours against the Rust
-def ratio(ours, rust, start=0.0):
-    """Of the times above a start. None where the Rust was not asked in some step."""
+def ratio(ours, rust):
+    """None where the Rust was not asked in some step."""
     asked = not any(line.endswith('big') for line in rust.lines)
-    return (ours.seconds - start) / (rust.seconds - start) if asked and rust.seconds > start else None
+    return ours.seconds / rust.seconds if asked and rust.seconds else None
 
 
-def written_ratio(number):
-    return '-' if number is None else '%.2f' % number
-
-
-def row(name, ours, rust, before, start):
+def row(name, ours, rust, before):
+    shown = ratio(ours, rust)
     asked = [(a, b) for a, b in zip(ours.lines, rust.lines) if not b.endswith('big')]
-    return '%9s %9s %8s %11.5f %11.5f %9s %14s  %s' % (
-        written_ratio(ratio(ours, rust)), written_ratio(ratio(ours, rust, start)), 'x%.2f' % (ours.seconds / before) if before else '', ours.seconds, rust.seconds,
+    return '%9s %8s %11.5f %11.5f %9s %14s  %s' % (
+        '-' if shown is None else '%.2f' % shown, 'x%.2f' % (ours.seconds / before) if before else '', ours.seconds, rust.seconds,
         '%d, %d' % (ours.runs, rust.runs), '%d of %d' % (sum(a == b for a, b in asked), len(asked)), name)
 
 
-HEAD = '%9s %9s %8s %11s %11s %9s %14s  file' % ('ours/Rust', 'above', 'growth', 'ours, s', 'Rust, s', 'runs', 'alike')
+HEAD = '%9s %8s %11s %11s %9s %14s  file' % ('ours/Rust', 'growth', 'ours, s', 'Rust, s', 'runs', 'alike')
 
 
 def compare(options, oracle, folder):
     rng = random.Random(options.seed)
     (paths, _), = written([('8 bytes', [bytes(8)])], folder)
-    start = measured(['true'], paths, options.least).seconds
-    print('true, a program that does nothing: %.5f s\n' % start)
+    print('true, a program that does nothing: %.5f s\n' % measured(['true'], paths, options.least).seconds)
     groups = (('The start of the programs, without a step', [('8 bytes', [bytes(8)])], False),
               ('Valid steps of all rules, %d files of 256 steps' % bench_files.POOLS, bench_files.valid_files(rng), True),
               ('Clause lists near the limits, 64 steps', bench_files.clause_files(rng), False),
@@ -95,7 +91,7 @@ def compare(options, oracle, folder):
         before, pairs = None, []
         for paths, name in written(files, folder):
             ours, rust = (measured(command, paths, options.least) for command in ([options.steps], [oracle, 'steps']))
-            print(row(name, ours, rust, before, start * len(paths)), flush=True)
+            print(row(name, ours, rust, before), flush=True)
             before = ours.seconds if doubles else None
             pairs += [(ours, rust)] * (ratio(ours, rust) is not None)
         print(summed(pairs) + '\n')
