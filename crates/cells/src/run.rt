@@ -3,7 +3,7 @@ use crate::SortPlace;
 use crate::TermPlace;
 ghost use mathlib.Core.Path.{_≡_};
 ghost use lib.ListN.{getD};
-ghost use Rattle.cells.specs.Cell.{cellsOf, sortOf, operandsOf, sameCells, isAt};
+ghost use Rattle.cells.specs.Cell.{cellsOf, sortOf, operandsOf};
 
 // The cell at i, and 0 past the end.
 pub fn cell(a: &[u32], i: usize) -> u32
@@ -55,31 +55,4 @@ pub fn operands<'a>(tags: &[u32], values: &'a [u32], t: TermPlace) -> &'a [u32]
         return run;
     }
     &run[1..]
-}
-
-// Whether two runs of cells are equal.
-pub fn same_cells(a: &[u32], b: &[u32]) -> bool
-    ensures { λ r. ⌜ r ≡ sameCells (now (a .entry)) (now (b .entry)) ⌝ }
-{
-    if a.len() != b.len() {
-        return false;
-    }
-    let mut i: usize = 0;
-    while i < a.len() {
-        if a[i] != b[i] {
-            return false;
-        }
-        i += 1;
-    }
-    true
-}
-
-// Whether the header at p has this tag and these cells.
-pub fn is_at(tags: &[u32], values: &[u32], p: usize, tag: u32, cells_there: &[u32]) -> bool
-    ensures { λ r. ⌜ r ≡ isAt (now (tags .entry)) (now (values .entry)) p tag (now («cells_there» .entry)) ⌝ }
-{
-    if cell(tags, p) != tag {
-        return false;
-    }
-    same_cells(cells(values, p), cells_there)
 }

@@ -2,8 +2,8 @@
 use pool::TermPlace;
 use pool::run::cell;
 use pool::run::operands;
-use pool::run::same_cells;
 use pool::run::wide;
+use pool::same_cells;
 ghost use mathlib.Core.Path.{_≡_};
 ghost use Prim.Native.Nat.{_-_};
 ghost use lib.ListN.{take, drop};

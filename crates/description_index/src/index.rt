@@ -1,6 +1,7 @@
 // An index of descriptions: the headers of each bucket in a chain, the last one first. It finds what a scan of the headers finds.
 use crate::adding::is_full;
 use crate::adding::put;
+use cell_comparison::is_at;
 use cells::Found;
 use cells::run;
 use descriptions::description::Added;
@@ -51,7 +52,7 @@ fn on_chain(
     let mut last: u32 = 0;
     while 0 < c {
         let q = run::wide(c) - 1;
-        last = latest(run::is_at(tags, values, q, tag, cells), c, last);
+        last = latest(is_at(tags, values, q, tag, cells), c, last);
         c = run::cell(index, q);
     }
     last

@@ -1,4 +1,5 @@
 // Descriptions, a header's tag and cells: finding one, the first that repeats another, and cutting a pool back.
+use cell_comparison::is_at;
 use cells::Found;
 use cells::run;
 ghost use mathlib.Core.Path.{_≡_};
@@ -17,7 +18,7 @@ pub fn find(tags: &[u32], values: &[u32], n: usize, tag: u32, cells: &[u32]) -> 
 {
     let mut p: usize = 0;
     while p < n {
-        if run::is_at(tags, values, p, tag, cells) {
+        if is_at(tags, values, p, tag, cells) {
             return Found::At(p);
         }
         let k = run::cell(values, p) as usize;

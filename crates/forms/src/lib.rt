@@ -4,8 +4,8 @@ use pool::run::cell;
 use pool::run::operands;
 ghost use mathlib.Core.Path.{_≡_};
 ghost use Rattle.quantifiers.specs.Binding.{bindingsOf};
-ghost use Rattle.forms.specs.Form.{quantifier, tagOf, operator, oneOf, twoOf, threeOf, equality, andThen};
-ghost use Rattle.forms.specs.FormAnswer.{pairsOf, quantifierIn, oneIn, twoIn, threeIn};
+ghost use Rattle.forms.specs.Form.{quantifier, tagOf, operator, twoOf, equality, andThen};
+ghost use Rattle.forms.specs.FormAnswer.{pairsOf, quantifierIn, twoIn};
 
 // A forall (true) or exists, with its body.
 pub enum Quantified {
@@ -67,20 +67,6 @@ pub fn bindings<'a>(tags: &[u32], values: &'a [u32], x: u32) -> &'a [u32]
     &run[1..]
 }
 
-// The operand of the term at x, if it has this tag and one operand.
-pub fn one_operand(tags: &[u32], values: &[u32], tag: u32, x: u32) -> One
-    ensures { λ r. ⌜ andThen (operator (now (tags .entry)) (now (values .entry)) tag x) oneOf ≡ oneIn r ⌝ }
-{
-    if cell(tags, x as usize) != tag {
-        return One::Not;
-    }
-    let run = operands(tags, values, TermPlace(x));
-    if run.len() != 1 {
-        return One::Not;
-    }
-    One::Is(run[0])
-}
-
 // The operands of the term at x, if it has this tag and two operands.
 pub fn two_operands(tags: &[u32], values: &[u32], tag: u32, x: u32) -> Two
     ensures { λ r. ⌜ andThen (operator (now (tags .entry)) (now (values .entry)) tag x) twoOf ≡ twoIn r ⌝ }
@@ -93,20 +79,6 @@ pub fn two_operands(tags: &[u32], values: &[u32], tag: u32, x: u32) -> Two
         return Two::Not;
     }
     Two::Are(run[0], run[1])
-}
-
-// The operands of the term at x, if it has this tag and three operands.
-pub fn three_operands(tags: &[u32], values: &[u32], tag: u32, x: u32) -> Three
-    ensures { λ r. ⌜ andThen (operator (now (tags .entry)) (now (values .entry)) tag x) threeOf ≡ threeIn r ⌝ }
-{
-    if cell(tags, x as usize) != tag {
-        return Three::Not;
-    }
-    let run = operands(tags, values, TermPlace(x));
-    if run.len() != 3 {
-        return Three::Not;
-    }
-    Three::Are(run[0], run[1], run[2])
 }
 
 // The two sides of an equality at x.

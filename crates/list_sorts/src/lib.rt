@@ -1,5 +1,7 @@
 // Check 16: the sort rules whose sort is made of a list of sorts, a Tuple, a Function or a relation.
 // Each rule answers whether the sort at s is the one that `compute_sort` gives for the operand run os.
+use cell_comparison::is_at;
+use cell_comparison::same_cells;
 use cells::SortPlace;
 use cells::TermPlace;
 use cells::run;
@@ -108,10 +110,10 @@ fn same_joined(a: &[u32], left: &[u32], right: &[u32]) -> bool
     if a.len() < n {
         return false;
     }
-    if !run::same_cells(&a[0..n], left) {
+    if !same_cells(&a[0..n], left) {
         return false;
     }
-    run::same_cells(&a[n..], right)
+    same_cells(&a[n..], right)
 }
 
 // ---- tuples and functions
@@ -156,7 +158,7 @@ fn apply(tags: &[u32], values: &[u32], s: SortPlace, m: usize, entries: &[u32]) 
     }
     if m <= entries.len() {
         let at = s.0 as usize;
-        return run::is_at(tags, values, at, 10, rest);
+        return is_at(tags, values, at, 10, rest);
     }
     false
 }
@@ -212,7 +214,7 @@ fn is_tuple_set(tags: &[u32], values: &[u32], s: SortPlace) -> bool
 {
     let at = s.0 as usize;
     let part = run::cell(values, at + 1);
-    if !run::is_at(tags, values, at, 12, &[part]) {
+    if !is_at(tags, values, at, 12, &[part]) {
         return false;
     }
     run::cell(tags, part as usize) == 13

@@ -3,6 +3,7 @@
 pub mod call;
 
 pub use answers::Answer;
+pub use cell_comparison::same_cells;
 pub use cells::Found;
 pub use cells::SortPlace;
 pub use cells::TermPlace;

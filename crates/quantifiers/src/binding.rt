@@ -1,7 +1,7 @@
 // Binding lists of quantifiers, as runs of cells: pairs of name and sort. A last cell without its partner is no pair.
 ghost use mathlib.Core.Path.{_≡_};
 ghost use mathlib.Core.Bool.{not};
-ghost use Rattle.quantifiers.specs.Binding.{bindingsOf, same, has, sameAll, firstOf};
+ghost use Rattle.quantifiers.specs.Binding.{bindingsOf, same, has, firstOf};
 ghost use Rattle.quantifiers.specs.BindingAnswer.{pair, nameOf};
 
 // The name of the first pair that passes a test.
@@ -18,23 +18,6 @@ pub fn same_pair(a: u32, a_sort: u32, b: u32, b_sort: u32) -> bool
         return false;
     }
     a_sort == b_sort
-}
-
-// Whether two lists are equal, pair by pair in order.
-pub fn same_lists(a: &[u32], b: &[u32]) -> bool
-    ensures { λ r. ⌜ r ≡ sameAll (bindingsOf (now (a .entry))) (bindingsOf (now (b .entry))) ⌝ }
-{
-    let mut i: usize = 0;
-    while 2 <= a.len() - i {
-        if b.len() - i < 2 {
-            return false;
-        }
-        if !same_pair(a[i], a[i + 1], b[i], b[i + 1]) {
-            return false;
-        }
-        i += 2;
-    }
-    b.len() - i < 2
 }
 
 // Whether a list has this pair.

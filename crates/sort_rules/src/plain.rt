@@ -1,6 +1,6 @@
 // Sorts with at most one part.
+use cell_comparison::is_at;
 use cells::SortPlace;
-use cells::run;
 ghost use mathlib.Core.Path.{_≡_};
 ghost use mathlib.Core.List.{[], _∷_};
 ghost use Rattle.cells.specs.Cell.{isAt};
@@ -10,7 +10,7 @@ pub fn is_plain(tags: &[u32], values: &[u32], s: SortPlace, tag: u32) -> bool
     ensures { λ r. ⌜ r ≡ isAt (now (tags .entry)) (now (values .entry)) (s .0) tag [] ⌝ }
 {
     let at = s.0 as usize;
-    run::is_at(tags, values, at, tag, &values[0..0])
+    is_at(tags, values, at, tag, &values[0..0])
 }
 
 // Whether the sort at s has this tag and this one part.
@@ -19,5 +19,5 @@ pub fn is_single(tags: &[u32], values: &[u32], s: SortPlace, tag: u32, part: u32
 {
     let at = s.0 as usize;
     let parts = [part];
-    run::is_at(tags, values, at, tag, &parts)
+    is_at(tags, values, at, tag, &parts)
 }

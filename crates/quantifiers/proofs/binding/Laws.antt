@@ -11,7 +11,7 @@ use native.Mathlib.Omega.{arith}
 use native.Mathlib.Numerals.{add-one}
 use borrow.Author.Tests.{eq-eqb, ne-eqb, eqb-true, ltb-true, ltb-false, not-true, not-false}
 use Rattle.cells.specs.ByPlace.{by-test}
-use Rattle.quantifiers.specs.Binding.{Binding, bindingsOf, same, has, sameAll, firstOf}
+use Rattle.quantifiers.specs.Binding.{Binding, bindingsOf, same, has, firstOf}
 use Rattle.quantifiers.specs.BindingAnswer.{pair, pairAt, nameOf}
 use Rattle.quantifiers.specs.declared.binding.FirstName.{FirstName}
 use Rattle.quantifiers.specs.declared.binding.FirstName.the-variants.{Name, Nothing}
@@ -51,31 +51,6 @@ unfolding bindingsOf
 pairs-next l i h =
     let after : suc (i + 1) ≡ i + 2 = omega arith in
     rw (drop-cons l i 0 (omega arith), drop-cons l (suc i) 0 (omega arith), ← add-one i, after)
-
--- ---- two lists: w says whether they are equal from i on
-module _ (w : Bool) (a b : List ℕ) (i : ℕ) (inv : w ≡ sameAll (bindingsOf (drop i a)) (bindingsOf (drop i b))) where
-  pub lists-end : length a - i < 2 → ltb (length b - i) 2 ≡ w
-  unfolding sameAll
-  lists-end h =
-      by-test (ltb (length b - i) 2)
-      (λ e. rw (inv, pairs-end a i h, pairs-end b i (ltb-true _ _ e), e))
-      (λ e. rw (inv, pairs-end a i h, pairs-next b i (ltb-false _ _ e), e))
-
-  module _ (h : 2 ≤ length a - i) where
-    pub lists-longer : length b - i < 2 → false ≡ w
-    unfolding sameAll
-    lists-longer g = rw (inv, pairs-next a i h, pairs-end b i g)
-
-    module _ (g : 2 ≤ length b - i) (r : Bool) (is : r ≡ same (pairAt a i) (pairAt b i)) where
-      pub lists-differ : not r ≡ true → false ≡ w
-      unfolding sameAll
-      lists-differ e = rw (inv, pairs-next a i h, pairs-next b i g, ← is, not-true r e)
-
-      pub lists-next : not r ≡ false → w ≡ sameAll (bindingsOf (drop (i + 2) a)) (bindingsOf (drop (i + 2) b))
-      unfolding sameAll
-      lists-next e = rw (inv, pairs-next a i h, pairs-next b i g, ← is, not-false r e)
-
-pub ruleset two-lists = (lists-end, lists-longer, lists-differ, lists-next)
 
 -- ---- a pair in a list: w says whether it stands there from i on
 module _ (w : Bool) (l : List ℕ) (a : Binding) (i : ℕ) (inv : w ≡ has (bindingsOf (drop i l)) a) where

@@ -1,7 +1,7 @@
 use Rattle.forms.proofs.Laws.{ones}
 use borrow.Author.Needs.{needs}
-use Rattle.forms.proofs.one_operand.Statement.{statement}
-use Rattle.forms.proofs.one_operand.Tie as tie
+use Rattle.operand_forms.proofs.one_operand.Statement.{statement}
+use Rattle.operand_forms.proofs.one_operand.Tie as tie
 
 cell-requires : tie.Need-cell-requires
 cell-requires c κs = search needs

@@ -1,7 +1,7 @@
 use Rattle.forms.proofs.Laws.{threes}
 use borrow.Author.Needs.{needs}
-use Rattle.forms.proofs.three_operands.Statement.{statement}
-use Rattle.forms.proofs.three_operands.Tie as tie
+use Rattle.operand_forms.proofs.three_operands.Statement.{statement}
+use Rattle.operand_forms.proofs.three_operands.Tie as tie
 
 cell-requires : tie.Need-cell-requires
 cell-requires c κs = search needs

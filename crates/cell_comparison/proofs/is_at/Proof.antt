@@ -1,7 +1,7 @@
 use Rattle.cells.proofs.Cells.{descriptions}
 use borrow.Author.Needs.{needs}
-use Rattle.cells.proofs.run.is_at.Statement.{statement}
-use Rattle.cells.proofs.run.is_at.Tie as tie
+use Rattle.cell_comparison.proofs.is_at.Statement.{statement}
+use Rattle.cell_comparison.proofs.is_at.Tie as tie
 
 cell-requires : tie.Need-cell-requires
 cell-requires c κs = search needs

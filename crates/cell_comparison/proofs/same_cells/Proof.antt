@@ -1,11 +1,11 @@
 use borrow.Author.Needs.{needs}
 use Rattle.cells.proofs.Cells.{same}
 use mathlib.Core.Path.{_≡_}
 use Prim.Native.Nat.{_-_}
 use lib.ListN.{length, drop}
 use Rattle.cells.specs.Cell.{sameCells}
-use Rattle.cells.proofs.run.same_cells.Statement.{statement}
-use Rattle.cells.proofs.run.same_cells.Tie as tie
+use Rattle.cell_comparison.proofs.same_cells.Statement.{statement}
+use Rattle.cell_comparison.proofs.same_cells.Tie as tie
 
 abbrev Inv-loop : tie.InvT-loop
 Inv-loop a b i₀ i = sameCells a b ≡ sameCells (drop i a) (drop i b)

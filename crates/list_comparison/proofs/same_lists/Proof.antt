@@ -1,11 +1,11 @@
 use borrow.Author.Needs.{needs}
-use Rattle.quantifiers.proofs.binding.Laws.{two-lists, lists-next}
+use Rattle.list_comparison.proofs.Laws.{two-lists, lists-next}
 use mathlib.Core.Path.{_≡_}
 use Prim.Native.Nat.{_-_, _≤_}
 use lib.ListN.{length, drop}
 use Rattle.quantifiers.specs.Binding.{bindingsOf, sameAll}
-use Rattle.quantifiers.proofs.binding.same_lists.Statement.{statement}
-use Rattle.quantifiers.proofs.binding.same_lists.Tie as tie
+use Rattle.list_comparison.proofs.same_lists.Statement.{statement}
+use Rattle.list_comparison.proofs.same_lists.Tie as tie
 
 abbrev Inv-loop : tie.InvT-loop
 Inv-loop a b i₀ i = (i ≤ length a) × (i ≤ length b) × (sameAll (bindingsOf a) (bindingsOf b) ≡ sameAll (bindingsOf (drop i a)) (bindingsOf (drop i b)))
