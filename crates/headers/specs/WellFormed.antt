@@ -1,6 +1,6 @@
 -- Check 14: a pool whose headers and cells are well formed, and the first header that is not.
 -- 01, "Pool, from src/ast/term.rs": the tags of sorts and terms, their cells, and what a cell that names a sort or term holds.
--- Rests on Bounded and Headers, and on the enums `Shape` and `CellKind`.
+-- Rests on Bounded, Headers and TermTag, which it passes on, and on the enums `Shape` and `CellKind`.
 use Prim.Native.Nat.{ℕ, _+_, _-_, _%_}
 use mathlib.Core.Bool.{Bool, true, false, not, _&&_, _||_, cond}
 use mathlib.Core.List.{List}
@@ -9,6 +9,7 @@ use lib.Dec.{leb, ltb, eqb}
 use Rattle.cells.specs.Bounded.{every}
 use Rattle.cells.specs.Headers.{firstHeader}
 use Rattle.cells.specs.declared.Found.{Found}
+unfoldable pub use Rattle.term_tags.specs.TermTag.{isTermTag, isTerm}
 use Rattle.headers.specs.declared.well_formed.Shape.{Shape}
 use Rattle.headers.specs.declared.well_formed.Shape.the-variants.{Unknown, Nullary, Numbered, Named, Sorts, TwoSorts, OneSort, Constant, BitVector, Application, Binder, Let, Operator}
 use Rattle.headers.specs.declared.well_formed.CellKind.{CellKind}
@@ -76,9 +77,6 @@ kindAt Operator j = cond (eqb j 0) OfSort OfTerm
 unfoldable pub isSortTag : ℕ → Bool
 isSortTag tag = leb 1 tag && ltb tag 14
 
-unfoldable pub isTermTag : ℕ → Bool
-isTermTag tag = leb 16 tag
-
 -- "Cells that name a sort or term hold the place of one that stands earlier than the header." A cell between headers has tag 0, so a
 -- place whose tag is a sort's or a term's is a header's.
 unfoldable pub valueFits : List ℕ → ℕ → CellKind → ℕ → Bool
@@ -104,7 +102,3 @@ headerFits tags values n p =
 -- "14 pool ill-formed (place of the first bad header, 0 if N is 0)"
 unfoldable pub firstBad : List ℕ → List ℕ → ℕ → Found
 firstBad tags values n = firstHeader values n (λ p. not (headerFits tags values n p))
-
--- t is the place of a term of a well-formed pool
-unfoldable pub isTerm : List ℕ → ℕ → ℕ → Bool
-isTerm tags n t = ltb t n && isTermTag (getD tags t 0)

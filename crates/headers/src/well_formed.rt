@@ -1,7 +1,8 @@
 // Check 14: the headers of a pool are well formed.
 use cells::Found;
-use cells::TermPlace;
 use cells::run::cell;
+pub use term_tags::is_term;
+pub use term_tags::is_term_tag;
 ghost use Prim.Native.Nat.{_+_, _≤_, _<_};
 ghost use mathlib.Core.Bool.{cond};
 ghost use mathlib.Core.Path.{_≡_};
@@ -9,7 +10,7 @@ ghost use lib.Dec.{eqb};
 ghost use mir.Syntax.{w64};
 ghost use mir.Val.{Fits};
 ghost use Rattle.cells.specs.Bounded.{every};
-ghost use Rattle.headers.specs.WellFormed.{shapeOf, countFits, pairKind, kindAt, isSortTag, isTermTag, valueFits, cellFits, boolFirst, headerFits, firstBad, isTerm};
+ghost use Rattle.headers.specs.WellFormed.{shapeOf, countFits, pairKind, kindAt, isSortTag, valueFits, cellFits, boolFirst, headerFits, firstBad};
 
 // How the cells of a header are laid out.
 pub enum Shape {
@@ -152,13 +153,6 @@ fn is_sort_tag(tag: u32) -> bool
     1 <= tag && tag < 14
 }
 
-// Whether a header with this tag is a term's, in a pool that passes check 14.
-pub fn is_term_tag(tag: u32) -> bool
-    ensures { λ r. ⌜ r ≡ isTermTag tag ⌝ }
-{
-    16 <= tag
-}
-
 // Whether a cell of the header at p may hold v, where the cell is of this kind.
 fn value_fits(tags: &[u32], p: usize, kind: CellKind, v: u32) -> bool
     ensures { λ r. ⌜ r ≡ valueFits (now (tags .entry)) p kind v ⌝ }
@@ -236,12 +230,4 @@ pub fn first_bad(tags: &[u32], values: &[u32], n: usize) -> Found
         p += 1 + cell(values, p) as usize;
     }
     Found::Nothing
-}
-
-// Whether t is the place of a term of a well-formed pool.
-pub fn is_term(tags: &[u32], n: usize, t: TermPlace) -> bool
-    ensures { λ r. ⌜ r ≡ isTerm (now (tags .entry)) n (t .0) ⌝ }
-{
-    let at = t.0 as usize;
-    at < n && is_term_tag(cell(tags, at))
 }

@@ -65,14 +65,6 @@ pub value-of : (tags : List ℕ) (p : ℕ) (kind s : CellKind) (v : ℕ) (r : Bo
 value-of tags p kind s v r is e = rw is e
 
 -- ---- a cell
--- a place below a bound whose tag passes a test
-module _ (test : ℕ → Bool) (tags : List ℕ) (bound v : ℕ) where
-  pub not-below : bound ≤ v → ltb v bound ≡ (ltb v bound && test (getD tags v 0))
-  not-below h = rw (le-ltb _ _ h)
-
-  pub below : v < bound → (tag : ℕ) → tag ≡ getD tags v 0 → (r : Bool) → r ≡ test tag → r ≡ (ltb v bound && test (getD tags v 0))
-  below h tag t r e = rw (lt-ltb _ _ h, ← t) e
-
 module _ (tags values : List ℕ) (p : ℕ) (shape : Shape) (j tag : ℕ) (t : tag ≡ getD tags (p + 1 + j) 0) where
   pub cell-header : (tag ≡ 0 → ⊥) → false ≡ cellFits tags values p shape j
   unfolding cellFits

@@ -1,8 +1,8 @@
-use Rattle.headers.specs.WellFormed.{isTermTag, isTerm}
-use Rattle.headers.proofs.well_formed.Laws.{below, not-below}
+use Rattle.term_tags.specs.TermTag.{isTermTag, isTerm}
+use Rattle.term_tags.proofs.Laws.{below, not-below}
 use borrow.Author.Needs.{needs}
-use Rattle.headers.proofs.well_formed.is_term.Statement.{statement}
-use Rattle.headers.proofs.well_formed.is_term.Tie as tie
+use Rattle.term_tags.proofs.is_term.Statement.{statement}
+use Rattle.term_tags.proofs.is_term.Tie as tie
 
 cast-at : tie.Need-cast-at
 cast-at c = search needs
