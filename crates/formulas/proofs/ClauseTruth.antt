@@ -14,12 +14,12 @@ use Rattle.term_trees.specs.FreeTree.{has, free}
 use Rattle.formulas.specs.Formula.{Form, all}
 use Rattle.formulas.specs.Normal.{Normal, Normals, lit, nmany, nall, nnil, ncons, nnf, prenex, prenexes, taken}
 use Rattle.formulas.specs.Clauses.{Clause, product, cnf, cnfAnd, cnfOr}
-use Rattle.formulas.specs.Skeleton.{skeleton, normals, clauseForm, clauseTerm}
+use Rattle.formulas.specs.Skeleton.{skeleton, IsOpaque, normals, clauseForm, clauseTerm}
 use Rattle.formulas.specs.Truth.{Assignment, Reading, Local, over, truth, True, truthN, truthNs, clauseTruth, clausesTruth}
 use Rattle.formulas.proofs.Over.{bool-cases, not-both, andOr-intro, andOr-left, andOr-right, or-left, or-right, or-cases}
 use Rattle.formulas.proofs.Over.{Subset, outside, has-append, Within, mix, mix-in, mix-out, over-elim, over-intro}
-use Rattle.formulas.proofs.Leaves.{EachN, nnf-each, clause-each}
-use Rattle.formulas.proofs.NormalTruth.{nnf-truth, IsOpaque, skeleton-leaves, build-truth}
+use Rattle.formulas.proofs.Leaves.{Each, EachN, nnf-each, clause-each, skeleton-leaves}
+use Rattle.formulas.proofs.NormalTruth.{nnf-truth, build-truth}
 use Rattle.formulas.proofs.Coincide.{freeF, Rests, coincide, free-skeleton}
 
 -- ---- a forall reached through `and` and `or`
@@ -161,15 +161,15 @@ module _ (R : Reading) (F : Var → Bool) (p : Assignment (R .Value) → Bool) (
 
 module _ (R : Reading) (local : Local R) where
   -- ls the formula's own variables, rs those of the clause
-  pub clause-follows : (f : Form Vars Term) (ls rs : Vars) (c : Clause Vars Term)
+  pub clause-follows : (f : Form Vars Term) → Each IsOpaque f → (ls rs : Vars) (c : Clause Vars Term)
       → List·Memᴰ c (cnf (prenex (nnf f true)))
       → Subset rs (ls ++ takenVars (nnf f true))
       → ((v : Var) → has (takenVars (nnf f true)) v ≡ true → freeF (all true ls f) v ≡ false)
       → (ρ : Assignment (R .Value)) → truth R (all true ls f) ρ ≡ true → over R true rs (clauseTruth R c) ρ ≡ true
-  clause-follows f ls rs c m sub none-free ρ e =
+  clause-follows f o ls rs c m sub none-free ρ e =
       over-intro R true rs (clauseTruth R c) ρ
       (λ σ w. clause-of-formula R f c m σ
-      (widen R (freeF f) (truth R f) (coincide R local f) ls (takenVars (nnf f true)) none-free ρ e σ
+      (widen R (freeF f) (truth R f) (coincide R local f o) ls (takenVars (nnf f true)) none-free ρ e σ
       (λ v q. w v (outside rs (ls ++ takenVars (nnf f true)) sub v q))))
 
   pub clause-sound : (t : Term) (ls rs : Vars) (c : Clause Vars Term) (s s′ : Sort)
@@ -187,4 +187,4 @@ module _ (R : Reading) (local : Local R) where
 
       follows : over R true rs (clauseTruth R c) ρ ≡ true
       follows =
-          clause-follows (skeleton t) ls rs c m sub (λ v q. free-skeleton (quant true s ls t) v ∙ none-free v q) ρ e
+          clause-follows (skeleton t) (skeleton-leaves t) ls rs c m sub (λ v q. free-skeleton (quant true s ls t) v ∙ none-free v q) ρ e

@@ -11,8 +11,9 @@ use lib.Dec.{eqb}
 use Rattle.term_trees.specs.Term.{Var, Vars, Term, Terms, const, bitVector, var, app, quant, bind, letin, op, noTerm, tnil, tcons}
 use Rattle.term_trees.specs.FreeTree.{has, free, frees}
 use Rattle.formulas.specs.Formula.{Form, Forms, opaque, neg, many, imp, ite, iff, all, fnil, fcons}
-use Rattle.formulas.specs.Skeleton.{skeleton, skeletons, leftBool, notOf, impliesOf, iteOf, iffOf, formOf}
+use Rattle.formulas.specs.Skeleton.{skeleton, skeletons, IsOpaque, leftBool, notOf, impliesOf, iteOf, iffOf, formOf}
 use Rattle.formulas.specs.Truth.{Assignment, Reading, Local, andOr, over, truth, truths, True}
+use Rattle.formulas.proofs.Leaves.{Each, EachOf, skeleton-leaves}
 use Rattle.formulas.proofs.Over.{bool-cases, same-at, andOr-intro, or-left, or-right}
 use Rattle.formulas.proofs.Over.{Within, mix, mix-in, mix-out, over-elim, over-intro}
 
@@ -57,25 +58,26 @@ module _ (R : Reading) where
 
   module _ (local : Local R) where
     mutual
-      pub coincide : (f : Form Vars Term) → Rests (freeF f) (truth R f)
-      coincide (opaque t) ρ σ h = local t ρ σ h
-      coincide (neg f) ρ σ h = ap not (coincide f ρ σ h)
-      coincide (many b fs) ρ σ h = coincides fs b ρ σ h
-      coincide (imp f g) ρ σ h =
-          ap₂ (λ (x y : Bool). not x || y) (coincide f ρ σ (λ v e. h v (or-left _ _ e)))
-          (coincide g ρ σ (λ v e. h v (or-right (freeF f v) _ e)))
-      coincide (ite f g k) ρ σ h =
-          λ i. cond (coincide f ρ σ (λ v e. h v (or-left _ _ e)) i)
-          (coincide g ρ σ (λ v e. h v (or-right (freeF f v) _ (or-left _ _ e))) i)
-          (coincide k ρ σ (λ v e. h v (or-right (freeF f v) _ (or-right (freeF g v) _ e))) i)
-      coincide (iff f g) ρ σ h =
-          ap₂ Bool·beq (coincide f ρ σ (λ v e. h v (or-left _ _ e))) (coincide g ρ σ (λ v e. h v (or-right (freeF f v) _ e)))
-      coincide (all b vs f) ρ σ h = over-rests b vs (truth R f) (freeF f) (coincide f) ρ σ h
+      pub coincide : (f : Form Vars Term) → Each IsOpaque f → Rests (freeF f) (truth R f)
+      coincide (opaque t) o ρ σ h = local t o ρ σ h
+      coincide (neg f) o ρ σ h = ap not (coincide f o ρ σ h)
+      coincide (many b fs) o ρ σ h = coincides fs o b ρ σ h
+      coincide (imp f g) o ρ σ h =
+          ap₂ (λ (x y : Bool). not x || y) (coincide f (o .0) ρ σ (λ v e. h v (or-left _ _ e)))
+          (coincide g (o .1) ρ σ (λ v e. h v (or-right (freeF f v) _ e)))
+      coincide (ite f g k) o ρ σ h =
+          λ i. cond (coincide f (o .0) ρ σ (λ v e. h v (or-left _ _ e)) i)
+          (coincide g (o .1) ρ σ (λ v e. h v (or-right (freeF f v) _ (or-left _ _ e))) i)
+          (coincide k (o .2) ρ σ (λ v e. h v (or-right (freeF f v) _ (or-right (freeF g v) _ e))) i)
+      coincide (iff f g) o ρ σ h =
+          ap₂ Bool·beq (coincide f (o .0) ρ σ (λ v e. h v (or-left _ _ e))) (coincide g (o .1) ρ σ (λ v e. h v (or-right (freeF f v) _ e)))
+      coincide (all b vs f) o ρ σ h = over-rests b vs (truth R f) (freeF f) (coincide f o) ρ σ h
 
-      pub coincides : (fs : Forms Vars Term) (b : Bool) → Rests (freeFs fs) (truths R b fs)
-      coincides fnil b ρ σ h = refl
-      coincides (fcons f fs) b ρ σ h =
-          ap₂ (andOr b) (coincide f ρ σ (λ v e. h v (or-left _ _ e))) (coincides fs b ρ σ (λ v e. h v (or-right (freeF f v) _ e)))
+      pub coincides : (fs : Forms Vars Term) → EachOf IsOpaque fs → (b : Bool) → Rests (freeFs fs) (truths R b fs)
+      coincides fnil o b ρ σ h = refl
+      coincides (fcons f fs) o b ρ σ h =
+          ap₂ (andOr b) (coincide f (o .0) ρ σ (λ v e. h v (or-left _ _ e)))
+          (coincides fs (o .1) b ρ σ (λ v e. h v (or-right (freeF f v) _ e)))
 
 -- ---- a term's free variables are its formula's
 module _ (t : Term) (v : Var) where
@@ -146,4 +148,4 @@ mutual
 
 pub term-coincide : (R : Reading) → Local R → (t : Term) → Rests R (free t) (True R t)
 unfolding True
-term-coincide R local t ρ σ h = coincide R local (skeleton t) ρ σ (λ v e. h v (sym (free-skeleton t v) ∙ e))
+term-coincide R local t ρ σ h = coincide R local (skeleton t) (skeleton-leaves t) ρ σ (λ v e. h v (sym (free-skeleton t v) ∙ e))

@@ -1,14 +1,16 @@
 -- A fact of every leaf of a formula holds of every leaf of its normal form, of the taken-out form and of the clauses.
+--     skeleton-leaves     the leaves of a term's formula are opaque
 -- Assumes nothing.
 use mathlib.Core.Path.{_≡_, refl, sym, subst}
 use Prim.Native.Nat.{ℕ}
 use mathlib.Core.Bool.{Bool, true, false, not, cond}
 use mathlib.Core.List.{List, [], _∷_, _++_, map, List·Memᴰ, List·Memᴰ·head, List·Memᴰ·tail}
 use lib.Dec.{eqb}
+use Rattle.term_trees.specs.Term.{Term, Terms, const, bitVector, var, app, quant, bind, letin, op, noTerm, tnil, tcons}
 use Rattle.formulas.specs.Formula.{Form, Forms, opaque, neg, many, imp, ite, iff, all, fnil, fcons}
 use Rattle.formulas.specs.Normal.{Normal, Normals, lit, nmany, nall, nnil, ncons, nnf, nnfs, prenex, prenexes}
 use Rattle.formulas.specs.Clauses.{Clause, product, cnf, cnfAnd, cnfOr}
-use Rattle.formulas.specs.Skeleton.{notOf, impliesOf, iteOf, iffOf, formOf, normals, clauseForm}
+use Rattle.formulas.specs.Skeleton.{notOf, impliesOf, iteOf, iffOf, formOf, leftBool, skeleton, skeletons, IsOpaque, normals, clauseForm}
 
 module _ {B L : Type 0} (P : L → Type 0) where
   abbrev mutual
@@ -167,3 +169,22 @@ module _ {B L : Type 0} (P : L → Type 0) where
   -- a clause of the taken-out form
   pub clause-each : (n : Normal B L) (c : Clause B L) → EachN n → List·Memᴰ c (cnf (prenex n)) → EachN (clauseForm c)
   clause-each n c o m = clauseForm-each c (mem-each c (cnf (prenex n)) m (cnf-each (prenex n) (prenex-each n o)))
+
+-- ---- the leaves of a term's formula are opaque
+mutual
+  unfolding skeleton
+
+  pub skeleton-leaves : (t : Term) → Each IsOpaque (skeleton t)
+  skeleton-leaves (const k s c) = refl
+  skeleton-leaves (bitVector s w c) = refl
+  skeleton-leaves (var v) = refl
+  skeleton-leaves (app s f ts) = refl
+  skeleton-leaves (quant b s vs t) = skeleton-leaves t
+  skeleton-leaves (bind k s vs t) = refl
+  skeleton-leaves (letin s ls t) = refl
+  skeleton-leaves (op k s ts) = formOf-each IsOpaque (op k s ts) k (leftBool ts) (skeletons ts) (skeletons-leaves ts) (λ e. e)
+  skeleton-leaves noTerm = refl
+
+  pub skeletons-leaves : (ts : Terms) → EachOf IsOpaque (skeletons ts)
+  skeletons-leaves tnil = tt
+  skeletons-leaves (tcons t ts) = (skeleton-leaves t, skeletons-leaves ts)

@@ -6,13 +6,13 @@
 -- Assumes nothing.
 use mathlib.Core.Path.{_≡_, refl, ap, ap₂, _∙_, sym}
 use mathlib.Core.Bool.{Bool, true, false, not, _||_, cond, Bool·beq, or-false, and-true}
-use Rattle.term_trees.specs.Term.{Vars, Term, Terms, const, bitVector, var, app, quant, bind, letin, op, noTerm, tnil, tcons}
+use Rattle.term_trees.specs.Term.{Vars, Term}
 use Rattle.formulas.specs.Formula.{Form, Forms, opaque, neg, many, imp, ite, iff, all, fnil, fcons}
 use Rattle.formulas.specs.Normal.{Normal, Normals, lit, nmany, nall, nnil, ncons, flip, nnf, nnfs}
-use Rattle.formulas.specs.Skeleton.{skeleton, skeletons, leftBool, formOf, notOf, build, builds}
+use Rattle.formulas.specs.Skeleton.{skeleton, skeletons, IsOpaque, formOf, notOf, build, builds}
 use Rattle.formulas.specs.Truth.{Assignment, Reading, andOr, over, truth, truths, True, truthN, truthNs}
 use Rattle.formulas.proofs.Over.{same-at, over-elim, over-intro}
-use Rattle.formulas.proofs.Leaves.{Each, EachOf, EachN, EachNs, formOf-each, nnf-each}
+use Rattle.formulas.proofs.Leaves.{EachN, EachNs, nnf-each, skeleton-leaves}
 
 -- ---- Booleans: p is the polarity
 flip-not : (x p : Bool) → flip x (not p) ≡ flip (not x) p
@@ -99,28 +99,6 @@ module _ (R : Reading) where
         ap₂ (andOr (flip b p)) (nnf-truth f p ρ) (nnfs-truth fs p b ρ) ∙ many-flip b p (truth R f ρ) (truths R b fs ρ)
 
 -- ---- terms
-abbrev pub IsOpaque : Term → Type 0
-IsOpaque t = skeleton t ≡ opaque t
-
--- the leaves of a term's formula are opaque
-mutual
-  unfolding skeleton
-
-  pub skeleton-leaves : (t : Term) → Each IsOpaque (skeleton t)
-  skeleton-leaves (const k s c) = refl
-  skeleton-leaves (bitVector s w c) = refl
-  skeleton-leaves (var v) = refl
-  skeleton-leaves (app s f ts) = refl
-  skeleton-leaves (quant b s vs t) = skeleton-leaves t
-  skeleton-leaves (bind k s vs t) = refl
-  skeleton-leaves (letin s ls t) = refl
-  skeleton-leaves (op k s ts) = formOf-each IsOpaque (op k s ts) k (leftBool ts) (skeletons ts) (skeletons-leaves ts) (λ e. e)
-  skeleton-leaves noTerm = refl
-
-  skeletons-leaves : (ts : Terms) → EachOf IsOpaque (skeletons ts)
-  skeletons-leaves tnil = tt
-  skeletons-leaves (tcons t ts) = (skeleton-leaves t, skeletons-leaves ts)
-
 module _ (R : Reading) where
   mutual
     unfolding True skeleton formOf notOf

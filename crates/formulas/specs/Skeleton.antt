@@ -1,11 +1,13 @@
 -- A term's formula, and the term that a normal form is built as.
 --     skeleton t     the connectives and quantifiers of t, down to what is opaque
+--     IsOpaque t     t is no connective or quantifier
 --     build n        the term of the normal form n
 --     clauseTerm c   the term of the clause c
 -- 01, "Normal form and clauses": "`not` with 1 operand flips the polarity; `and`, `or` of any length; `=>` with 2; `ite` with 3; `=` with 2
 -- whose left has sort Bool; forall and exists. These are the connectives and quantifiers of demand 3. Any other count or term is opaque".
 -- Rests on pool's Sort and Term, and on Formula, Normal, Clauses and Built.
 use Prim.Native.Nat.{ℕ}
+use mathlib.Core.Path.{_≡_}
 use mathlib.Core.Bool.{Bool, true, false, cond, decide}
 use mathlib.Core.List.{[], _∷_}
 use lib.Dec.{eqb}
@@ -78,6 +80,10 @@ unfoldable mutual
   pub skeletons : Terms → Forms Vars Term
   skeletons tnil = fnil
   skeletons (tcons t ts) = fcons (skeleton t) (skeletons ts)
+
+-- demand 3: "a term that is no connective or quantifier": nothing of it but itself is in its formula
+abbrev pub IsOpaque : Term → Type 0
+IsOpaque t = skeleton t ≡ opaque t
 
 -- ---- a literal is the term, or `not` of it; new terms state the sort Bool
 abbrev mutual

@@ -15,7 +15,7 @@ use Rattle.term_trees.specs.FreeTree.{free}
 use Rattle.formulas.specs.Formula.{Form, Forms, opaque, neg, many, imp, ite, iff, all, fnil, fcons}
 use Rattle.formulas.specs.Normal.{Normal, Normals, lit, nmany, nall, nnil, ncons, flip}
 use Rattle.formulas.specs.Clauses.{Clause}
-use Rattle.formulas.specs.Skeleton.{skeleton}
+use Rattle.formulas.specs.Skeleton.{skeleton, IsOpaque}
 
 -- "A reading also gives each name with sort one of that sort's values."
 abbrev pub Assignment : (Sort → Type 0) → Type 0
@@ -31,7 +31,8 @@ pub record Reading : Type 1 where
 -- "An opaque term's truth changes only with the values of its free variables"
 abbrev pub Local : Reading → Type 0
 Local R =
-    (t : Term) (ρ σ : Assignment (R .Value)) → ((v : Var) → free t v ≡ true → ρ v ≡ σ v) → R .opaque-truth t ρ ≡ R .opaque-truth t σ
+    (t : Term) → IsOpaque t → (ρ σ : Assignment (R .Value)) → ((v : Var) → free t v ≡ true → ρ v ≡ σ v)
+    → R .opaque-truth t ρ ≡ R .opaque-truth t σ
 
 -- ---- ρ with the value x at u instead
 module _ (Value : Sort → Type 0) where

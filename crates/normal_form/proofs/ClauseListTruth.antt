@@ -22,11 +22,11 @@ use Rattle.term_trees.proofs.Passed.{Passed}
 use Rattle.formulas.specs.Normal.{lit, nmany, nall, nnf, prenex, taken}
 use Rattle.formulas.specs.Clauses.{Clause, cnf}
 use Rattle.formulas.specs.Built.{Pool, count, takenOut, normalAt}
-use Rattle.formulas.specs.Skeleton.{skeleton, build}
+use Rattle.formulas.specs.Skeleton.{skeleton, IsOpaque, build}
 use Rattle.formulas.specs.Truth.{Assignment, Reading, True, clauseTruth, clausesTruth}
-use Rattle.formulas.proofs.Leaves.{EachC, EachCs, nnf-each, prenex-each, cnf-each}
+use Rattle.formulas.proofs.Leaves.{EachC, EachCs, nnf-each, prenex-each, cnf-each, skeleton-leaves}
 use Rattle.formulas.proofs.Mapped.{prenex-map, taken-map, cnf-map}
-use Rattle.formulas.proofs.NormalTruth.{IsOpaque, skeleton-leaves, build-truth}
+use Rattle.formulas.proofs.NormalTruth.{build-truth}
 use Rattle.formulas.proofs.ClauseTruth.{reachesForall, clauses-truth}
 use Rattle.formulas.proofs.FormTree.{varsAt}
 use Rattle.formulas.proofs.SameTree.{sort-kept}

@@ -17,10 +17,9 @@ use Rattle.cells.specs.ByPlace.{by-test}
 use Rattle.term_trees.specs.Term.{Vars, Term, Terms, const, bitVector, var, app, quant, bind, letin, op, noTerm, tnil, tcons}
 use Rattle.formulas.specs.Normal.{Normal, Normals, lit, nmany, nall, nnil, ncons, nnf, prenex, prenexes, taken, takens}
 use Rattle.formulas.specs.Clauses.{product, cnf, cnfAnd, cnfOr}
-use Rattle.formulas.specs.Skeleton.{skeleton, formOf, build, builds}
-use Rattle.formulas.proofs.Leaves.{EachN, EachNs, nnf-each}
+use Rattle.formulas.specs.Skeleton.{skeleton, IsOpaque, formOf, build, builds}
+use Rattle.formulas.proofs.Leaves.{EachN, EachNs, nnf-each, skeleton-leaves}
 use Rattle.formulas.proofs.Mapped.{product-map}
-use Rattle.formulas.proofs.NormalTruth.{IsOpaque, skeleton-leaves}
 
 -- an operator's term t with the tag k, from what is read of its operands
 unfoldable pub readOp : Term → ℕ → Normals Vars Term → Normal Vars Term

@@ -14,6 +14,7 @@ use Rattle.term_trees.specs.FreeTree.{has, free, frees}
 use Rattle.formulas.specs.Skeleton.{skeleton, skeletons, leftBool, iffOf, formOf}
 use Rattle.formulas.specs.Truth.{Assignment, Reading, Local, assign, among, over, truths, True}
 use Rattle.formulas.proofs.Over.{bool-cases, not-both, same-at, Subset, outside, Within, mix, mix-in, mix-out, over-elim, over-intro}
+use Rattle.formulas.proofs.Leaves.{skeletons-leaves}
 use Rattle.formulas.proofs.Coincide.{Rests, coincides, frees-skeletons, term-coincide}
 
 beq-same : (x : Bool) → Bool·beq x x ≡ true
@@ -72,4 +73,4 @@ module _ (R : Reading) where
     term-still t u = term-coincide R local t σ ρ (agree vs (free t) u ρ σ w)
 
     pub terms-still : (b : Bool) (ts : Terms) → Unfree vs (frees ts) → truths R b (skeletons ts) σ ≡ truths R b (skeletons ts) ρ
-    terms-still b ts u = coincides R local (skeletons ts) b σ ρ (λ v f. agree vs (frees ts) u ρ σ w v (sym (frees-skeletons ts v) ∙ f))
+    terms-still b ts u = coincides R local (skeletons ts) (skeletons-leaves ts) b σ ρ (λ v f. agree vs (frees ts) u ρ σ w v (sym (frees-skeletons ts v) ∙ f))

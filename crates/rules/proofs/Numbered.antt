@@ -11,10 +11,10 @@ use lib.ListN.{length, getD}
 use Rattle.term_trees.specs.Sort.{Sort}
 use Rattle.term_trees.specs.Term.{Var, Vars, Term}
 use Rattle.term_trees.specs.FreeTree.{has}
-use Rattle.formulas.specs.Skeleton.{skeleton}
+use Rattle.formulas.specs.Skeleton.{skeleton, IsOpaque}
 use Rattle.formulas.specs.Truth.{Assignment, Reading, over, True}
 use Rattle.formulas.proofs.Over.{bool-cases, same-at, Within, mix, mix-in, mix-out, over-elim, over-intro}
-use Rattle.formulas.proofs.NormalTruth.{IsOpaque, skeleton-leaves}
+use Rattle.formulas.proofs.Leaves.{skeleton-leaves}
 use Rattle.rules.specs.Premises.{LocalWithoutLet, Numbers, numbered, TrueInReadings}
 use Rattle.rules.proofs.TruthAlong.{truth-along}
 
@@ -52,7 +52,7 @@ module _ (R : Reading) (start : Assignment (R .Value)) where
   read-code ρ v = position (some (v .sort)) (R .listed (v .sort) (ρ v)) .1
 
   numbers-local : LocalWithoutLet R → LocalWithoutLet N
-  numbers-local local t e ρ σ h = local t e (read ρ) (read σ) (λ v q. ap (at (v .sort)) (h v q))
+  numbers-local local t o e ρ σ h = local t o e (read ρ) (read σ) (λ v q. ap (at (v .sort)) (h v q))
 
   -- σ, which differs from what ρ is read as in vs alone, is read from its own numbers in vs and those of ρ elsewhere
   read-mix : (vs : Vars) (ρ : A) (σ : Assignment (R .Value)) → Within (R .Value) vs (read ρ) σ

@@ -49,7 +49,7 @@ module _ (R : Reading) where
       }
 
   lets-local : LocalWithoutLet R → Local letsFalse
-  lets-local local t ρ σ h = bool-cases (holdsLet t) (λ e. rw e) (λ e. rw e (local t e ρ σ h))
+  lets-local local t o ρ σ h = bool-cases (holdsLet t) (λ e. rw e) (λ e. rw e (local t o e ρ σ h))
 
   lets-over : (b : Bool) (vs : Vars) (p : Assignment (R .Value) → Bool) (ρ : Assignment (R .Value))
       → over letsFalse b vs p ρ ≡ over R b vs p ρ

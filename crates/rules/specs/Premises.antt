@@ -1,13 +1,13 @@
 -- The premises of demand 3, and what it says of an accepted conclusion.
 --     holdsLet c             c is a let or reaches one
---     LocalWithoutLet R      R fixes the truth of opaque terms by their free variables' values; of terms that hold a let nothing is asked
+--     LocalWithoutLet R      R fixes the truth of opaque terms that hold no let by their free variables' values, and nothing is asked of other terms
 --     TrueInReadings c       c is true in every reading whose values are numbers
 -- Demand 3: "if the check accepts, the conclusion is true in every reading, under all six rules alike. Premises: a reading gives each sort
 -- finitely many values, at least one; a variable is its name with its sort; a term that is no connective or quantifier has a truth value
 -- fixed by its free variables' values; the step holds no let; for clausification, no variable taken out of an inner quantifier is free in
 -- the left quantified formula."
 -- Rule 3's own premise is clausification's NoCapture.
--- Rests on pool's Sort, Term and FreeTree, and on formulas' Truth.
+-- Rests on term_trees' Sort, Term and FreeTree, and on formulas' Skeleton and Truth.
 use Prim.Native.Nat.{ℕ, zero, suc, Fin, zero-le, suc-le-suc}
 use mathlib.Core.Path.{_≡_, refl, ap}
 use mathlib.Core.Bool.{Bool, true, false, _||_}
@@ -16,6 +16,7 @@ use native.Mathlib.Decide.{Fin·succ, Fin·val-path}
 use Rattle.term_trees.specs.Sort.{Sort}
 use Rattle.term_trees.specs.Term.{Var, Term, Terms, const, bitVector, var, app, quant, bind, letin, op, noTerm, tnil, tcons}
 use Rattle.term_trees.specs.FreeTree.{free}
+use Rattle.formulas.specs.Skeleton.{IsOpaque}
 use Rattle.formulas.specs.Truth.{Assignment, Reading, True}
 
 -- ---- 01, "Truth in a reading": "A step holds a let if its conclusion is one or reaches one through operands, bodies, functions, arguments
@@ -39,7 +40,7 @@ unfoldable mutual
 -- "a term that is no connective or quantifier has a truth value fixed by its free variables' values": as Local, of terms that hold no let
 abbrev pub LocalWithoutLet : Reading → Type 0
 LocalWithoutLet R =
-    (t : Term) → holdsLet t ≡ false → (ρ σ : Assignment (R .Value)) → ((v : Var) → free t v ≡ true → ρ v ≡ σ v)
+    (t : Term) → IsOpaque t → holdsLet t ≡ false → (ρ σ : Assignment (R .Value)) → ((v : Var) → free t v ≡ true → ρ v ≡ σ v)
     → R .opaque-truth t ρ ≡ R .opaque-truth t σ
 
 -- ---- Readings whose values are numbers. All of them together are a type of Type 0, so that a contract can speak of each; what is true in

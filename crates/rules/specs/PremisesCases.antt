@@ -60,15 +60,15 @@ letsLookup = record { Value = λ s. Bool; values = λ s. true ∷ false ∷ []; 
 
 pub lets-local : LocalWithoutLet letsLookup
 unfolding holdsLet
-lets-local (const k s c) e ρ σ h = refl
-lets-local (bitVector s w c) e ρ σ h = refl
-lets-local (var v) e ρ σ h = refl
-lets-local (app s g ts) e ρ σ h = refl
-lets-local (quant b s vs t) e ρ σ h = refl
-lets-local (bind k s vs t) e ρ σ h = refl
-lets-local (letin s ls t) e ρ σ h = absurd (true≢false e)
-lets-local (op k s ts) e ρ σ h = refl
-lets-local noTerm e ρ σ h = refl
+lets-local (const k s c) o e ρ σ h = refl
+lets-local (bitVector s w c) o e ρ σ h = refl
+lets-local (var v) o e ρ σ h = refl
+lets-local (app s g ts) o e ρ σ h = refl
+lets-local (quant b s vs t) o e ρ σ h = refl
+lets-local (bind k s vs t) o e ρ σ h = refl
+lets-local (letin s ls t) o e ρ σ h = absurd (true≢false e)
+lets-local (op k s ts) o e ρ σ h = refl
+lets-local noTerm o e ρ σ h = refl
 
 pub let-equality-false : True letsLookup (op 39 bool (tcons (quant true bool (x ∷ []) l) (tcons l tnil))) (λ v. true) ≡ false
 unfolding True skeleton leftBool formOf iffOf stated over assign valueAt Var-discrete Sort-discrete ℕ-discrete
