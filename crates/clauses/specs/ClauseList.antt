@@ -14,8 +14,10 @@ use Rattle.formulas.specs.Formula.{allBefore}
 use Rattle.formulas.specs.Normal.{Normal, Normals}
 use Rattle.formulas.specs.Clauses.{cnf, cnfAnd, cnfOr, literalTotal, emptyOr}
 use Rattle.formulas.specs.Built.{normalsOf}
+use Rattle.formulas.specs.Totals.{cap, totals}
 use Rattle.clauses.specs.Lists.{emptyOrReached, tooManyClauses, padded, clausePlaces, literalPlaces, clauseEnds}
-use Rattle.clause_totals.specs.ClauseWalk.{formAt, Memo}
+use Rattle.clause_totals.specs.ClauseWalk.{formAt, asTotals, Memo}
+use Rattle.clause_totals.specs.declared.totals.Totals as code
 use Rattle.clauses.specs.declared.conjunctive_normal_form.Chosen.{Chosen}
 use Rattle.clauses.specs.declared.conjunctive_normal_form.Digits.{Digits}
 use Rattle.clauses.specs.declared.clause_list.Filled.{Filled}
@@ -112,9 +114,13 @@ pub record Lent (n k m : ℕ) : Type 0 where
   pub literals : 8192 ≤ k
   pub ends : 2048 ≤ m
 
--- the same with a right memo, and zeroes in the others
-pub record Ready (tags values counts sizes literals ends : List ℕ) : Type 0 where
-  pub memo : Memo tags values counts sizes
+-- the same with zeroes in the arrays
+pub record Ready (tags literals ends : List ℕ) : Type 0 where
   pub lent : Lent (length tags) (length literals) (length ends)
   pub literals-zero : literals ≡ replicate (length literals) 0
   pub ends-zero : ends ≡ replicate (length ends) 0
+
+-- the totals t of the list at x, cut at 8,193, and the counts that go with them
+pub record Counted (tags values : List ℕ) (x : ℕ) (counts : List ℕ) (t : code.Totals) : Type 0 where
+  pub is : asTotals t ≡ cap 8193 (totals (formAt tags values x))
+  pub counts-are : ClauseCounts tags values counts (x ∷ [])

@@ -2,6 +2,7 @@
 use crate::conjunctive_normal_form::count_at;
 use crate::conjunctive_normal_form::write_clause;
 use clause_totals::empty_or::empty_or;
+use clause_totals::totals::Totals;
 use clause_totals::totals::list_totals;
 use formulas::view::NormalView;
 use formulas::view::normal_view;
@@ -11,10 +12,11 @@ use pool::description::cut_back;
 use pool::run::operands;
 ghost use mathlib.Core.Path.{_≡_};
 ghost use mathlib.Core.List.{[], _∷_};
+ghost use Prim.Native.Nat.{_≤_};
 ghost use lib.ListN.{length};
 ghost use Rattle.formulas.specs.Clauses.{cnf, cnfAnd};
-ghost use Rattle.clause_totals.specs.ClauseWalk.{formAt, Memo};
-ghost use Rattle.clauses.specs.ClauseList.{runOf, AskMore, AskLists, Adds, Lent, Ready, Answered, countAnswer, listAnswer};
+ghost use Rattle.clause_totals.specs.ClauseWalk.{formAt};
+ghost use Rattle.clauses.specs.ClauseList.{runOf, AskMore, AskLists, Adds, Lent, Counted, Ready, Answered, countAnswer, listAnswer};
 
 // How many cells of the two arrays are filled: the clauses' ends and the literals.
 pub struct Filled(pub usize, pub usize);
@@ -100,20 +102,29 @@ fn write_lists(
     write_lists(tags, values, counts, x, &run[1..], literals, ends, next)
 }
 
-// The answer 32, or the two totals with the list, in arrays of zeroes. The memo's arrays are counts and sizes.
+// The totals of the clause list of the term at x. The counts are then right of the terms that it reaches.
+fn count_clauses(tags: &[u32], values: &[u32], counts: &mut [u32], x: TermPlace) -> Totals
+    requires { ⌜ length (now tags) ≤ 8192 ⌝ }
+    requires { ⌜ length (now counts) ≡ 8192 ⌝ }
+    ensures { λ r. ⌜ Counted (now (tags .entry)) (now (values .entry)) (x .0) (now (counts .exit)) r ⌝ }
+{
+    let mut sizes = [0u32; 8192];
+    list_totals(tags, values, counts, &mut sizes, x)
+}
+
+// The answer 32, or the two totals with the list, in arrays of zeroes.
 fn list_counted(
     tags: &[u32],
     values: &[u32],
-    counts: &mut [u32],
-    sizes: &mut [u32],
     x: TermPlace,
     literals: &mut [u32],
     ends: &mut [u32],
 ) -> Answer
-    requires { ⌜ Ready (now tags) (now values) (now counts) (now sizes) (now literals) (now ends) ⌝ }
+    requires { ⌜ Ready (now tags) (now literals) (now ends) ⌝ }
     ensures { λ r. ⌜ Answered (countAnswer (cnf (formAt (now (tags .entry)) (now (values .entry)) (x .0)))) (cnf (formAt (now (tags .entry)) (now (values .entry)) (x .0))) (length (now (literals .entry))) (length (now (ends .entry))) r (now (literals .exit)) (now (ends .exit)) ⌝ }
 {
-    let t = list_totals(tags, values, counts, sizes, x);
+    let mut counts = [0u32; 8192];
+    let t = count_clauses(tags, values, &mut counts, x);
     let clauses = t.clauses;
     let size = t.literals;
     if 2048 < clauses {
@@ -122,31 +133,11 @@ fn list_counted(
     if 8192 < size {
         return Answer::refused(32, 0, 0);
     }
-    write_list(tags, values, counts, x, literals, ends, Filled(0, 0));
+    write_list(tags, values, &counts, x, literals, ends, Filled(0, 0));
     Answer::accepted(clauses, size)
 }
 
-// The answer 13, 32, or the two totals with the list; refused, both arrays are zeroes.
-fn list_with(
-    tags: &[u32],
-    values: &[u32],
-    counts: &mut [u32],
-    sizes: &mut [u32],
-    x: TermPlace,
-    literals: &mut [u32],
-    ends: &mut [u32],
-) -> Answer
-    requires { ⌜ Memo (now tags) (now values) (now counts) (now sizes) × Lent (length (now tags)) (length (now literals)) (length (now ends)) ⌝ }
-    ensures { λ r. ⌜ Answered (listAnswer (formAt (now (tags .entry)) (now (values .entry)) (x .0))) (cnf (formAt (now (tags .entry)) (now (values .entry)) (x .0))) (length (now (literals .entry))) (length (now (ends .entry))) r (now (literals .exit)) (now (ends .exit)) ⌝ }
-{
-    cut_back(literals, ends, 0);
-    if empty_or(tags, values, x) {
-        return Answer::refused(13, 0, 0);
-    }
-    list_counted(tags, values, counts, sizes, x, literals, ends)
-}
-
-// The clause list of the term at x: 13, 32, or its two totals, with the list in the arrays.
+// The clause list of the term at x: 13, 32, or its two totals, with the list in the arrays; refused, both arrays are zeroes.
 pub fn list_clauses(
     tags: &[u32],
     values: &[u32],
@@ -157,7 +148,9 @@ pub fn list_clauses(
     requires { ⌜ Lent (length (now tags)) (length (now literals)) (length (now ends)) ⌝ }
     ensures { λ r. ⌜ Answered (listAnswer (formAt (now (tags .entry)) (now (values .entry)) (x .0))) (cnf (formAt (now (tags .entry)) (now (values .entry)) (x .0))) (length (now (literals .entry))) (length (now (ends .entry))) r (now (literals .exit)) (now (ends .exit)) ⌝ }
 {
-    let mut counts = [0u32; 8192];
-    let mut sizes = [0u32; 8192];
-    list_with(tags, values, &mut counts, &mut sizes, x, literals, ends)
+    cut_back(literals, ends, 0);
+    if empty_or(tags, values, x) {
+        return Answer::refused(13, 0, 0);
+    }
+    list_counted(tags, values, x, literals, ends)
 }

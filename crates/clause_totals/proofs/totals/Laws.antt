@@ -230,19 +230,19 @@ module _ (tags values counts sizes : List ℕ) (x : ℕ) (run : List ℕ) (ask :
 
 pub ruleset walks = (term-noted, term-literal, term-forall, term-connective, run-end, run-on)
 
--- ---- a fresh memo
-pub fresh : (tags values : List ℕ) (k : ℕ) → length tags ≤ k → Memo tags values (replicate k 0) (replicate k 0)
-fresh tags values k h = record {
+-- ---- a memo in which nothing is counted
+pub fresh : (tags values counts : List ℕ) (k : ℕ) → length counts ≡ k → length tags ≤ k → Memo tags values counts (replicate k 0)
+fresh tags values counts k e h = record {
   room = omega (arith, length-replicate {A = ℕ} k 0);
-  same-size = refl;
+  same-size = e ∙ sym (length-replicate {A = ℕ} k 0);
   at = λ u q. absurd (omega (arith, zeros k u));
   operands = λ u q b e. absurd (omega (arith, zeros k u));
 }
 
 -- ---- the totals are those of the list
-module _ (tags values : List ℕ) (x : ℕ) (sizes₀ counts sizes : List ℕ) (r : code.Totals) (a : TermCounted tags values x sizes₀ counts sizes r) where
+module _ (tags values : List ℕ) (x : ℕ) (r : code.Totals) (is : asTotals r ≡ cap 8193 (totals (formAt tags values x))) where
   list-is : asTotals r ≡ cap 8193 (record { clauses = length (cnf (formAt tags values x)); literals = literalTotal (cnf (formAt tags values x)) })
-  list-is = a .is ∙ ap (cap 8193) (totals-are (formAt tags values x))
+  list-is = is ∙ ap (cap 8193) (totals-are (formAt tags values x))
 
   pub clauses-cut : r .clauses ≡ min 8193 (length (cnf (formAt tags values x)))
   clauses-cut = ap (λ (t : Totals). t .clauses) list-is

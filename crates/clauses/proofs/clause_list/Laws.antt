@@ -17,8 +17,8 @@ use Rattle.clause_totals.specs.declared.totals.Totals as code
 use Rattle.formulas.specs.Normal.{Normal}
 use Rattle.formulas.specs.Clauses.{cnf, literalTotal, emptyOr}
 use Rattle.clauses.specs.Lists.{emptyOrReached, tooManyClauses, padded, literalPlace, clausePlaces, literalPlaces, clauseEnds}
-use Rattle.clause_totals.specs.ClauseWalk.{formAt, Memo, TermCounted}
-use Rattle.clauses.specs.ClauseList.{Ask, Written, AskMore, Adds, Listed, Answered, Lent, Ready, countAnswer, listAnswer, held}
+use Rattle.clause_totals.specs.ClauseWalk.{formAt, TermCounted}
+use Rattle.clauses.specs.ClauseList.{Ask, Written, AskMore, Adds, Listed, Answered, Lent, Counted, Ready, countAnswer, listAnswer, held}
 use Rattle.clauses.specs.declared.clause_list.Filled.{Filled}
 use Rattle.clause_totals.proofs.totals.Laws.{clauses-cut, literals-cut}
 use Rattle.clauses.proofs.conjunctive_normal_form.Laws.{places-length, counts-one}
@@ -186,13 +186,17 @@ refused : (defined : Answer) (cs : Clauses) (k m : ℕ) (r : Answer) (literals e
 unfolding held
 refused defined cs k m r literals ends e n p q = record { answer = e; literals-are = rw n p; ends-are = rw n q }
 
-module _ (tags values : List ℕ) (x : ℕ) (counts₀ sizes₀ literals ends : List ℕ) (ready : Ready tags values counts₀ sizes₀ literals ends)
-    (counts sizes : List ℕ) (t : code.Totals) (is : TermCounted tags values x sizes₀ counts sizes t) where
+pub counted : (tags values : List ℕ) (x : ℕ) (sizes₀ counts sizes : List ℕ) (t : code.Totals) → TermCounted tags values x sizes₀ counts sizes t
+    → Counted tags values x counts t
+counted tags values x sizes₀ counts sizes t is = record { is = is .is; counts-are = counts-one tags values counts x sizes (is .memo) (is .here) }
+
+module _ (tags values : List ℕ) (x : ℕ) (literals ends : List ℕ) (ready : Ready tags literals ends)
+    (counts : List ℕ) (t : code.Totals) (is : Counted tags values x counts t) where
   clauses-are-cut : t .clauses ≡ min 8193 (length (cnf (formAt tags values x)))
-  clauses-are-cut = clauses-cut tags values x sizes₀ counts sizes t is
+  clauses-are-cut = clauses-cut tags values x t (is .is)
 
   literals-are-cut : t .literals ≡ min 8193 (literalTotal (cnf (formAt tags values x)))
-  literals-are-cut = literals-cut tags values x sizes₀ counts sizes t is
+  literals-are-cut = literals-cut tags values x t (is .is)
 
   pub many-clauses : 2048 < t .clauses → (r : Answer) → r ≡ tooManyClauses
       → Answered (countAnswer (cnf (formAt tags values x))) (cnf (formAt tags values x)) (length literals) (length ends) r literals ends
@@ -218,7 +222,7 @@ module _ (tags values : List ℕ) (x : ℕ) (counts₀ sizes₀ literals ends : 
 
       pub fits-ask : AskMore tags values counts (x ∷ []) (cnf (formAt tags values x)) literals ends 0 0
       fits-ask = record {
-        counted = counts-one tags values counts x sizes (is .memo) (is .here);
+        counted = is .counts-are;
         clauses = omega (arith, clauses-are);
         clauses-room = omega (arith, clauses-are, ready .lent .ends);
         literals-small = omega (arith, literals-are);
@@ -263,10 +267,8 @@ module _ (literals₀ ends₀ literals ends : List ℕ) (cut : Cut 0 literals₀
   size-ends : length ends ≡ length ends₀
   size-ends = ap length (cut .values-are ∙ zero-all ends₀) ∙ length-replicate {A = ℕ} (length ends₀) 0
 
-  pub list-ready : (tags values counts sizes : List ℕ) → Memo tags values counts sizes → Lent (length tags) (length literals₀) (length ends₀)
-      → Ready tags values counts sizes literals ends
-  list-ready tags values counts sizes memo lent = record {
-    memo = memo;
+  pub list-ready : (tags : List ℕ) → Lent (length tags) (length literals₀) (length ends₀) → Ready tags literals ends
+  list-ready tags lent = record {
     lent = rw (size-literals, size-ends) lent;
     literals-zero = rw size-literals (cut .tags-are ∙ zero-all literals₀);
     ends-zero = rw size-ends (cut .values-are ∙ zero-all ends₀);

@@ -1,19 +1,16 @@
-use Rattle.clauses.proofs.clause_list.Laws.{counted-answers, fits-ask}
 use borrow.Author.Needs.{needs}
+use Rattle.clauses.proofs.clause_list.Laws.{counted-answers, fits-ask}
 use Rattle.clauses.proofs.clause_list.list_counted.Statement.{statement}
 use Rattle.clauses.proofs.clause_list.list_counted.Tie as tie
 
-list-totals-requires : tie.Need-list-totals-requires
-list-totals-requires c κs = search needs
+slice-aggregate-count-clauses : tie.Need-slice-aggregate-count-clauses
+slice-aggregate-count-clauses c = search needs
+
+count-clauses-requires : tie.Need-count-clauses-requires
+count-clauses-requires c κs = search needs
 
 refused-requires : tie.Need-refused-requires
 refused-requires c κs = search needs
-
-same-length : tie.Need-same-length
-same-length c = c .before .before .before .before .before .counts .given
-
-same-length-2 : tie.Need-same-length-2
-same-length-2 c = c .before .before .before .sizes .given
 
 returns : tie.Need-returns
 returns c = search counted-answers
@@ -21,14 +18,11 @@ returns c = search counted-answers
 refused-requires-2 : tie.Need-refused-requires-2
 refused-requires-2 c κs = search needs
 
-same-length-3 : tie.Need-same-length-3
-same-length-3 c = c .before .before .before .before .before .before .counts .given
-
-same-length-4 : tie.Need-same-length-4
-same-length-4 c = c .before .before .before .before .sizes .given
-
 returns-2 : tie.Need-returns-2
 returns-2 c = search counted-answers
+
+slice-aggregate-write-list : tie.Need-slice-aggregate-write-list
+slice-aggregate-write-list c = search needs
 
 write-list-requires : tie.Need-write-list-requires
 write-list-requires c κs = search fits-ask
@@ -36,17 +30,11 @@ write-list-requires c κs = search fits-ask
 accepted-requires : tie.Need-accepted-requires
 accepted-requires c κs = search needs
 
-same-length-5 : tie.Need-same-length-5
-same-length-5 c = c .before .before .before .before .before .before .before .before .before .before .before .before .before .before .counts .given
+same-length : tie.Need-same-length
+same-length c = search needs
 
-same-length-6 : tie.Need-same-length-6
-same-length-6 c = c .before .before .before .before .before .before .before .before .before .before .before .before .sizes .given
-
-same-length-7 : tie.Need-same-length-7
-same-length-7 c = c .before .before .before .before .literals .given
-
-same-length-8 : tie.Need-same-length-8
-same-length-8 c = c .before .before .ends .given
+same-length-2 : tie.Need-same-length-2
+same-length-2 c = search needs
 
 returns-3 : tie.Need-returns-3
 returns-3 c = search counted-answers
@@ -55,19 +43,15 @@ pub list-counted-spec : {M : Type 1} → statement M
 list-counted-spec =
     tie.close
     (tie.spec
-    list-totals-requires
+    slice-aggregate-count-clauses
+    count-clauses-requires
     refused-requires
-    same-length
-    same-length-2
     returns
     refused-requires-2
-    same-length-3
-    same-length-4
     returns-2
+    slice-aggregate-write-list
     write-list-requires
     accepted-requires
-    same-length-5
-    same-length-6
-    same-length-7
-    same-length-8
+    same-length
+    same-length-2
     returns-3)
