@@ -7,14 +7,13 @@ use pool::TermPlace;
 use pool::call::index_term;
 use pool::description::cut_back;
 use prenex_forall::build_taken_out;
-ghost use Prim.Native.Nat.{_<_};
+ghost use Prim.Native.Nat.{_≤_, _<_};
 ghost use mathlib.Core.Path.{_≡_};
-ghost use lib.ListN.{length};
 ghost use Rattle.sort_rules.specs.Table.{builtIn};
 ghost use Rattle.normal_form.specs.Calls.{NormalForm, ClauseList, clausal};
 ghost use Rattle.description_index.specs.Index.{Index};
 ghost use Rattle.building.specs.Walk.{State, NormalBuilt};
-ghost use Rattle.normal_form.specs.ClauseCall.{Checked, unlisted};
+ghost use Rattle.normal_form.specs.ClauseCall.{ClausalBuilt, Kept, unlisted};
 
 // The normal form of the term at t at a polarity: accepted, its place and the new count.
 pub fn normal_form(
@@ -68,6 +67,27 @@ fn build_clausal(
     build_taken_out(tags, values, index, m, x)
 }
 
+// Where the taken-out normal form of a term stands, with the new count; or the refusal.
+enum Clausal {
+    At(u32, usize),
+    Refused(Answer),
+}
+
+// The checks of the term at t, 30, 14, 15, 16 and 17, and its taken-out normal form or 31.
+fn clausal_of(tags: &mut [u32], values: &mut [u32], n: usize, t: TermPlace) -> Clausal
+    ensures { λ r. ⌜ ClausalBuilt (now (tags .entry)) (now (values .entry)) builtIn n (t .0) r (now (tags .exit)) (now (values .exit)) ⌝ }
+{
+    let mut index = [0u32; 12288];
+    let checked = index_term(tags, values, n, t, &mut index);
+    if checked.code != 0 {
+        return Clausal::Refused(checked);
+    }
+    let Built::At(x, m) = build_clausal(tags, values, &mut index, n, t) else {
+        return Clausal::Refused(Answer::refused(31, 0, 0));
+    };
+    Clausal::At(x, m)
+}
+
 fn refused(answer: Answer) -> Listed
     ensures { λ r. ⌜ r ≡ unlisted answer ⌝ }
 {
@@ -77,26 +97,11 @@ fn refused(answer: Answer) -> Listed
     }
 }
 
-// The clause list of a term that has passed its checks: 31, 13, 32, or the list.
-fn list_checked(
-    tags: &mut [u32],
-    values: &mut [u32],
-    index: &mut [u32; 12288],
-    n: usize,
-    t: TermPlace,
-    literals: &mut [u32],
-    ends: &mut [u32],
-) -> Listed
-    requires { ⌜ Index (now tags) (now values) n (now index) ⌝ }
-    requires { ⌜ Checked (now tags) (now values) builtIn n (t .0) (length (now literals)) (length (now ends)) ⌝ }
-    ensures { λ r. ⌜ ClauseList (now (tags .entry)) (now (values .entry)) builtIn n (t .0) (now (literals .entry)) (now (ends .entry)) (r .answer) (r .count) (now (tags .exit)) (now (values .exit)) (now (literals .exit)) (now (ends .exit)) ⌝ }
+// The new terms are kept if the list is accepted, and cut back if not.
+fn keep_listed(tags: &mut [u32], values: &mut [u32], n: usize, m: usize, answer: Answer) -> Listed
+    requires { ⌜ m ≤ 8192 ⌝ }
+    ensures { λ r. ⌜ Kept n m answer (now (tags .entry)) (now (values .entry)) r (now (tags .exit)) (now (values .exit)) ⌝ }
 {
-    let Built::At(x, m) = build_clausal(tags, values, index, n, t) else {
-        cut_back(tags, values, n);
-        cut_back(literals, ends, 0);
-        return refused(Answer::refused(31, 0, 0));
-    };
-    let answer = list_clauses(&tags[..m], &values[..m], TermPlace(x), literals, ends);
     if answer.code != 0 {
         cut_back(tags, values, n);
         return refused(answer);
@@ -125,15 +130,19 @@ pub fn clause_list(
     if ends.len() < 2048 {
         return refused(Answer::refused(30, 0, 0));
     }
-    let mut index = [0u32; 12288];
-    let checked = index_term(tags, values, n, t, &mut index);
-    if checked.code == 30 {
-        return refused(checked);
+    let built = clausal_of(tags, values, n, t);
+    match built {
+        Clausal::Refused(answer) => {
+            if answer.code == 30 {
+                return refused(answer);
+            }
+            cut_back(tags, values, n);
+            cut_back(literals, ends, 0);
+            refused(answer)
+        }
+        Clausal::At(x, m) => {
+            let answer = list_clauses(&tags[..m], &values[..m], TermPlace(x), literals, ends);
+            keep_listed(tags, values, n, m, answer)
+        }
     }
-    if checked.code != 0 {
-        cut_back(tags, values, n);
-        cut_back(literals, ends, 0);
-        return refused(checked);
-    }
-    list_checked(tags, values, &mut index, n, t, literals, ends)
 }

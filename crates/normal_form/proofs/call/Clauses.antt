@@ -6,9 +6,9 @@ use mathlib.Core.Bool.{_&&_, cond}
 use mathlib.Core.List.{List}
 use lib.ListN.{length, take}
 use lib.Seq.{length-take-le}
-use lib.Dec.{leb}
+use lib.Dec.{leb, eqb}
 use native.Mathlib.Omega.{arith}
-use borrow.Author.Tests.{le-leb, lt-leb, eq-eqb, ne-eqb}
+use borrow.Author.Tests.{le-leb, lt-leb, eq-eqb, ne-eqb, eqb-true, eqb-false}
 use Rattle.cells.specs.ByPlace.{by-test}
 use Rattle.descriptions.specs.Description.{zeroFrom, Cut}
 use Rattle.answers.specs.Answer.{badArrays}
@@ -16,6 +16,8 @@ use Rattle.pool_checks.specs.Check.{andThen, checkTerm}
 use Rattle.answers.specs.declared.Answer.{Answer}
 use Rattle.building.specs.declared.build.Built.{Built}
 use Rattle.building.specs.declared.build.Built.the-variants.{At, Full}
+use Rattle.normal_form.specs.declared.call.Clausal.{Clausal}
+use Rattle.normal_form.specs.declared.call.Clausal.the-variants.{At as ClausalAt, Refused}
 use Rattle.normal_form.specs.declared.call.Listed.{Listed}
 use Rattle.formulas.specs.Normal.{Normal}
 use Rattle.formulas.specs.Clauses.{cnf, emptyOr, literalTotal}
@@ -26,7 +28,8 @@ use Rattle.normal_form.specs.Calls.{noRoom, clausal, clausalForm, clause
 use Rattle.building.specs.Walk.{State, Holds, NormalBuilt}
 use Rattle.clause_totals.specs.ClauseWalk.{formAt}
 use Rattle.clauses.specs.ClauseList.{Lent, Answered, countAnswer, listAnswer, held}
-use Rattle.normal_form.specs.ClauseCall.{Checked, unlisted}
+use Rattle.normal_form.specs.ClauseCall.{Passes, Refuses, ClausalBuilt, unlisted, Kept}
+use Rattle.building.proofs.build.Building.{left-refl}
 use Rattle.building.proofs.Clausal.{zero-kept, tags-kept, values-kept, clausal-on}
 use Rattle.clauses.proofs.clause_list.Laws.{zero-all}
 use Rattle.normal_form.proofs.call.Laws.{checked-ready, holds-count, holds-tags, holds-values, left-30, left-refused, left-accepted}
@@ -52,9 +55,50 @@ list-code f =
     by-test (emptyOr f) (λ a. rw a (λ z. omega arith))
     (λ a. by-test (leb (length (cnf f)) 2048 && leb (literalTotal (cnf f)) 8192) (λ b. rw (a, b) (λ z. omega arith)) (λ b. rw (a, b) (λ z. omega arith)))
 
-pub list-checks : (tags values rules : List ℕ) (n t l e : ℕ) → 8192 ≤ l → 2048 ≤ e → (a : Answer) → a ≡ checkTerm tags values rules n t → a .code ≡ 0
-    → Checked tags values rules n t l e
-list-checks tags values rules n t l e h k a is ok = record { passed = rw is at ok; literals = h; ends = k }
+-- ---- the checks of the term and its taken-out form
+module _ (tags values rules : List ℕ) (n t : ℕ) (a : Answer) (is : a ≡ checkTerm tags values rules n t) where
+  pub clausal-refused : (a .code ≡ 0 → ⊥) → ClausalBuilt tags values rules n t (Refused a) tags values
+  unfolding clauseAnswer andThen
+  clausal-refused h = record {
+    answer = λ l e k j. rw (le-leb _ _ k, le-leb _ _ j, ← is, ne-eqb _ _ h);
+    code = h;
+    same = λ z. (refl, refl);
+    left = left-refl n tags values;
+  }
+
+  module _ (ok : a .code ≡ 0) where
+    pub clausal-state : State n n tags values
+    clausal-state = checked-ready tags values rules n t a is ok .0
+
+    pub clausal-below : t < n
+    clausal-below = checked-ready tags values rules n t a is ok .1
+
+    module _ (b : Built) (tags₁ values₁ : List ℕ) (built : NormalBuilt n tags values (clausal tags values rules n t) b tags₁ values₁) where
+      pub clausal-full : b ≡ Full → (made : Answer) → made ≡ noRoom → ClausalBuilt tags values rules n t (Refused made) tags₁ values₁
+      unfolding clauseAnswer andThen
+      clausal-full e made q =
+          let (kept, full) = rw e at built in
+          rw q (record {
+            answer = λ l j h k. rw (le-leb _ _ h, le-leb _ _ k, ← is, eq-eqb _ _ ok, full);
+            code = λ z. omega arith;
+            same = λ z. absurd (omega arith);
+            left = kept;
+          })
+
+      pub clausal-made : (x m : ℕ) → b ≡ At x m → ClausalBuilt tags values rules n t (ClausalAt x m) tags₁ values₁
+      clausal-made x m e = record { passed = rw is at ok; built = rw e at built }
+
+pub ruleset clausals = (clausal-refused, clausal-full, clausal-made)
+
+-- ---- the new terms are kept or cut back
+module _ (n m : ℕ) (a : Answer) (tags values tags′ values′ : List ℕ) where
+  pub kept-not : (a .code ≡ 0 → ⊥) → Cut n tags values tags′ values′ → (r : Listed) → r ≡ unlisted a → Kept n m a tags values r tags′ values′
+  kept-not h cut r e = let z = ne-eqb _ _ h in record { listed = rw z e; cut = rw z cut }
+
+  pub kept-all : a .code ≡ 0 → Cut m tags values tags′ values′ → Kept n m a tags values (record { answer = a; count = m }) tags′ values′
+  kept-all h cut = let z = eq-eqb _ _ h in record { listed = rw z; cut = rw z cut }
+
+pub ruleset keeps = (kept-not, kept-all)
 
 module _ (tags values rules : List ℕ) (n t : ℕ) (literals ends : List ℕ) where
   -- ---- 30 for the lent arrays
@@ -82,138 +126,130 @@ module _ (tags values rules : List ℕ) (n t : ℕ) (literals ends : List ℕ) w
     ends-are = list-30 tags values rules n t badArrays ends _ refl;
   })
 
-  -- ---- the checks of the term
-  module _ (l : 8192 ≤ length literals) (k : 2048 ≤ length ends) (a : Answer) (is : a ≡ checkTerm tags values rules n t) where
-    stopped : (a .code ≡ 0 → ⊥) → a ≡ clauseAnswer tags values rules n t (length literals) (length ends)
-    unfolding clauseAnswer andThen
-    stopped h = rw (le-leb _ _ l, le-leb _ _ k, ← is, ne-eqb _ _ h)
+  module _ (l : 8192 ≤ length literals) (k : 2048 ≤ length ends) (c : Clausal) (tags₁ values₁ : List ℕ)
+      (is : ClausalBuilt tags values rules n t c tags₁ values₁) where
+    -- ---- a refusal before there is a list
+    module _ (a : Answer) (e : c ≡ Refused a) where
+      refuses : Refuses tags values rules n t a tags₁ values₁
+      refuses = rw e at is
 
-    no-count : (a .code ≡ 0 → ⊥) → 0 ≡ countLeft tags values rules n t a
-    unfolding countLeft
-    no-count h = rw (ne-eqb _ _ h)
-
-    pub list-arrays : a .code ≡ 30 → (r : Listed) → r ≡ unlisted a
-        → ClauseList tags values rules n t literals ends (r .answer) (r .count) tags values literals ends
-    list-arrays h r e =
-        let h₀ : a .code ≡ 0 → ⊥ = λ z. omega arith in
-        rw e (record {
-          answer = stopped h₀;
-          new-count = no-count h₀;
-          tags-are = left-30 a tags n _ h;
-          values-are = left-30 a values n _ h;
-          literals-are = list-30 tags values rules n t a literals _ h;
-          ends-are = list-30 tags values rules n t a ends _ h;
-        })
-
-    pub list-stopped : (a .code ≡ 30 → ⊥) → (a .code ≡ 0 → ⊥) → (tags′ values′ literals′ ends′ : List ℕ)
-        → Cut n tags values tags′ values′ → Cut 0 literals ends literals′ ends′ → (r : Listed) → r ≡ unlisted a
-        → ClauseList tags values rules n t literals ends (r .answer) (r .count) tags′ values′ literals′ ends′
-    list-stopped h₃₀ h tags′ values′ literals′ ends′ cut lists r e = rw e (record {
-      answer = stopped h;
-      new-count = no-count h;
-      tags-are = cut .tags-are ∙ left-refused a tags n _ h₃₀ h;
-      values-are = cut .values-are ∙ left-refused a values n _ h₃₀ h;
-      literals-are = lists .tags-are ∙ list-refused tags values rules n t a literals _ h₃₀ h;
-      ends-are = lists .values-are ∙ list-refused tags values rules n t a ends _ h₃₀ h;
-    })
-
-  -- ---- a term that has passed
-  module _ (ask : Checked tags values rules n t (length literals) (length ends)) where
-    pub list-state : State n n tags values
-    list-state = checked-ready tags values rules n t (checkTerm tags values rules n t) refl (ask .passed) .0
-
-    pub list-below : t < n
-    list-below = checked-ready tags values rules n t (checkTerm tags values rules n t) refl (ask .passed) .1
-
-    answer-then : clauseAnswer tags values rules n t (length literals) (length ends)
-        ≡ cond (fits (clausal tags values rules n t .pool) (length tags)) (listAnswer (clausalForm tags values rules n t)) noRoom
-    unfolding clauseAnswer andThen listAnswer countAnswer
-    answer-then = rw (le-leb _ _ (ask .literals), le-leb _ _ (ask .ends), eq-eqb _ _ (ask .passed))
-
-    module _ (b : Built) (tags₁ values₁ : List ℕ) (built : NormalBuilt n tags values (clausal tags values rules n t) b tags₁ values₁) where
-      pub list-full : b ≡ Full → (tags′ values′ literals′ ends′ : List ℕ) → Cut n tags₁ values₁ tags′ values′ → Cut 0 literals ends literals′ ends′
-          → (made : Answer) → made ≡ noRoom → (r : Listed) → r ≡ unlisted made
-          → ClauseList tags values rules n t literals ends (r .answer) (r .count) tags′ values′ literals′ ends′
+      no-count : 0 ≡ countLeft tags values rules n t a
       unfolding countLeft
-      list-full e tags′ values′ literals′ ends′ cut lists made q r i =
-          let (kept, full) = rw e at built in
-          rw (i, q) (record {
-            answer = rw (answer-then, full);
-            new-count = refl;
-            tags-are = cut .tags-are ∙ (zero-kept n tags tags₁ (kept .tags-size) (kept .tags-kept) ∙ left-refused noRoom tags n _ (λ z. omega arith) (λ z. omega arith));
-            values-are = cut .values-are ∙ (zero-kept n values values₁ (kept .values-size) (kept .values-kept) ∙ left-refused noRoom values n _ (λ z. omega arith) (λ z. omega arith));
-            literals-are = lists .tags-are ∙ list-refused tags values rules n t noRoom literals _ (λ z. omega arith) (λ z. omega arith);
-            ends-are = lists .values-are ∙ list-refused tags values rules n t noRoom ends _ (λ z. omega arith) (λ z. omega arith);
+      no-count = rw (ne-eqb _ _ (refuses .code))
+
+      pub list-arrays : a .code ≡ 30 → (r : Listed) → r ≡ unlisted a
+          → ClauseList tags values rules n t literals ends (r .answer) (r .count) tags₁ values₁ literals ends
+      list-arrays h r i =
+          let (same-tags, same-values) = refuses .same h in
+          rw i (record {
+            answer = refuses .answer (length literals) (length ends) l k;
+            new-count = no-count;
+            tags-are = same-tags ∙ left-30 a tags n _ h;
+            values-are = same-values ∙ left-30 a values n _ h;
+            literals-are = list-30 tags values rules n t a literals _ h;
+            ends-are = list-30 tags values rules n t a ends _ h;
           })
 
-      module _ (x m : ℕ) (e : b ≡ At x m) where
-        clausal-holds : Holds n (clausal tags values rules n t) x m tags₁ values₁
-        clausal-holds = let (h, room) = rw e at built in h
+      pub list-stopped : (a .code ≡ 30 → ⊥) → (tags′ values′ literals′ ends′ : List ℕ)
+          → Cut n tags₁ values₁ tags′ values′ → Cut 0 literals ends literals′ ends′ → (r : Listed) → r ≡ unlisted a
+          → ClauseList tags values rules n t literals ends (r .answer) (r .count) tags′ values′ literals′ ends′
+      list-stopped h tags′ values′ literals′ ends′ cut lists r i =
+          let left = refuses .left in
+          rw i (record {
+            answer = refuses .answer (length literals) (length ends) l k;
+            new-count = no-count;
+            tags-are = cut .tags-are ∙ (zero-kept n tags tags₁ (left .tags-size) (left .tags-kept) ∙ left-refused a tags n _ h (refuses .code));
+            values-are = cut .values-are ∙ (zero-kept n values values₁ (left .values-size) (left .values-kept) ∙ left-refused a values n _ h (refuses .code));
+            literals-are = lists .tags-are ∙ list-refused tags values rules n t a literals _ h (refuses .code);
+            ends-are = lists .values-are ∙ list-refused tags values rules n t a ends _ h (refuses .code);
+          })
 
-        form-is : formAt (take m tags₁) (take m values₁) x ≡ clausalForm tags values rules n t
-        form-is = ap₂ normalAt (clausal-holds .pool-is) (clausal-holds .place-is)
+    -- ---- a form whose clauses are listed
+    module _ (x m : ℕ) (e : c ≡ ClausalAt x m) where
+      passes : Passes tags values rules n t x m tags₁ values₁
+      passes = rw e at is
 
-        pub list-within : m ≤ length tags₁
-        list-within = clausal-holds .state .within
+      state : State n n tags values
+      state = checked-ready tags values rules n t (checkTerm tags values rules n t) refl (passes .passed) .0
 
-        pub list-within-values : m ≤ length values₁
-        list-within-values = omega (arith, clausal-holds .state .within, clausal-holds .state .size)
+      clausal-holds : Holds n (clausal tags values rules n t) x m tags₁ values₁
+      clausal-holds = passes .built .0
 
-        pub list-part : m ≡ length (take m tags₁)
-        list-part = sym (length-take-le m tags₁ list-within)
+      form-is : formAt (take m tags₁) (take m values₁) x ≡ clausalForm tags values rules n t
+      form-is = ap₂ normalAt (clausal-holds .pool-is) (clausal-holds .place-is)
 
-        pub list-part-values : m ≡ length (take m values₁)
-        list-part-values = sym (length-take-le m values₁ list-within-values)
+      pub list-within : m ≤ length tags₁
+      list-within = clausal-holds .state .within
 
-        pub list-lent : Lent (length (take m tags₁)) (length literals) (length ends)
-        list-lent = record { small = omega (arith, list-part, clausal-holds .state .small); literals = ask .literals; ends = ask .ends }
+      pub list-within-values : m ≤ length values₁
+      list-within-values = omega (arith, clausal-holds .state .within, clausal-holds .state .size)
 
-        module _ (a : Answer) (literals′ ends′ : List ℕ)
-            (listed : Answered (listAnswer (formAt (take m tags₁) (take m values₁) x)) (cnf (formAt (take m tags₁) (take m values₁) x))
-            (length literals) (length ends) a literals′ ends′) where
-          lists : Answered (listAnswer (clausalForm tags values rules n t)) (cnf (clausalForm tags values rules n t)) (length literals) (length ends) a literals′ ends′
-          lists = rw form-is at listed
+      pub list-part : m ≡ length (take m tags₁)
+      list-part = sym (length-take-le m tags₁ list-within)
 
-          not-30 : a .code ≡ 30 → ⊥
-          not-30 z = list-code (clausalForm tags values rules n t) (sym (ap (λ (y : Answer). y .code) (lists .answer)) ∙ z)
+      pub list-part-values : m ≡ length (take m values₁)
+      list-part-values = sym (length-take-le m values₁ list-within-values)
 
-          answered : a ≡ clauseAnswer tags values rules n t (length literals) (length ends)
-          answered = let (h, room) = rw e at built in lists .answer ∙ sym (answer-then ∙ (rw room))
+      pub list-small : m ≤ 8192
+      list-small = clausal-holds .state .small
 
-          literals-left : literals′ ≡ listLeft tags values rules n t a literals (literalPlaces (cnf (clausalForm tags values rules n t)))
-          literals-left = lists .literals-are ∙ list-held tags values rules n t a literals _ not-30
+      pub list-lent : Lent (length (take m tags₁)) (length literals) (length ends)
+      list-lent = record { small = omega (arith, list-part, list-small); literals = l; ends = k }
 
-          ends-left : ends′ ≡ listLeft tags values rules n t a ends (clauseEnds 0 (cnf (clausalForm tags values rules n t)))
-          ends-left = lists .ends-are ∙ list-held tags values rules n t a ends _ not-30
+      module _ (a : Answer) (literals′ ends′ : List ℕ)
+          (listed : Answered (listAnswer (formAt (take m tags₁) (take m values₁) x)) (cnf (formAt (take m tags₁) (take m values₁) x))
+          (length literals) (length ends) a literals′ ends′) where
+        lists : Answered (listAnswer (clausalForm tags values rules n t)) (cnf (clausalForm tags values rules n t)) (length literals) (length ends) a literals′ ends′
+        lists = rw form-is at listed
 
-          module _ (size : length tags₁ ≡ length tags) (size₂ : length values₁ ≡ length values) (tags′ values′ : List ℕ) where
-            pub list-none : (a .code ≡ 0 → ⊥) → Cut n tags₁ values₁ tags′ values′ → (r : Listed) → r ≡ unlisted a
-                → ClauseList tags values rules n t literals ends (r .answer) (r .count) tags′ values′ literals′ ends′
-            unfolding countLeft
-            list-none h cut r i =
-                let s = list-state in
-                let on = clausal-on tags values n t s in
-                rw i (record {
-                  answer = answered;
-                  new-count = rw (ne-eqb _ _ h);
-                  tags-are = cut .tags-are ∙ (zero-kept n tags tags₁ size (tags-kept n tags values s _ on x m tags₁ values₁ clausal-holds) ∙ left-refused a tags n _ not-30 h);
-                  values-are = cut .values-are ∙ (zero-kept n values values₁ size₂ (values-kept n tags values s _ on x m tags₁ values₁ clausal-holds) ∙ left-refused a values n _ not-30 h);
-                  literals-are = literals-left;
-                  ends-are = ends-left;
-                })
+        not-30 : a .code ≡ 30 → ⊥
+        not-30 z = list-code (clausalForm tags values rules n t) (sym (ap (λ (y : Answer). y .code) (lists .answer)) ∙ z)
 
-            pub list-made : a .code ≡ 0 → Cut m tags₁ values₁ tags′ values′
-                → ClauseList tags values rules n t literals ends a m tags′ values′ literals′ ends′
-            unfolding countLeft
-            list-made h cut = record {
-              answer = answered;
-              new-count = rw (eq-eqb _ _ h) (holds-count n m x _ tags₁ values₁ clausal-holds);
-              tags-are = cut .tags-are ∙ (holds-tags n m x _ tags₁ values₁ clausal-holds (length tags) size ∙ left-accepted a tags n _ h);
-              values-are = cut .values-are ∙ (holds-values n m x _ tags₁ values₁ clausal-holds (length values) size₂ ∙ left-accepted a values n _ h);
-              literals-are = literals-left;
-              ends-are = ends-left;
-            }
+        answered : a ≡ clauseAnswer tags values rules n t (length literals) (length ends)
+        unfolding clauseAnswer andThen listAnswer countAnswer
+        answered = lists .answer ∙ (rw (le-leb _ _ l, le-leb _ _ k, eq-eqb _ _ (passes .passed), passes .built .1))
 
-pub ruleset checks = (short-literals, short-ends, list-arrays, list-stopped)
+        literals-left : literals′ ≡ listLeft tags values rules n t a literals (literalPlaces (cnf (clausalForm tags values rules n t)))
+        literals-left = lists .literals-are ∙ list-held tags values rules n t a literals _ not-30
+
+        ends-left : ends′ ≡ listLeft tags values rules n t a ends (clauseEnds 0 (cnf (clausalForm tags values rules n t)))
+        ends-left = lists .ends-are ∙ list-held tags values rules n t a ends _ not-30
+
+        module _ (size : length tags₁ ≡ length tags) (size₂ : length values₁ ≡ length values) (tags′ values′ : List ℕ) where
+          list-none : (a .code ≡ 0 → ⊥) → Cut n tags₁ values₁ tags′ values′
+              → ClauseList tags values rules n t literals ends a 0 tags′ values′ literals′ ends′
+          unfolding countLeft
+          list-none h cut =
+              let on = clausal-on tags values n t state in
+              record {
+                answer = answered;
+                new-count = rw (ne-eqb _ _ h);
+                tags-are = cut .tags-are ∙ (zero-kept n tags tags₁ size (tags-kept n tags values state _ on x m tags₁ values₁ clausal-holds) ∙ left-refused a tags n _ not-30 h);
+                values-are = cut .values-are ∙ (zero-kept n values values₁ size₂ (values-kept n tags values state _ on x m tags₁ values₁ clausal-holds) ∙ left-refused a values n _ not-30 h);
+                literals-are = literals-left;
+                ends-are = ends-left;
+              }
+
+          list-made : a .code ≡ 0 → Cut m tags₁ values₁ tags′ values′
+              → ClauseList tags values rules n t literals ends a m tags′ values′ literals′ ends′
+          unfolding countLeft
+          list-made h cut = record {
+            answer = answered;
+            new-count = rw (eq-eqb _ _ h) (holds-count n m x _ tags₁ values₁ clausal-holds);
+            tags-are = cut .tags-are ∙ (holds-tags n m x _ tags₁ values₁ clausal-holds (length tags) size ∙ left-accepted a tags n _ h);
+            values-are = cut .values-are ∙ (holds-values n m x _ tags₁ values₁ clausal-holds (length values) size₂ ∙ left-accepted a values n _ h);
+            literals-are = literals-left;
+            ends-are = ends-left;
+          }
+
+          pub list-kept : (r : Listed) → Kept n m a tags₁ values₁ r tags′ values′
+              → ClauseList tags values rules n t literals ends (r .answer) (r .count) tags′ values′ literals′ ends′
+          list-kept r kept =
+              rw (kept .listed)
+              (by-test (eqb (a .code) 0)
+              (λ z. rw z (list-made (eqb-true _ _ z) (rw z at (kept .cut))))
+              (λ z. rw z (list-none (eqb-false _ _ z) (rw z at (kept .cut)))))
+
+pub ruleset checks = (short-literals, short-ends, list-arrays)
 
 pub ruleset list-parts = (list-within, list-within-values, list-part, list-part-values)

@@ -1,5 +1,5 @@
-use Rattle.normal_form.proofs.call.Clauses.{checks, list-checks}
 use borrow.Author.Needs.{needs}
+use Rattle.normal_form.proofs.call.Clauses.{checks, list-stopped, list-kept, list-parts, list-lent, list-small}
 use Rattle.normal_form.proofs.call.clause_list.Statement.{statement}
 use Rattle.normal_form.proofs.call.clause_list.Tie as tie
 
@@ -21,8 +21,11 @@ refused-requires-4 c κs = search needs
 returns-2 : tie.Need-returns-2
 returns-2 c = search checks
 
-index-term-requires : tie.Need-index-term-requires
-index-term-requires c κs = search needs
+clausal-of-requires : tie.Need-clausal-of-requires
+clausal-of-requires c κs = search needs
+
+enum-known-built : tie.Need-enum-known-built
+enum-known-built c = search needs
 
 refused-requires-5 : tie.Need-refused-requires-5
 refused-requires-5 c κs = search needs
@@ -45,45 +48,73 @@ cut-back-requires-2 c κs = search needs
 refused-requires-6 : tie.Need-refused-requires-6
 refused-requires-6 c κs = search needs
 
+enum-known-built-2 : tie.Need-enum-known-built-2
+enum-known-built-2 c = search needs
+
+slice-reshare-prefix-list-clauses : tie.Need-slice-reshare-prefix-list-clauses
+slice-reshare-prefix-list-clauses c = search list-parts
+
+slice-aggregate-list-clauses : tie.Need-slice-aggregate-list-clauses
+slice-aggregate-list-clauses c = search list-parts
+
+slice-reshare-prefix-list-clauses-2 : tie.Need-slice-reshare-prefix-list-clauses-2
+slice-reshare-prefix-list-clauses-2 c = search list-parts
+
+slice-aggregate-list-clauses-2 : tie.Need-slice-aggregate-list-clauses-2
+slice-aggregate-list-clauses-2 c = search list-parts
+
+list-clauses-requires : tie.Need-list-clauses-requires
+list-clauses-requires c κs = search list-lent
+
+keep-listed-requires : tie.Need-keep-listed-requires
+keep-listed-requires c κs = search list-small
+
 same-length-3 : tie.Need-same-length-3
-same-length-3 c = c .before .before .before .before .before .before .before .before .before .before .before .tags .given
+same-length-3 c = search needs
 
 same-length-4 : tie.Need-same-length-4
-same-length-4 c = c .before .before .before .before .before .before .before .before .before .values .given
+same-length-4 c = search needs
 
 same-length-5 : tie.Need-same-length-5
-same-length-5 c = c .before .before .before .before .literals .given
+same-length-5 c = search needs
 
 same-length-6 : tie.Need-same-length-6
-same-length-6 c = c .before .before .ends .given
+same-length-6 c = search needs
 
 returns-4 : tie.Need-returns-4
-returns-4 c = search checks
-
-list-checked-requires : tie.Need-list-checked-requires
-list-checked-requires c κs =
-    let at-if4 = c .before .before .before .before .before in
-    let at-index-term = at-if4 .before .before .before .before in
-    let at-if2 = at-index-term .before .before .before .before in
-    let at-if1 = at-if2 .before in (
-      at-index-term .index-term .ensures .1 .passed (at-if4 .if4 .left),
-      list-checks _ _ _ _ _ _ _ (at-if1 .if1 .left) (at-if2 .if2 .left) _ (at-index-term .index-term .ensures .0) (at-if4 .if4 .left),
-    )
+returns-4 c =
+    let at-cut-back2 = c .before .before .before .before .before in
+    let at-cut-back = at-cut-back2 .before .before .before .before .before .before .before in
+    let at-if3 = at-cut-back .before .before .before in
+    let at-built = at-if3 .before .before .before in
+    let at-clausal-of = at-built .before .before .before .before .before .before in
+    let at-if2 = at-clausal-of .before .before .before in
+    list-stopped _ _ _ _ _ _ _ (at-if2 .before .if1 .left) (at-if2 .if2 .left) _ _ _ (at-clausal-of .clausal-of .ensures) _ (at-built .built .given .1)
+    (at-if3 .if3 .left) _ _ _ _ (at-cut-back .cut-back .ensures) (at-cut-back2 .cut-back2 .ensures) _ (c .refused6 .ensures)
 
 same-length-7 : tie.Need-same-length-7
-same-length-7 c = c .before .before .before .before .before .before .before .tags2 .given
+same-length-7 c = search needs
 
 same-length-8 : tie.Need-same-length-8
-same-length-8 c = c .before .before .before .before .before .values2 .given
+same-length-8 c = search needs
 
 same-length-9 : tie.Need-same-length-9
-same-length-9 c = c .before .before .before .literals2 .given
+same-length-9 c = search needs
 
 same-length-10 : tie.Need-same-length-10
-same-length-10 c = c .before .ends2 .given
+same-length-10 c = search needs
 
 returns-5 : tie.Need-returns-5
-returns-5 c = search needs
+returns-5 c =
+    let at-keep-listed = c .before .before .before .before in
+    let at-list-clauses = at-keep-listed .before .before .before .before .before .before .before in
+    let at-built2 = at-list-clauses .before .before .before .before .before .before in
+    let at-values = at-built2 .before .before .before in
+    let at-tags = at-values .before .before in
+    let at-clausal-of = at-tags .before in
+    let at-if2 = at-clausal-of .before .before .before in
+    list-kept _ _ _ _ _ _ _ (at-if2 .before .if1 .left) (at-if2 .if2 .left) _ _ _ (at-clausal-of .clausal-of .ensures) _ _ (at-built2 .built2 .given .1)
+    _ _ _ (at-list-clauses .list-clauses .ensures) (at-tags .tags .given) (at-values .values .given) _ _ _ (at-keep-listed .keep-listed .ensures)
 
 pub clause-list-spec : {M : Type 1} → statement M
 clause-list-spec =
@@ -95,7 +126,8 @@ clause-list-spec =
     refused-requires-3
     refused-requires-4
     returns-2
-    index-term-requires
+    clausal-of-requires
+    enum-known-built
     refused-requires-5
     same-length
     same-length-2
@@ -103,12 +135,18 @@ clause-list-spec =
     cut-back-requires
     cut-back-requires-2
     refused-requires-6
+    enum-known-built-2
+    slice-reshare-prefix-list-clauses
+    slice-aggregate-list-clauses
+    slice-reshare-prefix-list-clauses-2
+    slice-aggregate-list-clauses-2
+    list-clauses-requires
+    keep-listed-requires
     same-length-3
     same-length-4
     same-length-5
     same-length-6
     returns-4
-    list-checked-requires
     same-length-7
     same-length-8
     same-length-9
