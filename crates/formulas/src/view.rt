@@ -92,13 +92,11 @@ fn connective(values: &[u32], tag: u32, os: &[u32]) -> View
 fn quantifier(tag: u32, body: u32) -> View
     ensures { λ r. ⌜ r ≡ quantifier tag body ⌝ }
 {
-    if tag == 23 {
-        return View::Quantifier(true, body);
+    match tag {
+        23 => View::Quantifier(true, body),
+        24 => View::Quantifier(false, body),
+        _ => View::Opaque,
     }
-    if tag == 24 {
-        return View::Quantifier(false, body);
-    }
-    View::Opaque
 }
 
 // How the term at t is read.

@@ -104,14 +104,13 @@ module _ (tag body : ℕ) where
   unfolding quantifier
   is-forall e = rw (eq-eqb _ _ e)
 
-  module _ (n : tag ≡ 23 → ⊥) where
-    pub is-exists : tag ≡ 24 → Quantifier false body ≡ quantifier tag body
-    unfolding quantifier
-    is-exists e = rw (ne-eqb _ _ n, eq-eqb _ _ e)
+  pub is-exists : tag ≡ 24 → Quantifier false body ≡ quantifier tag body
+  unfolding quantifier
+  is-exists e = rw (ne-eqb tag 23 (λ f. omega arith), eq-eqb _ _ e)
 
-    pub no-quantifier : (tag ≡ 24 → ⊥) → Opaque ≡ quantifier tag body
-    unfolding quantifier
-    no-quantifier e = rw (ne-eqb _ _ n, ne-eqb _ _ e)
+  pub no-quantifier : (tag ≡ 23 → ⊥) → (tag ≡ 24 → ⊥) → Opaque ≡ quantifier tag body
+  unfolding quantifier
+  no-quantifier n e = rw (ne-eqb _ _ n, ne-eqb _ _ e)
 
 pub ruleset quantifiers = (is-forall, is-exists, no-quantifier)
 
