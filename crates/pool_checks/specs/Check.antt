@@ -38,7 +38,8 @@ checkCells tags values rules n =
 unfoldable pub checkPool : List ℕ → List ℕ → List ℕ → ℕ → Answer
 checkPool tags values rules n = cond (arraysFit tags values n) (checkCells tags values rules n) badArrays
 
--- an answer to the pool check, and an index that has the pool's descriptions if it passes
+-- an answer to the pool check, and an index that has the pool's descriptions if it passes. What a refused pool leaves in the index is open: the
+-- papers know of none, and nothing reads it then
 pub record Indexed (tags values : List ℕ) (n : ℕ) (a : Answer) (index : List ℕ) : Type 0 where
   pub passed : a .code ≡ 0 → Index tags values n index
 

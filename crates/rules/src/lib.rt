@@ -1,9 +1,7 @@
 // The six rules of document 01, over a pool that passes its checks.
 pub mod check;
 
-pub use clausification::qnt_cnf;
 pub use joining::qnt_join;
 pub use miniscoping::miniscope_distribute;
 pub use miniscoping::miniscope_ite;
-pub use miniscoping::miniscope_split;
 pub use removing::qnt_rm_unused;
