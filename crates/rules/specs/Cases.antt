@@ -11,12 +11,12 @@
 --     (ite p q r)         -p +q; +p +r
 --     (not (ite p q r))   +p -p; +p -r; -q -p; -q -r
 --     (or a (and))        none
---     (and (or))          13, an empty `or` reached
+--     (and (or))          13, an empty `or` reached; of the call over its cells too
 --     (= p q r)           one opaque literal
 --
 -- Of joins the conclusion is `(= (forall outer (forall inner p)) (forall right p))` in a pool of its own. Of formulas clausesOf is the clause list:
 -- the normal form at true polarity with its foralls taken out; p, q, r and a are variables of sort Bool; a literal is +t for t, -t for `not` t.
--- Rests on joining's QntJoin, on pool's Sort and Term, and on formulas' Skeleton, Normal and Clauses.
+-- Rests on joining's QntJoin, on term_trees' Sort and Term, on formulas' Skeleton, Normal and Clauses, and on normal_form's Calls.
 use mathlib.Core.Path.{_≡_, refl}
 use Prim.Native.Nat.{ℕ}
 use mathlib.Core.Bool.{Bool, true, false}
@@ -32,6 +32,20 @@ use Rattle.quantifiers.specs.Outcome.{Outcome, pass, refuse, _>>=_, _>>_, need,
 use Rattle.quantifiers.specs.Binding.{bindingsOf, same, sameAll}
 use Rattle.forms.specs.Form.{quantifier, operator, equality as equalityAt}
 use Rattle.joining.specs.QntJoin.{afterPair, withoutAdjacent, joined, qntJoin}
+use Rattle.cells.specs.Bounded.{everyIn, every}
+use Rattle.cells.specs.ByPlace.{downTo, byPlace}
+use Rattle.cells.specs.Cell.{sortOf, sameCells, isAt}
+use Rattle.cells.specs.Headers.{firstIn, firstFrom, firstHeader}
+use Rattle.headers.specs.WellFormed.{shapeOf, countFits, pairKind, kindAt, isSortTag, isTermTag, isTerm, valueFits, cellFits, boolFirst, headerFits, firstBad}
+use Rattle.descriptions.specs.Description.{find, repeats, firstRepeat}
+use Rattle.sort_rules.specs.SortRule.{isSort, byRule, computeSort, statesSort, firstWrongSort}
+use Rattle.sort_rules.specs.Table.{builtIn}
+use Rattle.answers.specs.Answer.{refused}
+use Rattle.pool_checks.specs.Check.{arraysFit, checkCells, checkPool, andThen, checkTerm}
+use Rattle.formulas.specs.Formula.{allBefore, connective, viewOf, formBy, form}
+use Rattle.formulas.specs.Built.{put, intern, interns, normalForm, normalView, normalBy, normalAt, takenOut}
+use Rattle.building.specs.Arrays.{fits}
+use Rattle.normal_form.specs.Calls.{clauseAnswer}
 
 -- ---- joins: Bool at 0, p at 1, the inner forall at 4, the outer one after it, then the right one and the equality
 -- a header's tags, and its values
@@ -165,6 +179,11 @@ or-empty-and = refl
 pub and-empty-or : emptyOr (clausal (and′ (or′ [] ∷ []))) ≡ true
 unfolding skeleton leftBool formOf stated Sort-discrete
 and-empty-or = refl
+
+-- (or) at 1, (and (or)) at 3
+pub and-empty-or-refused : clauseAnswer (1 ∷ 37 ∷ 0 ∷ 36 ∷ 0 ∷ 0 ∷ []) (0 ∷ 1 ∷ 0 ∷ 2 ∷ 0 ∷ 1 ∷ []) builtIn 6 3 8192 2048 ≡ refused 13 0 0
+unfolding clauseAnswer andThen checkTerm checkPool arraysFit checkCells firstBad firstRepeat firstWrongSort firstHeader firstFrom firstIn headerFits boolFirst cellFits valueFits kindAt pairKind countFits shapeOf isSortTag isTermTag isTerm every everyIn repeats find isAt sameCells cellsOf sortOf operandsOf statesSort computeSort byRule isSort builtIn fits normalForm takenOut normalAt normalBy normalView form byPlace downTo formBy viewOf connective allBefore intern interns put
+and-empty-or-refused = refl
 
 pub equality-of-three : clausesOf (equals (p ∷ q ∷ r ∷ [])) ≡ (+ (equals (p ∷ q ∷ r ∷ [])) ∷ []) ∷ []
 unfolding skeleton leftBool formOf iffOf stated Sort-discrete

@@ -1,4 +1,5 @@
 pub mod Premises
+pub mod OrderCases
 pub mod PremisesCases
 pub mod Step
 pub mod StepWalk

@@ -14,11 +14,12 @@ use Rattle.answers.specs.Answer.{illFormed, badArrays}
 use Rattle.answers.specs.declared.Answer.{Answer}
 use Rattle.step_files.specs.StepFile.{fileText, lines, written, Answered}
 use Rattle.answer_lines.specs.Text.{line, Put}
+use Rattle.step_files.proofs.Accepted.{file-follows}
 
 module _ (bytes out : List ℕ) where
   pub file-unwritten : length out < 11264 → Answered bytes out 0 out
   unfolding written
-  file-unwritten h = record { end = rw (lt-ltb _ _ h); out-is = rw (lt-ltb _ _ h) }
+  file-unwritten h = record { end = rw (lt-ltb _ _ h); out-is = rw (lt-ltb _ _ h); follows = file-follows bytes }
 
   module _ (room : 11264 ≤ length out) (r : ℕ) (out′ : List ℕ) where
     file-written : (text : List ℕ) (most : ℕ) → Put text most 0 out r out′ → most ≤ 11264 → text ≡ fileText bytes → Answered bytes out r out′
@@ -29,6 +30,7 @@ module _ (bytes out : List ℕ) where
         record {
           end = rw (le-ltb _ _ room, ← e) size;
           out-is = rw (le-ltb _ _ room, ← e, ← n) (p .out-is ∙ sets-eq text out 0 (omega (arith, p .short)));
+          follows = file-follows bytes;
         }
 
     module _ (a : Answer) (p : Put (line 0 a) 44 0 out r out′) where

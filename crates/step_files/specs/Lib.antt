@@ -1,2 +1,3 @@
+pub mod FileCases
 pub mod StepFile
 pub mod Steps

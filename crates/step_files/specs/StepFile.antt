@@ -13,7 +13,7 @@ use Rattle.words.specs.Words.{wordAt, wordsFrom}
 use Rattle.sort_rules.specs.Table.{builtIn}
 use Rattle.answers.specs.Answer.{illFormed, badArrays}
 use Rattle.answers.specs.declared.Answer.{Answer}
-use Rattle.rules.specs.Step.{stepAnswer}
+use Rattle.rules.specs.Step.{stepAnswer, Follows}
 use Rattle.answer_lines.specs.Text.{line}
 
 -- an array of 8,192 cells: n words of the file from position start on, and zeroes
@@ -46,6 +46,10 @@ module _ (bytes : List ℕ) where
   unfoldable pub answerTo : ℕ → Answer
   answerTo j = stepAnswer fileTags fileValues builtIn cellCount (ruleOf j) (placeOf j ∷ [])
 
+  -- what an acceptance of step j says of its conclusion: demand 3, as `check` says it of a step alone
+  abbrev pub StepFollows : ℕ → Type 0
+  StepFollows j = Follows fileTags fileValues builtIn cellCount (ruleOf j) (placeOf j ∷ []) (answerTo j)
+
   -- the lines of the first k steps
   unfoldable pub lines : ℕ → List ℕ
   lines zero = []
@@ -62,7 +66,8 @@ module _ (bytes : List ℕ) where
   unfoldable pub written : List ℕ → List ℕ
   written out = cond (ltb (length out) 11264) [] fileText
 
-  -- r bytes are written at the front of the array, and the rest of it is as it was
+  -- r bytes are written at the front of the array, and the rest of it is as it was; a step whose line says 0 is true
   pub record Answered (out : List ℕ) (r : ℕ) (out′ : List ℕ) : Type 0 where
     pub end : r ≡ length (written out)
     pub out-is : out′ ≡ written out ++ drop r out
+    pub follows : (j : ℕ) → StepFollows j

@@ -1,0 +1,31 @@
+-- An accepted step of a file is true.
+--     file-follows           what `check`'s contract says of a step holds of each step of a file
+--     accepted-step-true     so its conclusion is true in every reading, whatever the values are
+-- Assumes what demand 3 does.
+use Prim.Native.Nat.{ℕ}
+use mathlib.Core.Path.{_≡_, refl}
+use mathlib.Core.Bool.{true, false}
+use mathlib.Core.List.{List, [], _∷_}
+use Rattle.sort_rules.specs.Table.{builtIn}
+use Rattle.term_trees.specs.Term.{Term}
+use Rattle.formulas.specs.Truth.{Assignment, Reading, True}
+use Rattle.clausification.specs.NoCapture.{NoCapture}
+use Rattle.rules.specs.Premises.{holdsLet, LocalWithoutLet}
+use Rattle.rules.specs.Step.{conclusionTerm}
+use Rattle.rules.proofs.Accepted.{step-follows}
+use Rattle.rules.proofs.Numbered.{every-reading}
+use Rattle.step_files.specs.StepFile.{cellCount, fileTags, fileValues, ruleOf, placeOf, answerTo, StepFollows, Answered}
+
+module _ (bytes : List ℕ) where
+  pub file-follows : (j : ℕ) → StepFollows bytes j
+  unfolding answerTo
+  file-follows j = step-follows (fileTags bytes) (fileValues bytes) builtIn (cellCount bytes) (ruleOf bytes j) (placeOf bytes j ∷ []) (answerTo bytes j) refl
+
+  -- the conclusion of step j
+  abbrev pub conclusionOf : ℕ → Term
+  conclusionOf j = conclusionTerm (fileTags bytes) (fileValues bytes) builtIn (cellCount bytes) (ruleOf bytes j) (placeOf bytes j ∷ [])
+
+  pub accepted-step-true : {out out′ : List ℕ} {r : ℕ} → Answered bytes out r out′ → (j : ℕ) → answerTo bytes j .code ≡ 0
+      → holdsLet (conclusionOf j) ≡ false → (ruleOf bytes j ≡ 3 → NoCapture (conclusionOf j))
+      → (R : Reading) → LocalWithoutLet R → (ρ : Assignment (R .Value)) → True R (conclusionOf j) ρ ≡ true
+  accepted-step-true a j e none premise R local ρ = every-reading (conclusionOf j) (a .follows j e none premise) R local ρ

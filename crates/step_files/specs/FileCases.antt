@@ -1,0 +1,49 @@
+-- Files that are not answered step by step, and how numbers stand in a file and in a line; each line is shown by computation.
+--
+--     7 bytes                                  0 14 0 0
+--     N 8,193, and nothing after R             0 30 0 0: the limits come before the length
+--     R 257, and nothing after it              0 30 0 0
+--     N 1, and nothing after R                 0 14 0 0
+--     the bytes 1, 2, 3, 4                     the word 67,305,985: the lowest byte first
+--     step 12, refused with 5 and 30, 7        12 5 30 7
+--
+-- Rests on StepFile, on words' Words and on answer_lines' Decimal and Text.
+use Prim.Native.Nat.{ℕ}
+use mathlib.Core.Path.{_≡_, refl}
+use mathlib.Core.List.{List, [], _∷_}
+use Rattle.words.specs.Words.{wordAt}
+use Rattle.answers.specs.Answer.{refused}
+use Rattle.answer_lines.specs.Decimal.{decimalIn, decimal}
+use Rattle.answer_lines.specs.Text.{field, line}
+use Rattle.step_files.specs.StepFile.{fileText}
+
+-- `0 14 0 0` and `0 30 0 0` in ASCII, with the newline
+abbrev says14 : List ℕ
+says14 = 48 ∷ 32 ∷ 49 ∷ 52 ∷ 32 ∷ 48 ∷ 32 ∷ 48 ∷ 10 ∷ []
+
+abbrev says30 : List ℕ
+says30 = 48 ∷ 32 ∷ 51 ∷ 48 ∷ 32 ∷ 48 ∷ 32 ∷ 48 ∷ 10 ∷ []
+
+pub under-8-bytes : fileText (1 ∷ 0 ∷ 0 ∷ 0 ∷ 0 ∷ 0 ∷ 0 ∷ []) ≡ says14
+unfolding fileText wordAt line field decimal decimalIn
+under-8-bytes = refl
+
+pub cells-before-length : fileText (1 ∷ 32 ∷ 0 ∷ 0 ∷ 0 ∷ 0 ∷ 0 ∷ 0 ∷ []) ≡ says30
+unfolding fileText wordAt line field decimal decimalIn
+cells-before-length = refl
+
+pub steps-before-length : fileText (0 ∷ 0 ∷ 0 ∷ 0 ∷ 1 ∷ 1 ∷ 0 ∷ 0 ∷ []) ≡ says30
+unfolding fileText wordAt line field decimal decimalIn
+steps-before-length = refl
+
+pub cells-missing : fileText (1 ∷ 0 ∷ 0 ∷ 0 ∷ 0 ∷ 0 ∷ 0 ∷ 0 ∷ []) ≡ says14
+unfolding fileText wordAt line field decimal decimalIn
+cells-missing = refl
+
+pub lowest-byte-first : wordAt (1 ∷ 2 ∷ 3 ∷ 4 ∷ []) 0 ≡ 67305985
+unfolding wordAt
+lowest-byte-first = refl
+
+pub a-line : line 12 (refused 5 30 7) ≡ 49 ∷ 50 ∷ 32 ∷ 53 ∷ 32 ∷ 51 ∷ 48 ∷ 32 ∷ 55 ∷ 10 ∷ []
+unfolding line field decimal decimalIn
+a-line = refl
