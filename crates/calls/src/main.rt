@@ -47,14 +47,22 @@ fn file_bytes() -> [u8; 108033]
     [0; 108033]
 }
 
+// Reads a pool into arrays of the file's lengths.
+fn read_pool(bytes: &[u8], tags: &mut [u32], values: &mut [u32])
+    requires { ⌜ length (now tags) ≤ 9000 ⌝ }
+{
+    let t = tags.len();
+    read_words(bytes, 8, tags);
+    read_words(bytes, 8 + t, values);
+}
+
 // Call 0 on arrays of the file's lengths.
 fn check_in(bytes: &[u8], head: Head, tags: &mut [u32], values: &mut [u32], conclusion: &mut [u32])
     requires { ⌜ (length (now tags) ≤ 9000) × (length (now values) ≤ 9000) ⌝ }
 {
     let t = tags.len();
     let v = values.len();
-    read_words(bytes, 8, tags);
-    read_words(bytes, 8 + t, values);
+    read_pool(bytes, tags, values);
     read_words(bytes, 8 + t + v, conclusion);
     let answer = check(tags, values, head.n, head.place, conclusion);
     report::answer(answer, 0);
@@ -84,9 +92,7 @@ fn check_step(bytes: &[u8], head: Head)
 fn sort_in(bytes: &[u8], head: Head, tags: &mut [u32], values: &mut [u32])
     requires { ⌜ length (now tags) ≤ 9000 ⌝ }
 {
-    let t = tags.len();
-    read_words(bytes, 8, tags);
-    read_words(bytes, 8 + t, values);
+    read_pool(bytes, tags, values);
     let answer = pool::call::sort_of_term(tags, values, head.n, TermPlace(head.place));
     report::answer(answer, 0);
     report::line(b"tags", tags);
@@ -107,9 +113,7 @@ fn sort(bytes: &[u8], head: Head)
 fn free_vars_in(bytes: &[u8], head: Head, tags: &mut [u32], values: &mut [u32], marks: &mut [u8])
     requires { ⌜ length (now tags) ≤ 9000 ⌝ }
 {
-    let t = tags.len();
-    read_words(bytes, 8, tags);
-    read_words(bytes, 8 + t, values);
+    read_pool(bytes, tags, values);
     let answer = pool::call::free_vars(tags, values, head.n, TermPlace(head.place), marks);
     report::answer(answer, 0);
     report::line(b"tags", tags);
@@ -143,9 +147,7 @@ fn free_vars(bytes: &[u8], head: Head)
 fn normal_in(bytes: &[u8], head: Head, tags: &mut [u32], values: &mut [u32])
     requires { ⌜ length (now tags) ≤ 9000 ⌝ }
 {
-    let t = tags.len();
-    read_words(bytes, 8, tags);
-    read_words(bytes, 8 + t, values);
+    read_pool(bytes, tags, values);
     let polarity = head.polarity != 0;
     let answer = normal_form(tags, values, head.n, TermPlace(head.place), polarity);
     report::answer(answer, 0);
@@ -182,9 +184,7 @@ fn clauses_in(
 )
     requires { ⌜ length (now tags) ≤ 9000 ⌝ }
 {
-    let t = tags.len();
-    read_words(bytes, 8, tags);
-    read_words(bytes, 8 + t, values);
+    read_pool(bytes, tags, values);
     let listed = clause_list(tags, values, head.n, TermPlace(head.place), literals, ends);
     report_list(listed, tags, values, literals, ends);
 }
