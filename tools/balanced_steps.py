@@ -1,7 +1,7 @@
 """Random steps of which only those are kept that end at a check with room left, so that seldom ends come up as often as others.
 
-    p = BalancedSteps(rng, size, cells, wanted)     a pool of about so many cells, and p.steps, pairs of a rule and a place
-    wanted(site)                                    asked of each step (sites.py); one that is not wanted leaves no cell
+    p = BalancedSteps(rng, size, cells, wanted, lets)     a pool of about so many cells, and p.steps, pairs of a rule and a place
+    wanted(site)                                          asked of each step (sites.py); one that is not wanted leaves no cell
 """
 from packed_pool import BINDER_TAG, NoAnswer
 from random_pools import NAMES
@@ -14,8 +14,8 @@ TRIES = 3000  # to a pool
 
 
 class BalancedSteps(RandomSteps):
-    def __init__(self, rng, size, cells, wanted):
-        super().__init__(rng, size, 0)
+    def __init__(self, rng, size, cells, wanted, lets=False):
+        super().__init__(rng, size, 0, lets)
         for _ in range(TRIES):
             start = len(self.tags)
             if start >= cells:

@@ -72,7 +72,7 @@ VARIABLES = [
     ('taken-out-not-bound', '', '(or (forall (y) p) q)', '', '(or p q)'), ('captured', '', '(or x (forall (x) x))', 'x', '(or x x)'),
     ('shadowed', 'x', '(and x (forall (x) (not x)))', 'x', '(not x)'), ('other-sort-free', 'x', OR_SORTS, 'x', OR_SORTS),
     ('two-sorts', "x x'", OR_SORTS, "x' x", OR_SORTS), ('not-in-this-clause', 'x', '(and p (forall (y) (or x y)))', '', 'p'),
-    ('let-value', 'x', '(let ((y x)) p)', '', '(let ((y x)) p)'),
+    ('let-value', 'x', '(let ((y x)) p)', 'x', '(let ((y x)) p)'), ('let-name', 'y', '(let ((y x)) y)', '', '(let ((y x)) y)'),
     ('new', 'x', 'x', 'x z', 'x', 8, 'z'), ('first-new', 'x', 'x', 'y x z', 'x', 8, 'y'), ('other-sort', 'x', 'x', "x x'", 'x', 8, 'x'),
     ('not-through-exists', '', '(exists (y) y)', 'y', '(exists (y) y)', 8, 'y'),
     ('below-exists', '', '(exists (y) (forall (z) z))', 'z', '(exists (y) (forall (z) z))', 8, 'z'),
@@ -90,6 +90,8 @@ VARIABLES = [
     ('in-both-lists', 'y x', '(forall (z x) (or x z y))', 'y', '(or x z y)', 9, 'x'),
     ('other-sort', "x' x", OR_SORTS, 'x', OR_SORTS, 9, 'x'),
     ('below-a-literal', 'x', '(or (choice (y) x) p)', '', '(or (choice (y) x) p)', 9, 'x'),
+    ('let-value', 'x', '(let ((y x)) p)', '', '(let ((y x)) p)', 9, 'x'),
+    ('let-value-taken-out', '', '(forall (x) (let ((x x)) x))', '', '(let ((x x)) x)', 9, 'x'),
 ]
 
 

@@ -52,15 +52,55 @@ def lets():
     p = Names()
     yield accepted('free-let-repeats-a-name', p, p.let(p.body, [(X, p.y), (X, p.yi)]), [p.y, p.yi, p.z])
     p = Names()
+    yield accepted('free-let-repeats-a-name-in-values', p, p.let(p.x, [(X, p.y), (X, p.z)]), [p.y, p.z])
+    p = Names()
     yield accepted('free-let-without-list', p, p.let(p.body, []), p.all)
     p = Names()
     value = p.constant('integer', 5)
     yield accepted('free-let-by-sort-of-value', p, p.let(p.body, [(X, value)]), [p.x, p.y, p.yi, p.z])
-    # smallest inputs on which SMT-LIB says otherwise
+    # the smallest input on which the Rust says otherwise
     tags, values = packed([1], [21, 0, X], [27, 0, 1, X, 1])
-    yield 'free-let-value-does-not-count', (0, 0, 0), call_file(2, tags, values, place=4, x=9), set()
+    yield 'free-let-value-counts', (0, 0, 0), call_file(2, tags, values, place=4, x=9), {1}
+    # the smallest input on which SMT-LIB says otherwise
     tags, values = packed([1], [2], [21, 0, X], [23, 0, 2, X, 1])
     yield 'free-not-shadowed-by-name-alone', (0, 0, 0), call_file(2, tags, values, place=5, x=10), {2}
+
+
+def let_values():
+    """A let's values stand outside its names; what binds further out binds in them."""
+    for name, term, free in (
+            ('outside-its-names', lambda p: p.let(p.x, [(X, p.y), (X, p.x)]), 'x y'),
+            ('outside-earlier-names', lambda p: p.let(p.y, [(X, p.z), (Y, p.x)]), 'x z'),
+            ('of-another-sort', lambda p: p.let(p.x, [(X, p.xi)]), 'x xi'),
+            ('in-place-of-the-body', lambda p: p.let(p.z, [(Z, p.op('And', p.x, p.y))]), 'x y'),
+            ('last-of-40', lambda p: p.let(p.x, [(name, p.x) for name in range(40, 79)] + [(X, p.z)]), 'x z'),
+            ('bound-further-out', lambda p: p.binder('forall', p.let(p.x, [(X, p.y)]), [(Y, 0)]), ''),
+            ('bound-further-out-by-sort', lambda p: p.binder('exists', p.let(p.x, [(X, p.yi)]), [(Y, 0)]), 'x yi'),
+            ('under-choice', lambda p: p.binder('choice', p.let(p.z, [(X, p.y)]), [(Z, 0)]), 'y'),
+            ('under-lambda', lambda p: p.binder('lambda', p.let(p.op('Or', p.x, p.z), [(X, p.op('And', p.y, p.z))]), [(Z, 0)]), 'y'),
+            ('bound-in-the-value', lambda p: p.let(p.x, [(X, p.binder('forall', p.op('And', p.y, p.z), [(Y, 0)]))]), 'z'),
+            ('bound-by-an-outer-let', lambda p: p.let(p.let(p.x, [(X, p.y)]), [(Y, p.z)]), 'z'),
+            ('in-a-value', lambda p: p.let(p.y, [(Y, p.let(p.x, [(X, p.z)]))]), 'z'),
+            ('in-a-value-of-its-own-name', lambda p: p.let(p.x, [(X, p.let(p.x, [(X, p.op('Not', p.x))]))]), 'x'),
+            ('in-an-operand', lambda p: p.op('Or', p.let(p.x, [(X, p.y)]), p.binder('forall', p.y, [(Y, 0)])), 'y'),
+            ('in-both-operands', lambda p: p.op('And', p.let(p.x, [(X, p.y)]), p.let(p.y, [(Y, p.x)])), 'x y')):
+        p = Names()
+        yield accepted('free-let-value-' + name, p, term(p), [getattr(p, variable) for variable in free.split()])
+    p = Names()
+    f = p.var(4, p.sort('Function', 0, 0))
+    yield accepted('free-let-value-in-a-function', p, p.app(p.let(f, [(X, p.y)]), p.z), [f, p.y, p.z])
+    p = Names()
+    f = p.var(4, p.sort('Function', 0, 0))
+    yield accepted('free-let-value-in-an-argument', p, p.app(f, p.let(p.x, [(X, p.yi)])), [f, p.x, p.yi])
+    p = Names()
+    yield accepted('free-lets-2000-deep', p, deep_lets(p, p.op('And', p.x, p.y), 2000), [p.x, p.y])
+
+
+def deep_lets(pool, term, levels):
+    """Lets over a term of sort Bool, every second with the one before as its value and as its body: the free variables stay."""
+    for level in range(levels):
+        term = pool.let(term, [(X, term)] if level % 2 else [])
+    return term
 
 
 def others():
@@ -125,5 +165,5 @@ def lent_arrays():
 
 
 def cases():
-    for group in (binders, lets, others, chains, lent_arrays):
+    for group in (binders, lets, let_values, others, chains, lent_arrays):
         yield from group()

@@ -1,6 +1,6 @@
 """Call files on binding lists of more than 31 pairs, which are asked for in groups of 31. Rows and cases are as in cases_rules.py.
 
-Every variable of the list stands in the term that is asked, bound there; at most one is free there too.
+Every variable of the list stands in the term that is asked, bound there; at most one is free there too, or in a let's value.
 """
 from formulas import step
 
@@ -34,6 +34,9 @@ def rows(name, letter):
     yield 3, name, clause(letter, ''), 9, letter
     yield 5, name, split(BOUND, letter), 12, letter, '(or %s %s)' % (BOUND, letter)
     yield 6, name, ite(with_free), 12, letter, with_free
+    in_value = '(let ((%s p) (p %s)) %s)' % (letter, letter, BOUND)
+    yield 2, name + '-let-value', removal(in_value, ''), 9, letter
+    yield 6, name + '-let-value', ite(in_value), 12, letter, in_value
 
 
 def cases():

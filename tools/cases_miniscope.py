@@ -64,7 +64,7 @@ SPLITS = [
     ('equal-quantified-operand', '(= (forall (x) (or (forall (x) x) x)) (or (forall (x) x) (forall (x) x)))'),
     ('two-sorts', "(= (forall (x x') (or x (= x' 1))) (or (forall (x) x) (forall (x') (= x' 1))))"),
     ('other-sort-free', "(= (forall (x') (or x p)) (or x p))"),
-    ('let-value', '(= (forall (x) (or p (let ((y x)) p))) (or p (let ((y x)) p)))'),
+    ('let-value', '(= (forall (x) (or p (let ((y x)) p))) (or p (forall (x) (let ((y x)) p))))'),
     ('let-name', '(= (forall (x) (or p (let ((x p)) x))) (or p (let ((x p)) x)))'),
     ('choice-and-lambda', '(= (forall (x) (or {0} (f x) {1})) (or {0} (forall (x) (f x)) {1}))'.format(
         '(choice (x) x)', '(lambda (x) x)')),
@@ -106,6 +106,10 @@ SPLITS = [
      'x', '(or (forall (y) (and x y)))'),
     ('other-sort-bound', "(= (forall (x' x) (or x)) (or (forall (x') x)))", 12, 'x', "(or (forall (x') x))"),
     ('below-choice', '(= (forall (x) (or (choice (y) x) p)) (or (choice (y) x) p))', 12, 'x', '(or (choice (y) x) p)'),
+    ('let-value', '(= (forall (x) (or p (let ((y x)) p))) (or p (let ((y x)) p)))', 12, 'x', '(or p (let ((y x)) p))'),
+    ('let-value-of-its-own-name', '(= (exists (x) (and p (let ((x x)) x))) (and p (let ((x x)) x)))', 12, 'x', '(and p (let ((x x)) x))'),
+    ('let-value-elsewhere', '(= (forall (x) (or x {0})) (or (forall (x) x) {0}))'.format('(let ((y p) (y x)) y)'), 12, 'x',
+     '(or (forall (x) x) (let ((y p) (y x)) y))'),
 ]
 
 # ---- rule 6
@@ -118,7 +122,7 @@ ITES = [
     ('condition-of-another-sort', "(= (forall (x') (ite x p q)) (ite x (forall (x') p) (forall (x') q)))"),
     ('condition-quantified', '(= (forall (x) (ite {0} x p)) (ite {0} (forall (x) x) (forall (x) p)))'.format('(exists (x) x)')),
     ('branches-not-bool', '(= (forall (i) (ite p i 1)) (ite p (forall (i) i) (forall (i) 1)))'),
-    ('let-value', '(= (forall (x) (ite {0} x p)) (ite {0} (forall (x) x) (forall (x) p)))'.format('(let ((y x)) p)')),
+    ('let-name', '(= (forall (x) (ite {0} x p)) (ite {0} (forall (x) x) (forall (x) p)))'.format('(let ((x p)) x)')),
     ('exists', '(= (exists (x) (ite p x q)) (ite p (exists (x) x) (exists (x) q)))', 2, WHOLE),
     ('left-exists', '(= (exists (x) (ite p x q)) %s)' % ITE_OUT, 2, WHOLE),
     ('left-choice', '(= (choice (x) (ite p x q)) %s)' % ITE_OUT, 2, WHOLE), ('left-ite', '(= (ite p x q) %s)' % ITE_OUT, 2, WHOLE),
@@ -147,6 +151,8 @@ ITES = [
     ('other-sort', "(= %s (ite p (forall (x') x) (forall (x) q)))" % ITE, 6, ITE, "(forall (x') x)"),
     ('before-12', '(= (forall (x) (ite x x q)) (ite x (forall (x) x) (forall () q)))', 6, '(forall (x) (ite x x q))', '(forall () q)'),
     ('condition', '(= (forall (x) (ite x p q)) (ite x (forall (x) p) (forall (x) q)))', 12, 'x', 'x'),
+    *(('let-' + name, '(= (forall (x) (ite {0} x p)) (ite {0} (forall (x) x) (forall (x) p)))'.format(term), 12, 'x', term)
+      for name, term in (('value', '(let ((y x)) p)'), ('value-of-its-own-name', '(let ((x x)) x)'))),
     ('first-of-the-list', '(= (forall (z y x) (ite {0} p q)) (ite {0} (forall (z y x) p) (forall (z y x) q)))'.format('(and x y)'), 12,
      'y', '(and x y)'),
     ('second-sort', "(= (forall (x' x) (ite (not x) p q)) (ite (not x) (forall (x' x) p) (forall (x' x) q)))", 12, 'x', '(not x)'),

@@ -175,7 +175,8 @@ REMOVALS = [
     ('right-is-a-body-of-another-list', '(= (forall (x) (exists (y z) p)) (exists (y z) p))'),
     ('other-sort-removed', "(= (forall (x x') x) (forall (x) x))"), ('other-sort', "(= (forall (x') x) x)"),
     ('sorts-in-another-order', "(= (forall (x x') (= x' x)) (forall (x' x) (= x' x)))"),
-    ('let-value', '(= (forall (x) (let ((y x)) p)) (let ((y x)) p))'),
+    ('let-value', '(= (forall (x z) (let ((y x)) p)) (forall (x) (let ((y x)) p)))'),
+    ('let-value-bound-inside', '(= (forall (x) (exists (x) (let ((y x)) y))) (exists (x) (let ((y x)) y)))'),
     ('let-name', '(= (forall (x y) (let ((x p)) (and x y))) (forall (y) (let ((x p)) (and x y))))'),
     ('choice', '(= (forall (x y) (choice (x) (and x y))) (forall (y) (choice (x) (and x y))))'),
     ('lambda', '(= (exists (x y) (lambda (y) (f y))) (lambda (y) (f y)))'),
@@ -190,6 +191,11 @@ REMOVALS = [
     ('right-is-a-choice', '(= (forall (y) (choice (x) y)) (choice (x) y))', 3, '(choice (x) y)'),
     ('right-is-a-let', '(= (forall (x) (let ((y p)) x)) (let ((y p)) x))', 3, '(let ((y p)) x)'),
     ('let-of-another-sort', '(= (forall (x) (let ((x 1)) x)) (let ((x 1)) x))', 3, '(let ((x 1)) x)'),
+    *(('let-' + name, '(= (forall (x) {0}) {0})'.format(term), 3, term) for name, term in (
+        ('value', '(let ((y x)) p)'), ('second-value', '(let ((y p) (z x)) p)'), ('value-of-its-own-name', '(let ((x x)) x)'),
+        ('values-are-parallel', '(let ((x p) (y x)) y)'), ('repeats-a-name', '(let ((y x) (y p)) y)'),
+        ('in-a-value', '(let ((y (let ((z x)) z))) y)'), ('in-an-argument', '(f (let ((y x)) y))'),
+        ('under-choice', '(choice (y) (let ((z x)) y))'))),
     ('exists', '(= (forall (x) p) (exists (x) p))', 4, 23, 24), ('forall', '(= (exists (x) p) (forall () p))', 4, 24, 23),
     ('before-5', '(= (forall (x) p) (exists (x) q))', 4, 23, 24),
     ('right-is-the-body', '(= (forall (x) (exists (y) x)) (exists (y) x))', 4, 23, 24),
@@ -205,6 +211,8 @@ REMOVALS = [
     ('first-that-is-not-bound', '(= (forall (x y) (and x y)) (forall (x x) (and x y)))', 9, 'y'),
     ('other-sort', "(= (forall (x x') (= x' x)) (forall (x) (= x' x)))", 9, 'x'),
     ('below-choice', '(= (forall (x) (choice (y) (and x y))) (forall () (choice (y) (and x y))))', 9, 'x'),
+    ('let-value', '(= (forall (y x) (let ((y x)) y)) (forall () (let ((y x)) y)))', 9, 'x'),
+    ('let-value-of-another-sort', "(= (forall (x x') (let ((y x')) p)) (forall (x) (let ((y x')) p)))", 9, 'x'),
 ]
 
 

@@ -1,15 +1,17 @@
 """Step files and what the program `steps` prints on them, written down by hand from document 01.
 
 A case is (name, bytes, text). A row is a rule, a conclusion, the code (0 if it is left out) and the numbers that it carries, as in
-formulas.py; the rows of the other cases_*.py are tried here too, many in one pool.
+formulas.py; the rows of the other cases_*.py are tried here too, many in one pool, those with a let in a pool of their own: a file
+with a let is not asked of the Rust.
 """
 from cases_clauses import Parts
 from cases_clausification import ABSENT, CLAUSES, EMPTY, FORMS, VARIABLES, clausification
 from cases_examples import EXAMPLES
+from cases_free import X, deep_lets
 from cases_miniscope import DISTRIBUTIONS, ITES, SPLITS
 from cases_rules import JOINED, JOINS, REMOVALS, join, sides
 from formulas import BIG, Formulas, carried
-from packed_pool import packed, step_file, words
+from packed_pool import Pool, packed, step_file, words
 
 WHOLE_TAGS = [1, 21, 0, 0, 23, 0, 0, 0, 0, 23, 0, 0, 0, 0, 39, 0, 0, 0]
 WHOLE_VALUES = [0, 2, 0, 1, 4, 0, 1, 1, 0, 4, 0, 4, 1, 0, 3, 0, 9, 4]
@@ -125,19 +127,38 @@ def m_cases():
     yield of_steps('2048-and-2049-clauses', pool.tags, pool.values, answered)
 
 
+def with_lets_apart(name, rows):
+    for more, has in (('', False), ('-lets', True)):
+        chosen = [row for row in rows if ('(let ' in row[1]) is has]
+        if chosen:
+            yield of_rows(name + more, chosen)
+
+
 def rows_of_rules():
     yield of_rows('rule1-lists', [
         (1, join(outer, inner, right), *(() if right in accepted else (7, *sides(outer, inner, right))))
         for outer, inner, accepted, refused in JOINED for right in accepted + refused])
     for name, rule, rows in (('rule1', 1, JOINS), ('rule2', 2, REMOVALS), ('rule3-forms', 3, FORMS), ('rule4', 4, DISTRIBUTIONS),
                              ('rule5', 5, SPLITS), ('rule6', 6, ITES)):
-        yield of_rows(name, [(rule, *row[1:]) for row in rows])
-    yield of_rows('rule3-clauses', [
+        yield from with_lets_apart(name, [(rule, *row[1:]) for row in rows])
+    yield from with_lets_apart('rule3-clauses', [
         *((3, clausification('', body, '', clause)) for _, body, clause in CLAUSES),
         *((3, clausification('', body, '', clause), 10, clause) for _, body, clause in ABSENT),
         *((3, clausification('', body, '', 'p'), 13) for _, body in EMPTY)])
-    yield of_rows('rule3-variables', [(3, clausification(*row[1:5]), *row[5:]) for row in VARIABLES])
-    yield of_rows('examples', [(rule, text) for rule, _, text in EXAMPLES])
+    yield from with_lets_apart('rule3-variables', [(3, clausification(*row[1:5]), *row[5:]) for row in VARIABLES])
+    yield from with_lets_apart('examples', [(rule, text) for rule, _, text in EXAMPLES])
+
+
+def lets():
+    """Rule 2 on lets 2,000 deep over x: x is free in the whole, and another variable is not."""
+    pool = Pool()
+    x = pool.var(X)
+    t = deep_lets(pool, x, 2000)
+    answered = []
+    for name, code in ((X, 3), (X + 1, 0)):
+        conclusion = pool.op('Equals', pool.binder('forall', t, [(name, 0)]), t)
+        answered.append((2, conclusion, code, t if code else 0, 0))
+    yield of_steps('lets-2000-deep', pool.tags, pool.values, answered)
 
 
 # ---- a full pool
@@ -174,5 +195,5 @@ def full_pools():
 
 
 def cases():
-    for group in (lengths, too_many, without, bad_pools, rules_and_places, m_cases, rows_of_rules, full_pools):
+    for group in (lengths, too_many, without, bad_pools, rules_and_places, m_cases, rows_of_rules, lets, full_pools):
         yield from group()

@@ -1,18 +1,19 @@
 #!/usr/bin/env python3
-"""Compares `calls` with the Rust on random pools, term by term.
+"""Compares `calls` with the Rust and the reference on random pools, term by term.
 
     compare_oracle.py ORACLE CALLS [--seed SEED] [--pools COUNT]
 
 ORACLE and CALLS are as in comparison.py; of each term at P the dump has `sort P S` and `free P V ..`. For each pool every
-term's sort and free variables are asked of both; a damaged copy is asked whether, and where, it is refused, and the
-reference (reference.py), which tells 14, 15 and 16 apart, must say the same as `calls`. The test files of these calls are held
-against the Rust too, and one of them is given to `calls` on standard input.
+term's sort and free variables are asked of `calls` and of the reference (reference.py), and of the Rust unless the pool holds a
+let; a damaged copy is asked whether, and where, it is refused, and the reference, which tells 14, 15 and 16 apart, must say the
+same as `calls`. The test files of these calls are held against the Rust too, but for those with a let, and one of them is given
+to `calls` on standard input.
 """
 import subprocess
 
 import reference
 import reference_program
-from comparison import BATCH, DATA, Compared, arguments, cells_of, loader_stops, test_files
+from comparison import BATCH, DATA, Compared, arguments, cells_of, has_let, loader_stops, test_files
 from packed_pool import call_file, step_file
 from random_pools import RandomPool, damaged
 
@@ -47,26 +48,34 @@ class ComparedSorts(Compared):
         texts = self.replay(files)
         for i, (pool, t) in enumerate(asked):
             if i == 0 or pool is not asked[i - 1][0]:
-                sorts, free = self.dump(pool.tags, pool.values)
-                assert set(sorts) == set(pool.terms), 'the Rust refuses a pool of the generator'
-                self.readings(pool, free)
+                sorts, free = self.expected(pool)
             cells = [reference_program.line('tags', pool.tags), reference_program.line('values', pool.values)]
             marks = [1 if v in free[t] else 0 for v in range(len(pool.tags))]
-            self.same('sorts', texts[2 * i], ['0 %d 0 0' % sorts[t], *cells], pool, t)
-            self.same('free variables', texts[2 * i + 1], ['0 0 0 0', *cells, reference_program.line('marks', marks)], pool, t)
+            of = ' in pools with a let, by the reference' if has_let(pool.tags) else ''
+            self.same('sorts' + of, texts[2 * i], ['0 %d 0 0' % sorts[t], *cells], pool, t)
+            self.same('free variables' + of, texts[2 * i + 1], ['0 0 0 0', *cells, reference_program.line('marks', marks)], pool, t)
+
+    def expected(self, pool):
+        """The sorts and free variables by place: the Rust's, which the reference must have too, or the reference's."""
+        arrays = pool.tags, pool.values, len(pool.tags)
+        sorts, free = {t: pool.sort_of(t) for t in pool.terms}, reference.free_variables(*arrays)
+        if not has_let(pool.tags):
+            assert self.dump(pool.tags, pool.values) == (sorts, free), ('the Rust and the reference differ', arrays)
+        self.readings(pool, free)
+        return sorts, free
 
     def readings(self, pool, free):
-        """How many of the sets would be others in SMT-LIB's readings: enough that the comparison sees them."""
-        for reading in ('by_name', 'let_values'):
-            other = reference.free_variables(pool.tags, pool.values, len(pool.tags), **{reading: True})
-            self.count['free variables that would be others if ' + reading] += sum(other[t] != free[t] for t in pool.terms)
+        """How many of the sets would be others in other readings: enough that the comparison sees them."""
+        for reading, given in (('by name alone', {'by_name': True}), ('without let values', {'let_values': False})):
+            other = reference.free_variables(pool.tags, pool.values, len(pool.tags), **given)
+            self.count['free variables that would be others ' + reading] += sum(other[t] != free[t] for t in pool.terms)
 
     def refusals(self, pools):
         texts = self.replay([call_file(1, tags, values, place=t) for tags, values, t in pools])
         for text, (tags, values, t) in zip(texts, pools):
             expected = '%d %d %d 0' % reference.sort_call(tags, values, len(tags), t)
             trouble = reference.first_trouble(tags, values, len(tags))
-            assert self.stops(tags, values) == trouble, ('the Rust and the reference differ', tags, values)
+            assert has_let(tags) or self.stops(tags, values) == trouble, ('the Rust and the reference differ', tags, values)
             self.same('damaged pools, answer ' + expected.split()[0], text[:1], [expected], (tags, values), t)
 
     def test_files(self):
@@ -76,6 +85,8 @@ class ComparedSorts(Compared):
             if text[0].startswith(('17', '30')):
                 continue
             tags, values = cells_of(file, n)
+            if has_let(tags):
+                continue
             if not text[0].startswith('0'):
                 assert self.stops(tags, values) == reference.first_trouble(tags, values, n) is not None, name
             elif text[-1].startswith('marks'):
@@ -97,7 +108,7 @@ def main():
     compared.standard_input()
     compared.test_files()
     for start in range(0, options.pools, BATCH):
-        pools = [RandomPool(rng, rng.choice((5, 10, 20, 40))) for _ in range(min(BATCH, options.pools - start))]
+        pools = [RandomPool(rng, rng.choice((5, 10, 20, 40)), lets=rng.random() < 0.4) for _ in range(min(BATCH, options.pools - start))]
         compared.pools(pools)
         compared.refusals([(*damaged(rng, pool), rng.choice(pool.terms)) for pool in pools])
     tags = {tag for tag in compared.tags if tag}

@@ -17,6 +17,7 @@ from reference_program import BUILT, call_of, run
 
 DATA = pathlib.Path(__file__).resolve().parent.parent / 'crates' / 'calls' / 'data'
 BATCH = 20  # pools to a run of `calls`
+LET = 27
 
 
 def arguments(with_calls):
@@ -41,6 +42,12 @@ def cells_of(file, n):
     """The first n tags and values of a call file."""
     t, = struct.unpack('<I', file[4:8])
     return [list(struct.unpack('<%dI' % n, file[start:start + 4 * n])) for start in (32, 32 + 4 * t)]
+
+
+def has_let(tags):
+    """Whether a pool holds a let. Document 02, S-3: equality with the Rust leaves such files out, for there a let's values do
+    not count. Any other cell of a well-formed pool has the tag 0."""
+    return LET in tags
 
 
 def loader_stops(lines):

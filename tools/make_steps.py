@@ -6,8 +6,8 @@
 ORACLE is the Rust behind a loader of packed pools (comparison.py). Only the making needs it. Files with answers written by hand
 come first (cases_steps.py), then random ones from the seed. The answer to a random step is the Rust's, which the reference must
 give too; where the two part in a way that is written up it is the reference's, and data/DIFFERENCES.txt names the step with both
-answers. data/COUNTS.txt says how many steps end at each check of the rules (sites.py). Made again from the same seed, the files
-are the same byte for byte.
+answers. On files with a let the Rust is not asked: the answers are the reference's. data/COUNTS.txt says how many steps end at each
+check of the rules (sites.py). Made again from the same seed, the files are the same byte for byte.
 """
 import argparse
 import collections
@@ -21,7 +21,7 @@ import cases_steps
 import reference
 from balanced_steps import BalancedSteps
 from compare_steps import LARGEST, NO_RULES, features, is_written
-from comparison import loader_stops
+from comparison import has_let, loader_stops
 from limit_steps import LimitSteps, RoomSteps, nearly_full
 from packed_pool import step_file
 from random_pools import damaged
@@ -36,6 +36,7 @@ ACCEPTED, REFUSED = 60, 30  # steps of the mixed files that are kept for each ch
 LEAST = 20  # of each check, whatever the number of files
 ELSEWHERE = ('rule 3: 31', 'rule 3: 32', 'any rule: 17', 'any rule: 18')  # not asked of the mixed files
 MIXED, LIMITS, DAMAGED = 100, 24, 16  # files, of the first at least so many
+LETS, OF_A_SITE = 24, 12  # files with lets, at most, and steps of them that are kept for each check
 ROOM = (-1, 0, 1, 1, 2, 9)  # cells past 8,192
 NEARLY_FULL = (0, 5, 12)  # cells left
 JOIN = 'a pair repeats at a distance in the joined list'
@@ -51,7 +52,7 @@ class Files:
         self.oracle = os.path.abspath(oracle)
         self.files, self.texts = {}, {}
         self.by_hand, self.random, self.features = (collections.Counter() for _ in range(3))
-        self.apart, self.unasked = [], 0  # rows of DIFFERENCES.txt; steps of rule 7
+        self.apart, self.unasked, self.with_let = [], 0, 0  # rows of DIFFERENCES.txt; steps of rule 7, and in files with a let
 
     def add(self, name, file, text):
         assert name + '.steps' not in self.files, name
@@ -66,9 +67,12 @@ class Files:
         """A pool that passes its checks, with its steps. The Rust program has a rule 7, so that it is not asked for 18 there."""
         file = step_file(tags, values, steps)
         pool, lines = Checked(tags, values, len(tags)), []
-        for k, (step, answer, line) in enumerate(zip(steps, answers(tags, values, steps), self.rust(file), strict=True), 1):
+        rust = [None] * len(steps) if has_let(tags) else self.rust(file)
+        for k, (step, answer, line) in enumerate(zip(steps, answers(tags, values, steps), rust, strict=True), 1):
             lines.append('%d %d %d %d' % (k, *answer))
-            if step[0] == 7:
+            if line is None:
+                self.with_let += 1
+            elif step[0] == 7:
                 self.unasked += 1
             elif line != lines[-1]:
                 self.part(name, k, pool, step, answer, line.split()[1:])
@@ -85,7 +89,7 @@ class Files:
         self.apart.append((name + '.steps', k, step[0], ' '.join(map(str, answer)), words, why))
 
     def add_case(self, name, file, text):
-        """A file with its output written by hand. Where it has a pool that passes, the Rust is asked too."""
+        """A file with its output written by hand. Where it has a pool that passes and no let, the Rust is asked too."""
         assert run(file) == text, name
         try:
             tags, values, steps = read(file)
@@ -102,7 +106,7 @@ class Files:
         if trouble is None:
             return self.add_pool(name, tags, values, steps, self.random)
         file = step_file(tags, values, steps)
-        assert loader_stops(self.rust(file)) == trouble, (name, trouble)
+        assert has_let(tags) or loader_stops(self.rust(file)) == trouble, (name, trouble)
         self.add(name, file, run(file))
         self.features['an ill-formed pool, answer %s' % self.texts[name + '.steps'].split()[1]] += len(steps)
 
@@ -121,15 +125,16 @@ class Files:
 
     def differences(self):
         yield 'Steps of these files on which the Rust and document 01 part. ../stdout has document 01\'s answer. Headers with'
-        yield 'trouble are the loader\'s in the Rust: files on pools that are refused with 14, 15 or 16 are not listed.'
+        yield 'trouble are the loader\'s in the Rust: files on pools that are refused with 14, 15 or 16 are not listed. Nor are files'
+        yield 'whose pool holds a let (tag 27), of which the Rust is not asked: document 02 (S-3) has a let\'s values count, the Rust has not.'
         yield ''
         for row in (('file', 'step', 'rule', 'document 01', 'the Rust', 'why'), *self.apart):
             yield '%-28s %5s %5s  %-12s %-18s %s' % row
 
     def counts(self):
         total = sum((self.by_hand + self.random).values())
-        yield '%d steps on pools that pass their checks: %d have the Rust\'s answer, %d are in DIFFERENCES.txt, %d have rule code 7.' \
-            % (total, total - len(self.apart) - self.unasked, len(self.apart), self.unasked)
+        yield '%d steps on pools that pass their checks: %d have the Rust\'s answer, %d are in DIFFERENCES.txt, %d have rule code 7, %d stand in files with a let.' \
+            % (total, total - len(self.apart) - self.unasked - self.with_let, len(self.apart), self.unasked, self.with_let)
         yield 'By the check of the rule at which they end, the code first; with answers written by hand, and random:'
         yield from ('%6d %6d  %s' % (self.by_hand[label], self.random[label], label) for label in SITES)
         yield 'With:'
@@ -160,6 +165,21 @@ def mixed(rng):
             yield 'mixed-%03d' % k, pool.tags, pool.values, with_bad_ones(rng, pool)
 
 
+def with_lets(rng):
+    """Files each of which has a let in its pool."""
+    count, k = collections.Counter(), 0
+
+    def wanted(label):
+        count[label] += 1
+        return count[label] <= OF_A_SITE
+
+    for _ in range(LETS):
+        pool = BalancedSteps(rng, rng.choice((4, 6, 10)), rng.choice((240, 480)), wanted, lets=True)
+        if pool.steps and has_let(pool.tags):
+            k += 1
+            yield 'lets-%02d' % k, pool.tags, pool.values, with_bad_ones(rng, pool)
+
+
 def limits(rng):
     for k in range(1, LIMITS + 1):
         pool = LimitSteps(rng, rng.randint(4, 9))
@@ -179,7 +199,7 @@ def main():
     rng, files = random.Random(options.seed), Files(options.oracle)
     for case in cases_steps.cases():
         files.add_case(*case)
-    for pool in itertools.chain(limits(rng), mixed(rng)):
+    for pool in itertools.chain(limits(rng), mixed(rng), with_lets(rng)):
         files.add_pool(*pool, files.random)
     for k in range(1, DAMAGED + 1):
         pool = RandomSteps(rng, rng.choice((3, 6, 10)), 6)

@@ -1,6 +1,6 @@
 """Random pools: every kind of sort and term, odd counts of operands, shared terms, binders with repeats, one
-name under several sorts, lets. Pools that are mostly of connectives and quantifiers, and such whose clause list is about
-as long as it may be. And damaged copies of them."""
+name under several sorts, lets if they are wanted. Pools that are mostly of connectives and quantifiers, and such whose
+clause list is about as long as it may be. And damaged copies of them."""
 from packed_pool import BINDER_TAG, CONSTANT_TAG, NoAnswer, OPERATOR_TAG, Pool, SORT_TAG
 from reference import BIT_VECTORS, OPERATORS
 
@@ -12,9 +12,9 @@ LIKED = {**{name: (6, 7) for name in BIT_VECTORS}, 'BvConcat': (6, 7), 'Select':
 
 
 class RandomPool(Pool):
-    def __init__(self, rng, size):
+    def __init__(self, rng, size, lets=False):
         super().__init__()
-        self.rng, self.sorts, self.terms = rng, [0], []
+        self.rng, self.lets, self.sorts, self.terms = rng, lets, [0], []
         for _ in range(size):
             self.grow(self.random_sort, rng.choice((0, 0, 0, 1)) or not self.terms)
             self.grow(self.random_variable, rng.random() < 0.3 or not self.terms)
@@ -83,7 +83,7 @@ class RandomPool(Pool):
         elif kind < 0.42:
             name = self.rng.choice(list(BINDER_TAG))
             self.binder(name, self.rng.choice(self.terms), self.pairs(self.pair, 1 if name == 'choice' else 0))
-        elif kind < 0.52:
+        elif kind < 0.52 and self.lets:
             self.let(self.rng.choice(self.terms), self.pairs(self.let_pair, 0))
         else:
             self.random_operator(self.rng.choice(OPERATORS))
@@ -99,7 +99,8 @@ class RandomPool(Pool):
 
 
 class RandomFormulas(RandomPool):
-    """Three terms of four are connectives or quantifiers, mostly with the count of operands that takes them apart."""
+    """Three terms of four are connectives or quantifiers, mostly with the count of operands that takes them apart; where lets are
+    wanted, one of five is a let."""
     COUNTS = {'Not': (1,), 'Implies': (2,), 'Equals': (2,), 'Ite': (3,), 'And': (0, 1, 2, 2, 2, 3, 4), 'Or': (0, 1, 2, 2, 2, 3, 4)}
 
     def formula(self):
@@ -109,6 +110,8 @@ class RandomFormulas(RandomPool):
         return self.rng.choice(places[-5:] if self.rng.random() < 0.5 else places)
 
     def random_term(self):
+        if self.lets and self.rng.random() < 0.2:
+            return self.let(self.formula(), self.pairs(self.let_pair, 0))
         if self.rng.random() < 0.25:
             return super().random_term()
         name = self.rng.choice(list(self.COUNTS) + ['forall', 'exists'])

@@ -1,4 +1,4 @@
-"""The calls `sort` and `free variables` and the checks before them, straight from document 01.
+"""The calls `sort` and `free variables` and the checks before them, straight from document 01 and, for let, S-3 of document 02.
 
 An independent reading, for the expected outputs: nothing here is taken from the Rattle code.
 
@@ -298,9 +298,9 @@ def sort_call(tags, values, n, t):
     return answer if answer[0] else (0, values[t + 1], 0)
 
 
-def free_variables(tags, values, n, by_name=False, let_values=False):
-    """For each term's place the places of its free variables. SMT-LIB's readings, which the Rust's is not: a bound
-    name binds variables of that name whatever their sort (`by_name`); a let's values count (`let_values`)."""
+def free_variables(tags, values, n, by_name=False, let_values=True):
+    """For each term's place the places of its free variables. Other readings: a bound name binds variables of that name
+    whatever their sort, as in SMT-LIB (`by_name`); a let's values do not count, as in the Rust (`let_values` False)."""
     free = {}
     variables = {p: cells for p, tag, cells in headers(tags, values, n) if tag == 21}  # sort, name
     for p, tag, cells in headers(tags, values, n):

@@ -1,7 +1,7 @@
 -- Laws of the code, one for each way through it.
 -- Assumes nothing.
 use Prim.Native.Nat.{ℕ, _+_, _-_, _*_, _/_, _%_, _≤_, _<_}
-use mathlib.Core.Path.{_≡_, refl, sym, _∙_}
+use mathlib.Core.Path.{_≡_, refl, sym, ap, ap₂, _∙_}
 use mathlib.Core.Bool.{Bool, true, false, cond, _||_}
 use mathlib.Core.List.{List, [], _∷_}
 use lib.ListN.{length, getD, take, drop, set, replicate, length-take, length-drop}
@@ -17,12 +17,12 @@ use Rattle.cells.specs.declared.TermPlace.{TermPlace}
 use Rattle.cells.specs.declared.Found.{Found}
 use Rattle.cells.specs.declared.Found.the-variants as found
 use Rattle.descriptions.specs.Description.{find}
-use Rattle.free_vars.specs.Free.{pairIn, anyOf, isFree}
+use Rattle.free_vars.specs.Free.{pairIn, anyOf, letValues, isFree}
 use Rattle.free_vars.specs.FreeMemo.{pairSort, pairsBind, freeBelow}
 use Rattle.marks.proofs.Laws.{zeros}
-use Rattle.free_vars.proofs.Laws.{any-none, any-first, look-self, look-low}
+use Rattle.free_vars.proofs.Laws.{any-none, any-first, no-value, first-value, look-self, look-low}
 use Rattle.term_names.specs.Names.{freeIn}
-use Rattle.term_names.specs.NamesWalk.{freeAmong, freeUnder, Exactly, Means}
+use Rattle.term_names.specs.NamesWalk.{freeAmong, freeUnder, freeInLet, Exactly, Means}
 use Rattle.term_names.specs.declared.Below.{Below}
 use Rattle.term_names.specs.declared.Below.the-variants as below
 use Rattle.quantifiers.specs.Binding.{Binding, bindingsOf, same, freeAt, bindingFree}
@@ -192,24 +192,42 @@ module _ (tags values : List ℕ) (n t : ℕ) where
   no-found (found.At v) = refl
   no-found found.Nothing = refl
 
+  under-found : (u : ℕ) (a : Binding) (f : Found) → find tags values n 21 (a .sort ∷ (a .name ∷ [])) ≡ f
+      → atFound (freeUnder tags values t u) f ≡ cond (boundIn values (eqb (getD tags t 0) 27) (operandsOf tags values t) a) false (freeAt tags values u f)
+  unfolding freeUnder freeIn boundIn pairsBind
+  under-found u a found.Nothing q =
+      by-test (boundIn values (eqb (getD tags t 0) 27) (operandsOf tags values t) a) (λ o. rw o) (λ o. rw o)
+  under-found u a (found.At v) q = let w = stands tags values n (a .name) (a .sort) v q in rw (w .name-is, w .sort-is)
+
+  among-found : (run : List ℕ) (f : Found) → atFound (freeAmong tags values t run) f ≡ anyOf (λ u. cond (ltb u t) (freeAt tags values u f) false) run
+  unfolding freeAmong freeBelow
+  among-found run found.Nothing = sym (any-false-of _ run (λ u. by-test (ltb u t) (λ o. rw o) (λ o. rw o)))
+  among-found run (found.At v) = refl
+
+  let-found : (u : ℕ) (f : Found)
+      → atFound (freeInLet tags values t u) f ≡ atFound (freeAmong tags values t (letValues (operandsOf tags values t))) f || atFound (freeUnder tags values t u) f
+  unfolding freeInLet
+  let-found u found.Nothing = refl
+  let-found u (found.At v) = refl
+
   under-is : (u : ℕ) → Exactly tags values t (freeUnder tags values t u) → (a : Binding)
       → bindingFree tags values n t a ≡ cond (boundIn values (eqb (getD tags t 0) 27) (operandsOf tags values t) a) false (bindingFree tags values n u a)
-  unfolding bindingFree freeUnder freeIn boundIn pairsBind
-  under-is u w a = binding-is _ w a ∙ by (find tags values n 21 (a .sort ∷ (a .name ∷ []))) refl
-    where
-      by : (f : Found) → find tags values n 21 (a .sort ∷ (a .name ∷ [])) ≡ f
-          → atFound (freeUnder tags values t u) f ≡ cond (boundIn values (eqb (getD tags t 0) 27) (operandsOf tags values t) a) false (freeAt tags values u f)
-      by found.Nothing q =
-          by-test (boundIn values (eqb (getD tags t 0) 27) (operandsOf tags values t) a) (λ o. rw o) (λ o. rw o)
-      by (found.At v) q = let w = stands tags values n (a .name) (a .sort) v q in rw (w .name-is, w .sort-is)
+  unfolding bindingFree
+  under-is u w a = binding-is _ w a ∙ under-found u a (find tags values n 21 (a .sort ∷ (a .name ∷ []))) refl
 
   among-is : (run : List ℕ) → Exactly tags values t (freeAmong tags values t run) → (a : Binding) → bindingFree tags values n t a ≡ anyOf (bindingBelow tags values n a t) run
-  unfolding bindingFree freeAmong bindingBelow freeBelow
-  among-is run w a = binding-is _ w a ∙ by (find tags values n 21 (a .sort ∷ (a .name ∷ [])))
-    where
-      by : (f : Found) → atFound (freeAmong tags values t run) f ≡ anyOf (λ u. cond (ltb u t) (freeAt tags values u f) false) run
-      by found.Nothing = sym (any-false-of _ run (λ u. by-test (ltb u t) (λ o. rw o) (λ o. rw o)))
-      by (found.At v) = refl
+  unfolding bindingFree bindingBelow
+  among-is run w a = binding-is _ w a ∙ among-found run (find tags values n 21 (a .sort ∷ (a .name ∷ [])))
+
+  -- a let: in a value, or in the body and not bound
+  let-is : (u : ℕ) → Exactly tags values t (freeInLet tags values t u) → (a : Binding)
+      → bindingFree tags values n t a
+      ≡ anyOf (bindingBelow tags values n a t) (letValues (operandsOf tags values t))
+      || cond (boundIn values (eqb (getD tags t 0) 27) (operandsOf tags values t) a) false (bindingFree tags values n u a)
+  unfolding bindingFree bindingBelow
+  let-is u w a =
+      let f = find tags values n 21 (a .sort ∷ (a .name ∷ [])) in
+      binding-is _ w a ∙ (let-found u f ∙ ap₂ _||_ (among-found (letValues (operandsOf tags values t)) f) (under-found u a f refl))
 
 -- a mask noted for t keeps the memo right
 module _ (tags values : List ℕ) (n t : ℕ) (list : List ℕ) (memo : List ℕ) (right : Right tags values n list memo) (mask : ℕ) (is : mask ≡ maskOf (bindingFree tags values n t) (bindingsOf list)) where
@@ -235,6 +253,9 @@ module _ (tags values : List ℕ) (t : ℕ) (s : Below) (m : Means tags values t
 
   pub body-below : (u : TermPlace) → s ≡ below.Body u → u .0 < t
   body-below u e = (rw e at m) .0
+
+  pub let-below : (u : TermPlace) → s ≡ below.Let u → u .0 < t
+  let-below u e = (rw e at m) .0
 
 module _ (tags values : List ℕ) (n t : ℕ) (list : List ℕ) where
   pub walk-known : (memo : List ℕ) → Right tags values n list memo → (known : ℕ) → known ≡ getD memo t 0 → (known ≡ 0 → ⊥)
@@ -271,41 +292,90 @@ module _ (tags values : List ℕ) (n t : ℕ) (list : List ℕ) where
         noted tags values n t list memo (w .right) mask
         (w .is ∙ rw o (sym (mask-same _ _ (bindingsOf list) (among-is tags values n t (operandsOf tags values t) (rw e at m)))))
 
--- ---- the walk along a run
+    pub walk-values : s ≡ below.Values → (run : List ℕ) → run ≡ operandsOf tags values t
+        → (memo : List ℕ) (mask : ℕ) → Walked tags values n list memo mask (maskAmong tags values n list t (letValues run))
+        → (after : List ℕ) (r : ℕ) → Noted memo t mask after r → Walked tags values n list after r (maskOf (bindingFree tags values n t) (bindingsOf list))
+    unfolding maskAmong
+    walk-values e run o memo mask w =
+        noted tags values n t list memo (w .right) mask
+        (w .is ∙ rw o (sym (mask-same _ _ (bindingsOf list) (among-is tags values n t (letValues (operandsOf tags values t)) (rw e at m)))))
+
+    module _ (u : TermPlace) (e : s ≡ below.Let u) where
+      pub walk-let : (run : List ℕ) → run ≡ operandsOf tags values t
+          → (memo : List ℕ) (among : ℕ) → Walked tags values n list memo among (maskAmong tags values n list t (letValues run))
+          → (memo′ : List ℕ) (inside : ℕ) → Walked tags values n list memo′ inside (maskOf (bindingFree tags values n (u .0)) (bindingsOf list))
+          → (tag : ℕ) → tag ≡ getD tags t 0 → (rest : ℕ) → rest ≡ without (boundIn values (eqb tag 27) run) (bindingsOf list) inside
+          → (after : List ℕ) (r : ℕ) → Noted memo′ t (bitOr among rest) after r → Walked tags values n list after r (maskOf (bindingFree tags values n t) (bindingsOf list))
+      unfolding maskAmong
+      walk-let run o memo among w memo′ inside w′ tag k rest is =
+          let A : Binding → Bool = λ a. anyOf (bindingBelow tags values n a t) (letValues (operandsOf tags values t)) in
+          let B : Binding → Bool = λ a. cond (boundIn values (eqb (getD tags t 0) 27) (operandsOf tags values t) a) false (bindingFree tags values n (u .0) a) in
+          let p : among ≡ maskOf A (bindingsOf list) = w .is ∙ rw o in
+          let q : rest ≡ maskOf B (bindingsOf list) = is ∙ rw (w′ .is, o, k) (mask-without _ _ (bindingsOf list)) in
+          noted tags values n t list memo′ (w′ .right) (bitOr among rest)
+          (rw (p, q) (mask-or A B (bindingsOf list)) ∙ sym (mask-same _ _ (bindingsOf list) (let-is tags values n t (u .0) ((rw e at m) .1))))
+
+-- ---- the walk along the places l, of which the first is u
+module _ (tags values : List ℕ) (n t u : ℕ) (list l left : List ℕ)
+    (first : (a : Binding) → anyOf (bindingBelow tags values n a t) l ≡ bindingBelow tags values n a t u || anyOf (bindingBelow tags values n a t) left) where
+  skip : t ≤ u → (memo : List ℕ) (r : ℕ) → Walked tags values n list memo r (maskAmong tags values n list t left)
+      → Walked tags values n list memo r (maskAmong tags values n list t l)
+  unfolding maskAmong bindingBelow
+  skip h memo r w = record {
+    is = w .is ∙ sym (mask-same _ _ (bindingsOf list) (λ a. first a ∙ rw (le-ltb u t h)));
+    right = w .right;
+  }
+
+  go-on : u < t → (memo : List ℕ) (mask : ℕ) → Walked tags values n list memo mask (maskOf (bindingFree tags values n u) (bindingsOf list))
+      → (memo′ : List ℕ) (rest : ℕ) → Walked tags values n list memo′ rest (maskAmong tags values n list t left)
+      → Walked tags values n list memo′ (bitOr mask rest) (maskAmong tags values n list t l)
+  unfolding maskAmong bindingBelow
+  go-on h memo mask w memo′ rest w′ =
+      let among : Binding → Bool = λ a. anyOf (bindingBelow tags values n a t) left in
+      let both : bitOr mask rest ≡ maskOf (λ a. bindingFree tags values n u a || among a) (bindingsOf list) =
+      rw (w .is, w′ .is) (mask-or (bindingFree tags values n u) among (bindingsOf list)) in
+      record {
+        is = both ∙ sym (mask-same _ _ (bindingsOf list) (λ a. first a ∙ rw (lt-ltb u t h)));
+        right = w′ .right;
+      }
+
+-- ---- along a run
 module _ (tags values : List ℕ) (n t : ℕ) (list run : List ℕ) where
   pub run-end : (memo : List ℕ) → Right tags values n list memo → length run ≡ 0 → Walked tags values n list memo 0 (maskAmong tags values n list t run)
   unfolding maskAmong
   run-end memo right e = record { is = sym (mask-none _ _ (λ a. sym (any-none _ run e))); right = right }
 
   module _ (some : length run ≡ 0 → ⊥) where
-    first-below : (a : Binding) → anyOf (bindingBelow tags values n a t) run
-        ≡ bindingBelow tags values n a t (getD run 0 0) || anyOf (bindingBelow tags values n a t) (take (length run - 1) (drop 1 run))
-    first-below a = any-first (bindingBelow tags values n a t) run some
-
     pub run-skip : t ≤ getD run 0 0 → (memo : List ℕ) (r : ℕ)
         → Walked tags values n list memo r (maskAmong tags values n list t (take (length run - 1) (drop 1 run)))
         → Walked tags values n list memo r (maskAmong tags values n list t run)
-    unfolding maskAmong bindingBelow
-    run-skip h memo r w = record {
-      is = w .is ∙ sym (mask-same _ _ (bindingsOf list) (λ a. first-below a ∙ rw (le-ltb (getD run 0 0) t h)));
-      right = w .right;
-    }
+    run-skip = skip tags values n t (getD run 0 0) list run _ (λ a. any-first _ run some)
 
     pub run-on : getD run 0 0 < t
-        → (memo : List ℕ) (first : ℕ) → Walked tags values n list memo first (maskOf (bindingFree tags values n (getD run 0 0)) (bindingsOf list))
+        → (memo : List ℕ) (mask : ℕ) → Walked tags values n list memo mask (maskOf (bindingFree tags values n (getD run 0 0)) (bindingsOf list))
         → (memo′ : List ℕ) (rest : ℕ) → Walked tags values n list memo′ rest (maskAmong tags values n list t (take (length run - 1) (drop 1 run)))
-        → Walked tags values n list memo′ (bitOr first rest) (maskAmong tags values n list t run)
-    unfolding maskAmong bindingBelow
-    run-on h memo first w memo′ rest w′ =
-        let among : Binding → Bool = λ a. anyOf (bindingBelow tags values n a t) (take (length run - 1) (drop 1 run)) in
-        let both : bitOr first rest ≡ maskOf (λ a. bindingFree tags values n (getD run 0 0) a || among a) (bindingsOf list) =
-        rw (w .is, w′ .is) (mask-or (bindingFree tags values n (getD run 0 0)) among (bindingsOf list)) in
-        record {
-          is = both ∙ sym (mask-same _ _ (bindingsOf list) (λ a. first-below a ∙ rw (lt-ltb (getD run 0 0) t h)));
-          right = w′ .right;
-        }
+        → Walked tags values n list memo′ (bitOr mask rest) (maskAmong tags values n list t run)
+    run-on = go-on tags values n t (getD run 0 0) list run _ (λ a. any-first _ run some)
 
-pub ruleset walks = (walk-known, walk-nothing, walk-variable, walk-body, walk-run, run-end, run-skip, run-on)
+-- ---- along a let's values
+module _ (tags values : List ℕ) (n t : ℕ) (list run : List ℕ) where
+  pub values-end : (memo : List ℕ) → Right tags values n list memo → length run < 3 → Walked tags values n list memo 0 (maskAmong tags values n list t (letValues run))
+  unfolding maskAmong
+  values-end memo right e = record { is = sym (mask-none _ _ (λ a. sym (no-value _ run e))); right = right }
+
+  module _ (some : 3 ≤ length run) where
+    pub values-skip : t ≤ getD run 2 0 → (memo : List ℕ) (r : ℕ)
+        → Walked tags values n list memo r (maskAmong tags values n list t (letValues (take (length run - 2) (drop 2 run))))
+        → Walked tags values n list memo r (maskAmong tags values n list t (letValues run))
+    values-skip = skip tags values n t (getD run 2 0) list (letValues run) _ (λ a. first-value _ run some)
+
+    pub values-on : getD run 2 0 < t
+        → (memo : List ℕ) (mask : ℕ) → Walked tags values n list memo mask (maskOf (bindingFree tags values n (getD run 2 0)) (bindingsOf list))
+        → (memo′ : List ℕ) (rest : ℕ) → Walked tags values n list memo′ rest (maskAmong tags values n list t (letValues (take (length run - 2) (drop 2 run))))
+        → Walked tags values n list memo′ (bitOr mask rest) (maskAmong tags values n list t (letValues run))
+    values-on = go-on tags values n t (getD run 2 0) list (letValues run) _ (λ a. first-value _ run some)
+
+pub ruleset walks = (walk-known, walk-nothing, walk-variable, walk-body, walk-run, walk-values, walk-let, run-end, run-skip, run-on, values-end, values-skip, values-on)
 
 -- ---- a mask has room for one more
 module _ (list : List ℕ) (h : length list ≤ 62) where
@@ -316,6 +386,17 @@ module _ (list : List ℕ) (h : length list ≤ 62) where
     pub among-room : (t : ℕ) (run : List ℕ) → Walked tags values n list memo mask (maskAmong tags values n list t run) → mask < 2147483648
     unfolding maskAmong
     among-room t run w = known-room _ mask (w .is)
+
+    -- a let's values and its body
+    pub let-room : (t : ℕ) (run : List ℕ) → Walked tags values n list memo mask (maskAmong tags values n list t run)
+        → (test bound : Binding → Bool) (inside : ℕ) → inside ≡ maskOf test (bindingsOf list) → (rest : ℕ) → rest ≡ without bound (bindingsOf list) inside
+        → bitOr mask rest < 2147483648
+    unfolding maskAmong
+    let-room t run w test bound inside i rest is =
+        let A : Binding → Bool = λ a. anyOf (bindingBelow tags values n a t) run in
+        let B : Binding → Bool = λ a. cond (bound a) false (test a) in
+        let q : rest ≡ maskOf B (bindingsOf list) = is ∙ rw i (mask-without _ _ (bindingsOf list)) in
+        known-room (λ a. A a || B a) (bitOr mask rest) (rw (w .is, q) (mask-or A B (bindingsOf list)))
 
     pub unbound-fits : (test : Binding → Bool) → Walked tags values n list memo mask (maskOf test (bindingsOf list))
         → (bound : Binding → Bool) (rest : ℕ) → rest ≡ without bound (bindingsOf list) mask → rest < 2147483648

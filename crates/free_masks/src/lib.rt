@@ -17,6 +17,7 @@ ghost use Prim.Native.Nat.{suc, _≤_, _<_};
 ghost use lib.ListN.{length, getD, take, drop, set};
 ghost use Rattle.quantifiers.specs.Binding.{bindingsOf, same, bindingFree};
 ghost use Rattle.quantifiers.specs.BindingAnswer.{pair};
+ghost use Rattle.free_vars.specs.Free.{letValues};
 ghost use Rattle.free_masks.specs.Mask.{maskOf, without, boundIn};
 ghost use Rattle.free_masks.specs.MaskWalk.{maskAmong, Right, Walked, Noted};
 
@@ -121,6 +122,19 @@ fn mask_of_term(
             let among = mask_of_run(tags, values, n, list, memo, t, run);
             note_mask(memo, t, among)
         }
+        Below::Values => {
+            let run = operands(tags, values, t);
+            let among = mask_of_values(tags, values, n, list, memo, t, run);
+            note_mask(memo, t, among)
+        }
+        Below::Let(u) => {
+            let run = operands(tags, values, t);
+            let among = mask_of_values(tags, values, n, list, memo, t, run);
+            let inside = mask_of_term(tags, values, n, list, memo, u);
+            let lets = cell(tags, at) == 27;
+            let rest = unbound_pairs(values, lets, run, list, inside);
+            note_mask(memo, t, among | rest)
+        }
     }
 }
 
@@ -148,6 +162,33 @@ fn mask_of_run(
     let first = mask_of_term(tags, values, n, list, memo, TermPlace(u));
     let rest = mask_of_run(tags, values, n, list, memo, t, &run[1..]);
     first | rest
+}
+
+// The pairs of the list that are free in a let's value that stands before t: the values walker. The run's first cell is the body,
+// or a value that the walk has passed.
+fn mask_of_values(
+    tags: &[u32],
+    values: &[u32],
+    n: usize,
+    list: &[u32],
+    memo: &mut [u32],
+    t: TermPlace,
+    run: &[u32],
+) -> u32
+    requires { ⌜ length (now list) ≤ 62 ⌝ }
+    requires { ⌜ Right (now tags) (now values) n (now list) (now memo) ⌝ }
+    ensures { λ r. ⌜ Walked (now (tags .entry)) (now (values .entry)) n (now (list .entry)) (now (memo .exit)) r (maskAmong (now (tags .entry)) (now (values .entry)) n (now (list .entry)) (t .0) (letValues (now (run .entry)))) ⌝ }
+{
+    if run.len() < 3 {
+        return 0;
+    }
+    let u = run[2];
+    if t.0 <= u {
+        return mask_of_values(tags, values, n, list, memo, t, &run[2..]);
+    }
+    let value = mask_of_term(tags, values, n, list, memo, TermPlace(u));
+    let others = mask_of_values(tags, values, n, list, memo, t, &run[2..]);
+    value | others
 }
 
 // The first 62 cells of a list: at most 31 pairs.

@@ -2,7 +2,7 @@
 -- Assumes nothing.
 use Prim.Native.Nat.{ℕ, zero, suc, _+_, _-_, _≤_, _<_}
 use mathlib.Core.Path.{_≡_, refl, sym, ap, fun-ext, _∙_}
-use mathlib.Core.Bool.{Bool, true, false, cond, _||_}
+use mathlib.Core.Bool.{Bool, true, false, cond, _||_, or-false}
 use mathlib.Core.List.{List, [], _∷_}
 use lib.ListN.{length, getD, take, drop, set, replicate, length-drop, drop-of-length-le}
 use lib.Seq.{drop-cons, take-all, getD-set-other}
@@ -14,11 +14,11 @@ use Rattle.cells.specs.Cell.{sortOf, operandsOf}
 use Rattle.cells.specs.ByPlace.{by-test, downTo, byPlace, byPlace-is}
 use Rattle.marks.specs.Marks.{Noted}
 use Rattle.marks.proofs.Laws.{zeros, Filled, fill-start, fill-next, fill-end}
-use Rattle.free_vars.specs.Free.{pairIn, boundBy, letBinds, anyOf, underPairs, freeStep, isFree, markOf, Marked}
+use Rattle.free_vars.specs.Free.{pairIn, boundBy, letBinds, anyOf, valuesIn, letValues, underPairs, freeStep, isFree, markOf, Marked}
 use Rattle.free_vars.specs.FreeMemo.{pairSort, isPair, pairsBind, freeBelow, Means, Right, Answered}
 use Rattle.cells.specs.declared.TermPlace.{TermPlace}
 use Rattle.free_vars.specs.declared.Step.{Step}
-use Rattle.free_vars.specs.declared.Step.the-variants.{Yes, No, Body, Run}
+use Rattle.free_vars.specs.declared.Step.the-variants.{Yes, No, Body, Run, Values, Let}
 
 -- ---- pairs
 module _ (values : List ℕ) (lets : Bool) (name sort a b : ℕ) where
@@ -107,25 +107,45 @@ module _ (tags values : List ℕ) (v t : ℕ) where
         rw
         (free-is tags values v t, ne-eqb _ _ n, ← k, le-ltb tag 22 (omega arith), le-ltb tag 23 (omega arith), le-ltb tag 27 (omega arith), le-ltb _ _ h)
 
-    module _ (l : 23 ≤ tag) (h : tag < 28) (run : List ℕ) (o : run ≡ operandsOf tags values t) (p : Bool) (is : p ≡ pairsBind values (eqb tag 27) v run) where
-      under : isFree tags values v t ≡ cond p false (freeBelow tags values v t (getD run 0 0))
-      unfolding freeStep underPairs boundBy letBinds pairsBind pairSort
-      under =
-          by-test (ltb tag 27)
-          (λ e. rw (free-is tags values v t, ne-eqb _ _ n, ← k, le-ltb tag 22 (omega arith), le-ltb _ _ l, e, ← o, is, ne-eqb tag 27 (omega (arith, ltb-true tag 27 e))))
-          (λ e. rw (free-is tags values v t, ne-eqb _ _ n, ← k, le-ltb tag 22 (omega arith), le-ltb _ _ l, e, lt-ltb _ _ h, ← o, is, eq-eqb tag 27 (omega (arith, ltb-false tag 27 e))))
+    module _ (l : 23 ≤ tag) (h : tag < 28) (run : List ℕ) (o : run ≡ operandsOf tags values t)
+        (lets : Bool) (q : lets ≡ eqb tag 27) (p : Bool) (is : p ≡ pairsBind values lets v run) where
+      under : lets ≡ false → isFree tags values v t ≡ cond p false (freeBelow tags values v t (getD run 0 0))
+      unfolding freeStep underPairs boundBy pairsBind pairSort
+      under z =
+          let low : tag < 27 = omega (arith, eqb-false tag 27 (sym q ∙ z)) in
+          rw (free-is tags values v t, ne-eqb _ _ n, ← k, le-ltb tag 22 (omega arith), le-ltb _ _ l, lt-ltb tag 27 low, ← o, is, z)
 
-      pub look-bound : p ≡ true → false ≡ isFree tags values v t
-      look-bound e = rw (under, e)
+      under-let : lets ≡ true → isFree tags values v t
+          ≡ anyOf (freeBelow tags values v t) (letValues (operandsOf tags values t)) || cond p false (freeBelow tags values v t (getD run 0 0))
+      unfolding freeStep underPairs letBinds pairsBind pairSort
+      under-let z =
+          let high : 27 ≤ tag = omega (arith, eqb-true tag 27 (sym q ∙ z)) in
+          rw (free-is tags values v t, ne-eqb _ _ n, ← k, le-ltb tag 22 (omega arith), le-ltb _ _ l, le-ltb tag 27 high, lt-ltb _ _ h, ← o, is, z)
 
-      module _ (z : p ≡ false) (body : ℕ) (a : body ≡ getD run 0 0) where
-        pub look-late : t ≤ body → false ≡ isFree tags values v t
-        look-late g = rw (under, z, ← a, below-not tags values v t body g)
+      module _ (y : lets ≡ true) where
+        pub let-bound : p ≡ true → anyOf (freeBelow tags values v t) (letValues (operandsOf tags values t)) ≡ isFree tags values v t
+        let-bound e = rw (under-let y, e, or-false)
 
-        pub look-body : body < t → isFree tags values v body ≡ isFree tags values v t
-        look-body g = rw (under, z, ← a, below-is tags values v t body g)
+        module _ (z : p ≡ false) (body : ℕ) (a : body ≡ getD run 0 0) where
+          pub let-late : t ≤ body → anyOf (freeBelow tags values v t) (letValues (operandsOf tags values t)) ≡ isFree tags values v t
+          let-late g = rw (under-let y, z, ← a, below-not tags values v t body g, or-false)
 
-pub ruleset looks = (look-noted, look-self, look-low, look-application, look-operator, look-bound, look-late, look-body)
+          pub let-body : body < t
+              → (anyOf (freeBelow tags values v t) (letValues (operandsOf tags values t)) || isFree tags values v body) ≡ isFree tags values v t
+          let-body g = rw (under-let y, z, ← a, below-is tags values v t body g)
+
+      module _ (y : lets ≡ false) where
+        pub look-bound : p ≡ true → false ≡ isFree tags values v t
+        look-bound e = rw (under y, e)
+
+        module _ (z : p ≡ false) (body : ℕ) (a : body ≡ getD run 0 0) where
+          pub look-late : t ≤ body → false ≡ isFree tags values v t
+          look-late g = rw (under y, z, ← a, below-not tags values v t body g)
+
+          pub look-body : body < t → isFree tags values v body ≡ isFree tags values v t
+          look-body g = rw (under y, z, ← a, below-is tags values v t body g)
+
+pub ruleset looks = (look-noted, look-self, look-low, look-application, look-operator, look-bound, look-late, look-body, let-bound, let-late, let-body)
 
 -- ---- the answer at t, from the step r at t
 module _ (tags values : List ℕ) (v t : ℕ) (r : Step) (m : Means tags values v t r) where
@@ -146,6 +166,28 @@ module _ (tags values : List ℕ) (v t : ℕ) (r : Step) (m : Means tags values 
   pub step-run : r ≡ Run → (run : List ℕ) → run ≡ operandsOf tags values t
       → (memo : List ℕ) (s : Bool) → Answered tags values v memo s (anyOf (freeBelow tags values v t) run) → Answered tags values v memo s (isFree tags values v t)
   step-run e run o memo s a = record { is = a .is ∙ rw o (rw e at m); right = a .right }
+
+  pub step-values : r ≡ Values → (run : List ℕ) → run ≡ operandsOf tags values t
+      → (memo : List ℕ) (s : Bool) → Answered tags values v memo s (anyOf (freeBelow tags values v t) (letValues run)) → Answered tags values v memo s (isFree tags values v t)
+  step-values e run o memo s a = record { is = a .is ∙ rw o (rw e at m); right = a .right }
+
+  module _ (u : TermPlace) (e : r ≡ Let u) where
+    pub let-below : u .0 < t
+    let-below = (rw e at m) .0
+
+    let-is : isFree tags values v t ≡ (anyOf (freeBelow tags values v t) (letValues (operandsOf tags values t)) || isFree tags values v (u .0))
+    let-is = sym ((rw e at m) .1)
+
+    module _ (run : List ℕ) (o : run ≡ operandsOf tags values t) (memo : List ℕ) (s : Bool)
+        (a : Answered tags values v memo s (anyOf (freeBelow tags values v t) (letValues run))) where
+      found : anyOf (freeBelow tags values v t) (letValues (operandsOf tags values t)) ≡ s
+      found = rw (← o) (sym (a .is))
+
+      pub let-found : s ≡ true → Answered tags values v memo true (isFree tags values v t)
+      let-found y = record { is = rw (let-is, found, y); right = a .right }
+
+      pub let-on : s ≡ false → (memo′ : List ℕ) (b : Bool) → Answered tags values v memo′ b (isFree tags values v (u .0)) → Answered tags values v memo′ b (isFree tags values v t)
+      let-on y memo′ b c = record { is = rw (let-is, found, y) (c .is); right = c .right }
 
 module _ (tags values : List ℕ) (v t : ℕ) (memo : List ℕ) (s : Bool) (a : Answered tags values v memo s (isFree tags values v t)) where
   -- a right no keeps the memo right
@@ -179,7 +221,7 @@ module _ (tags values : List ℕ) (v t : ℕ) (run : List ℕ) where
   run-end memo right e = record { is = any-none _ run e; right = right }
 
   module _ (some : length run ≡ 0 → ⊥) where
-    pub any-is : anyOf (freeBelow tags values v t) run
+    any-is : anyOf (freeBelow tags values v t) run
         ≡ freeBelow tags values v t (getD run 0 0) || anyOf (freeBelow tags values v t) (take (length run - 1) (drop 1 run))
     any-is = any-first (freeBelow tags values v t) run some
 
@@ -197,7 +239,48 @@ module _ (tags values : List ℕ) (v t : ℕ) (run : List ℕ) where
           → Answered tags values v memo′ s (anyOf (freeBelow tags values v t) run)
       run-on e memo′ s b = record { is = rw (any-is, below-is tags values v t (getD run 0 0) h, ← a .is, e) (b .is); right = b .right }
 
-pub ruleset walks = (step-yes, step-no, step-body, step-run, noted, run-end, run-skip, run-found, run-on)
+-- ---- the walk along a let's values
+pub no-value : (test : ℕ → Bool) (l : List ℕ) → length l < 3 → false ≡ anyOf test (letValues l)
+unfolding anyOf letValues valuesIn
+no-value test [] h = refl
+no-value test (a ∷ []) h = refl
+no-value test (a ∷ (b ∷ [])) h = refl
+no-value test (a ∷ (b ∷ (c ∷ l))) h = absurd (omega arith)
+
+pub first-value : (test : ℕ → Bool) (l : List ℕ) → 3 ≤ length l
+    → anyOf test (letValues l) ≡ test (getD l 2 0) || anyOf test (letValues (take (length l - 2) (drop 2 l)))
+unfolding anyOf letValues valuesIn
+first-value test [] h = absurd (omega arith)
+first-value test (a ∷ []) h = absurd (omega arith)
+first-value test (a ∷ (b ∷ [])) h = absurd (omega arith)
+first-value test (a ∷ (b ∷ (c ∷ l))) h =
+    rw (take-all (length (a ∷ (b ∷ (c ∷ l))) - 2) (drop 2 (a ∷ (b ∷ (c ∷ l)))) (rw (length-drop 2 (a ∷ (b ∷ (c ∷ l)))) (omega arith)))
+
+module _ (tags values : List ℕ) (v t : ℕ) (run : List ℕ) where
+  pub values-end : (memo : List ℕ) → Right tags values v memo → length run < 3
+      → Answered tags values v memo false (anyOf (freeBelow tags values v t) (letValues run))
+  values-end memo right e = record { is = no-value _ run e; right = right }
+
+  module _ (some : 3 ≤ length run) where
+    value-is : anyOf (freeBelow tags values v t) (letValues run)
+        ≡ freeBelow tags values v t (getD run 2 0) || anyOf (freeBelow tags values v t) (letValues (take (length run - 2) (drop 2 run)))
+    value-is = first-value (freeBelow tags values v t) run some
+
+    pub values-skip : t ≤ getD run 2 0 → (memo : List ℕ) (s : Bool)
+        → Answered tags values v memo s (anyOf (freeBelow tags values v t) (letValues (take (length run - 2) (drop 2 run))))
+        → Answered tags values v memo s (anyOf (freeBelow tags values v t) (letValues run))
+    values-skip h memo s a = record { is = rw (value-is, below-not tags values v t (getD run 2 0) h) (a .is); right = a .right }
+
+    module _ (h : getD run 2 0 < t) (memo : List ℕ) (r : Bool) (a : Answered tags values v memo r (isFree tags values v (getD run 2 0))) where
+      pub values-found : r ≡ true → Answered tags values v memo true (anyOf (freeBelow tags values v t) (letValues run))
+      values-found e = record { is = rw (value-is, below-is tags values v t (getD run 2 0) h, ← a .is, e); right = a .right }
+
+      pub values-on : r ≡ false → (memo′ : List ℕ) (s : Bool)
+          → Answered tags values v memo′ s (anyOf (freeBelow tags values v t) (letValues (take (length run - 2) (drop 2 run))))
+          → Answered tags values v memo′ s (anyOf (freeBelow tags values v t) (letValues run))
+      values-on e memo′ s b = record { is = rw (value-is, below-is tags values v t (getD run 2 0) h, ← a .is, e) (b .is); right = b .right }
+
+pub ruleset walks = (step-yes, step-no, step-body, step-run, step-values, let-found, let-on, noted, run-end, run-skip, run-found, run-on, values-end, values-skip, values-found, values-on)
 
 -- ---- a fresh memo
 pub fresh : (tags values : List ℕ) (v k : ℕ) → Right tags values v (replicate k 0)

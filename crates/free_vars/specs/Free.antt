@@ -1,6 +1,7 @@
 -- Free variables: whether the variable at v occurs free in the term at t.
--- 01, "Sorts and free variables": "Free variables follow `compute_free_vars`: a variable is name with sort; binders remove their pairs;
--- a let takes its body's, minus the let's names with their values' sorts."
+-- 01, "Sorts and free variables": "a variable is name with sort; binders remove their pairs". 02, S-3: "A let's free variables now also
+-- include those free in its values, as SMT-LIB 2.6 has it" (SMT-LIB 2.6, 3.6.1: the values stand outside the let's names): those of all its
+-- values, and its body's minus the let's names with their values' sorts.
 -- No two headers of a checked pool describe the same thing, so that the variable v is the place v, and a sort is its place.
 -- Rests on Cell and ByPlace.
 use Prim.Native.Nat.{ℕ, _+_, _<_}
@@ -31,6 +32,16 @@ unfoldable pub anyOf : (ℕ → Bool) → List ℕ → Bool
 anyOf test [] = false
 anyOf test (u ∷ us) = test u || anyOf test us
 
+-- the values of a let's pairs of name and value
+unfoldable pub valuesIn : List ℕ → List ℕ
+valuesIn [] = []
+valuesIn (a ∷ []) = []
+valuesIn (a ∷ (b ∷ rest)) = b ∷ valuesIn rest
+
+-- the values of a let's operand run, which is its body and then the pairs
+unfoldable pub letValues : List ℕ → List ℕ
+letValues run = valuesIn (drop 1 run)
+
 -- under a binder: the body's, unless the pairs bind v
 unfoldable pub underPairs : (ℕ → Bool) → Bool → List ℕ → Bool
 underPairs rec bound run = cond bound false (rec (getD run 0 0))
@@ -42,7 +53,8 @@ freeStep tags values v t rec =
     (cond (ltb (getD tags t 0) 22) false  -- a constant, another variable
     (cond (ltb (getD tags t 0) 23) (anyOf rec (operandsOf tags values t))  -- an application: function and arguments
     (cond (ltb (getD tags t 0) 27) (underPairs rec (boundBy values v (operandsOf tags values t)) (operandsOf tags values t))
-    (cond (ltb (getD tags t 0) 28) (underPairs rec (letBinds values v (operandsOf tags values t)) (operandsOf tags values t))
+    (cond (ltb (getD tags t 0) 28)
+    (anyOf rec (letValues (operandsOf tags values t)) || underPairs rec (letBinds values v (operandsOf tags values t)) (operandsOf tags values t))
     (anyOf rec (operandsOf tags values t))))))  -- an operator: its operands
 
 unfoldable pub isFree : List ℕ → List ℕ → ℕ → ℕ → Bool

@@ -2,14 +2,14 @@
 -- Rests on Cell, Free and the enum `Step`.
 use Prim.Native.Nat.{ℕ, _+_, _<_}
 use mathlib.Core.Path.{_≡_}
-use mathlib.Core.Bool.{Bool, true, false, cond, _&&_}
+use mathlib.Core.Bool.{Bool, true, false, cond, _&&_, _||_}
 use mathlib.Core.List.{List}
 use lib.ListN.{getD, drop}
 use lib.Dec.{ltb, eqb}
 use Rattle.cells.specs.Cell.{sortOf, operandsOf}
-use Rattle.free_vars.specs.Free.{pairIn, anyOf, isFree}
+use Rattle.free_vars.specs.Free.{pairIn, anyOf, letValues, isFree}
 use Rattle.free_vars.specs.declared.Step.{Step}
-use Rattle.free_vars.specs.declared.Step.the-variants.{Yes, No, Body, Run}
+use Rattle.free_vars.specs.declared.Step.the-variants.{Yes, No, Body, Run, Values, Let}
 
 -- the sort that a pair's second cell gives: of the value there in a let, itself in a binder
 unfoldable pub pairSort : List ℕ → Bool → ℕ → ℕ
@@ -33,6 +33,9 @@ Means tags values v t Yes = true ≡ isFree tags values v t
 Means tags values v t No = false ≡ isFree tags values v t
 Means tags values v t (Body u) = (u .0 < t) × (isFree tags values v (u .0) ≡ isFree tags values v t)
 Means tags values v t Run = anyOf (freeBelow tags values v t) (operandsOf tags values t) ≡ isFree tags values v t
+Means tags values v t Values = anyOf (freeBelow tags values v t) (letValues (operandsOf tags values t)) ≡ isFree tags values v t
+Means tags values v t (Let u) =
+    (u .0 < t) × ((anyOf (freeBelow tags values v t) (letValues (operandsOf tags values t)) || isFree tags values v (u .0)) ≡ isFree tags values v t)
 
 -- the memo: v is not free in a term whose entry is 1; any other entry says nothing
 pub record Right (tags values : List ℕ) (v : ℕ) (memo : List ℕ) : Type 0 where

@@ -1,5 +1,5 @@
-// Free variables, after `compute_free_vars`. A memo, a byte for each place, keeps the answers for one variable, so that
-// its walk takes time linear in the pool however terms are shared. A place past the memo's end is walked anew.
+// Free variables, after `compute_free_vars`, but that a let's values count. A memo, a byte for each place, keeps the answers for
+// one variable, so that its walk takes time linear in the pool however terms are shared. A place past the memo's end is walked anew.
 use cells::TermPlace;
 use cells::run::cell;
 use cells::run::operands;
@@ -8,7 +8,7 @@ use marks::mark_at;
 use marks::note_no;
 ghost use mathlib.Core.Path.{_≡_};
 ghost use lib.ListN.{length, drop};
-ghost use Rattle.free_vars.specs.Free.{pairIn, anyOf, isFree, markOf, Marked};
+ghost use Rattle.free_vars.specs.Free.{pairIn, anyOf, letValues, isFree, markOf, Marked};
 ghost use Rattle.free_vars.specs.FreeMemo.{pairSort, isPair, pairsBind, freeBelow, Means, Right, Answered};
 
 // Whether the pair a, b is this name with this sort. A let's pair (`lets`) holds a value of that sort, a binder's the sort.
@@ -55,12 +55,15 @@ fn pairs_bind(values: &[u32], lets: bool, v: TermPlace, run: &[u32]) -> bool
     )
 }
 
-// What the walk finds at a term: the answer, or that it is the body's, or that of a term of the operand run.
+// What the walk finds at a term: the answer, or that it is the body's, or that of a term of the operand run, or that of a
+// let's values, or that of a let's values and its body.
 pub enum Step {
     Yes,
     No,
     Body(TermPlace),
     Run,
+    Values,
+    Let(TermPlace),
 }
 
 // What the walk finds at the term at t. The tests are those of the definition, in its order, after the memo.
@@ -86,10 +89,21 @@ fn look(tags: &[u32], values: &[u32], memo: &[u8], v: TermPlace, t: TermPlace) -
         return Step::Run;
     }
     let run = operands(tags, values, t);
-    if pairs_bind(values, tag == 27, v, run) {
+    let lets = tag == 27;
+    let bound = pairs_bind(values, lets, v, run);
+    let body = cell(run, 0);
+    if lets {
+        if bound {
+            return Step::Values;
+        }
+        if t.0 <= body {
+            return Step::Values;
+        }
+        return Step::Let(TermPlace(body));
+    }
+    if bound {
         return Step::No;
     }
-    let body = cell(run, 0);
     if t.0 <= body {
         return Step::No;
     }
@@ -119,6 +133,17 @@ fn compute_free_vars(
             let s = run_free_vars(tags, values, memo, v, t, operands(tags, values, t));
             note_no(memo, t.0, s)
         }
+        Step::Values => {
+            let s = values_free_vars(tags, values, memo, v, t, operands(tags, values, t));
+            note_no(memo, t.0, s)
+        }
+        Step::Let(u) => {
+            if values_free_vars(tags, values, memo, v, t, operands(tags, values, t)) {
+                return true;
+            }
+            let s = compute_free_vars(tags, values, memo, v, u);
+            note_no(memo, t.0, s)
+        }
     }
 }
 
@@ -145,6 +170,32 @@ fn run_free_vars(
         return true;
     }
     run_free_vars(tags, values, memo, v, t, &run[1..])
+}
+
+// Whether the variable at v is free in a let's value that stands before t: the values walker. The run's first cell is the body,
+// or a value that the walk has passed.
+fn values_free_vars(
+    tags: &[u32],
+    values: &[u32],
+    memo: &mut [u8],
+    v: TermPlace,
+    t: TermPlace,
+    run: &[u32],
+) -> bool
+    requires { ⌜ Right (now tags) (now values) (v .0) (now memo) ⌝ }
+    ensures { λ s. ⌜ Answered (now (tags .entry)) (now (values .entry)) (v .0) (now (memo .exit)) s (anyOf (freeBelow (now (tags .entry)) (now (values .entry)) (v .0) (t .0)) (letValues (now (run .entry)))) ⌝ }
+{
+    if run.len() < 3 {
+        return false;
+    }
+    let u = run[2];
+    if t.0 <= u {
+        return values_free_vars(tags, values, memo, v, t, &run[2..]);
+    }
+    if compute_free_vars(tags, values, memo, v, TermPlace(u)) {
+        return true;
+    }
+    values_free_vars(tags, values, memo, v, t, &run[2..])
 }
 
 // Whether the variable at v is free in the term at t.

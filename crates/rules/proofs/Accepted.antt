@@ -1,7 +1,7 @@
 -- An accepted step is true in every reading: demand 3, of all six rules.
 --     rule-sound         a rule that passes a conclusion of a checked pool
 --     step-follows       so an answer 0 of `check`
--- Assumes what demand 3 does: the step holds no let; for rule 3, no variable taken out is free in the left quantified formula.
+-- Assumes what demand 3 does: for rule 3, no variable taken out is free in the left quantified formula.
 use Prim.Native.Nat.{ℕ, suc}
 use mathlib.Core.Path.{_≡_, refl, sym, ap, _∙_}
 use mathlib.Core.Bool.{Bool, true, false, cond}
@@ -27,7 +27,7 @@ use Rattle.miniscoping.proofs.sound.MiniscopeIte.{miniscope-ite-sound}
 use Rattle.clausification.specs.NoCapture.{NoCapture}
 use Rattle.rules.specs.Step.{isRule, ruleOutcome, stepAnswer, Follows}
 use Rattle.rules.proofs.Codes.{rule-codes, accepted}
-use Rattle.rules.proofs.WithoutLet.{without-let, numbered-true}
+use Rattle.rules.specs.Premises.{numbered}
 
 module _ {tags values table : List ℕ} {n : ℕ} (c : Passed tags values table n) (x : ℕ) (t : isTerm tags n x ≡ true) where
   pub rule-sound : (rule : ℕ) → ruleOutcome tags values n rule x ≡ pass tt → (rule ≡ 3 → NoCapture (tree tags values x))
@@ -71,6 +71,6 @@ module _ (tags values table : List ℕ) (n rule : ℕ) (conclusion : List ℕ) w
       (λ a. absurd (eqb-false _ 0 a (rw a at e)))
 
   pub step-follows : (r : Answer) → r ≡ stepAnswer tags values table n rule conclusion → Follows tags values table n rule conclusion r
-  step-follows r is e none premise =
+  step-follows r is e premise N local ρ =
       let a = step-accepted (sym (ap (λ (x : Answer). x .code) is) ∙ e) in
-      numbered-true _ (without-let _ none (rule-sound (a .passed) (getD conclusion 0 0) (a .term) rule (a .passes) premise))
+      rule-sound (a .passed) (getD conclusion 0 0) (a .term) rule (a .passes) premise (numbered N) local ρ

@@ -1,6 +1,6 @@
 -- Readings whose values are numbers are enough: what is true in all of them is true in every reading. Each value stands in the list of its
 -- sort's values, and its number is its position there.
---     every-reading     the converse of numbered-true
+--     every-reading     that
 -- Assumes nothing.
 use Prim.Native.Nat.{zero, suc, Fin, zero-le, suc-le-suc}
 use mathlib.Core.Path.{_≡_, refl, sym, ap, _∙_, fun-ext}
@@ -12,10 +12,10 @@ use Rattle.term_trees.specs.Sort.{Sort}
 use Rattle.term_trees.specs.Term.{Var, Vars, Term}
 use Rattle.term_trees.specs.FreeTree.{has}
 use Rattle.formulas.specs.Skeleton.{skeleton, IsOpaque}
-use Rattle.formulas.specs.Truth.{Assignment, Reading, over, True}
+use Rattle.formulas.specs.Truth.{Assignment, Reading, Local, over, True}
 use Rattle.formulas.proofs.Over.{bool-cases, same-at, Within, mix, mix-in, mix-out, over-elim, over-intro}
 use Rattle.formulas.proofs.Leaves.{skeleton-leaves}
-use Rattle.rules.specs.Premises.{LocalWithoutLet, Numbers, numbered, TrueInReadings}
+use Rattle.rules.specs.Premises.{Numbers, numbered, TrueInReadings}
 use Rattle.rules.proofs.TruthAlong.{truth-along}
 
 -- a position at which a member stands
@@ -51,8 +51,8 @@ module _ (R : Reading) (start : Assignment (R .Value)) where
   unfolding code
   read-code ρ v = position (some (v .sort)) (R .listed (v .sort) (ρ v)) .1
 
-  numbers-local : LocalWithoutLet R → LocalWithoutLet N
-  numbers-local local t o e ρ σ h = local t o e (read ρ) (read σ) (λ v q. ap (at (v .sort)) (h v q))
+  numbers-local : Local R → Local N
+  numbers-local local t o ρ σ h = local t o (read ρ) (read σ) (λ v q. ap (at (v .sort)) (h v q))
 
   -- σ, which differs from what ρ is read as in vs alone, is read from its own numbers in vs and those of ρ elsewhere
   read-mix : (vs : Vars) (ρ : A) (σ : Assignment (R .Value)) → Within (R .Value) vs (read ρ) σ
@@ -76,7 +76,7 @@ module _ (R : Reading) (start : Assignment (R .Value)) where
   unfolding True
   numbers-true c ρ = truth-along N R read IsOpaque (λ t o σ. refl) numbers-over (skeleton c) (skeleton-leaves c) ρ
 
-pub every-reading : (c : Term) → TrueInReadings c → (R : Reading) → LocalWithoutLet R → (ρ : Assignment (R .Value)) → True R c ρ ≡ true
+pub every-reading : (c : Term) → TrueInReadings c → (R : Reading) → Local R → (ρ : Assignment (R .Value)) → True R c ρ ≡ true
 every-reading c h R local ρ =
     sym (ap (True R c) (fun-ext (read-code R ρ ρ)))
     ∙ (sym (numbers-true R ρ c (code R ρ ρ)) ∙ h (numbers R ρ) (numbers-local R ρ local) (code R ρ ρ))

@@ -3,7 +3,7 @@
 -- Rests on pool's Answer, Check and Tree, on the six rules' definitions and on Premises.
 use Prim.Native.Nat.{ℕ, min}
 use mathlib.Core.Path.{_≡_}
-use mathlib.Core.Bool.{Bool, false, not, _&&_, cond}
+use mathlib.Core.Bool.{Bool, not, _&&_, cond}
 use mathlib.Core.List.{List}
 use lib.ListN.{length, getD}
 use lib.Dec.{leb, eqb}
@@ -22,7 +22,7 @@ use Rattle.miniscoping.specs.MiniscopeDistribute.{miniscopeDistribute}
 use Rattle.miniscoping.specs.MiniscopeSplit.{miniscopeSplit}
 use Rattle.miniscoping.specs.MiniscopeIte.{miniscopeIte}
 use Rattle.clausification.specs.NoCapture.{NoCapture}
-use Rattle.rules.specs.Premises.{holdsLet, TrueInReadings}
+use Rattle.rules.specs.Premises.{TrueInReadings}
 
 -- "The six rules, with codes": 1 to 6
 unfoldable pub isRule : ℕ → Bool
@@ -70,7 +70,7 @@ module _ (tags values table : List ℕ) (n rule : ℕ) (conclusion : List ℕ) w
 
   -- an accepted step: what demand 3 says of its conclusion, under its premises
   abbrev pub Follows : Answer → Type 0
-  Follows a = a .code ≡ 0 → holdsLet conclusionTerm ≡ false → (rule ≡ 3 → NoCapture conclusionTerm) → TrueInReadings conclusionTerm
+  Follows a = a .code ≡ 0 → (rule ≡ 3 → NoCapture conclusionTerm) → TrueInReadings conclusionTerm
 
   -- the whole outcome: the answer r, the arrays after it, and the truth of what is accepted
   pub record Step (r : Answer) (tags′ values′ : List ℕ) : Type 0 where

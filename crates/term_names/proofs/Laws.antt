@@ -3,24 +3,25 @@
 -- Assumes nothing.
 use Prim.Native.Nat.{ℕ, zero, suc, _+_, _-_, _*_, _%_, _≤_, _<_}
 use mathlib.Core.Path.{_≡_, refl, sym, ap, _∙_}
-use mathlib.Core.Bool.{Bool, true, false}
+use mathlib.Core.Bool.{Bool, true, false, _||_, or-false}
 use mathlib.Core.List.{List, [], _∷_}
 use lib.ListN.{length, getD, take, drop, set, replicate, List·getD-eq-default}
 use lib.Seq.{getD-set-same, getD-set-other, set-out}
 use lib.Dec.{ltb, eqb}
 use native.Mathlib.Omega.{arith}
-use borrow.Author.Tests.{eqb-true, eqb-false, ltb-true, ltb-false}
+use borrow.Author.Tests.{eqb-true, eqb-false, eq-eqb, ne-eqb, ltb-true, ltb-false}
 use Rattle.cells.specs.Cell.{sortOf, operandsOf}
 use Rattle.cells.specs.ByPlace.{by-test}
 use Rattle.cells.specs.declared.TermPlace.{TermPlace}
-use Rattle.free_vars.specs.Free.{isFree}
-use Rattle.free_vars.specs.FreeMemo.{pairsBind}
+use Rattle.free_vars.specs.Free.{anyOf, letValues, isFree}
+use Rattle.free_vars.specs.FreeMemo.{pairsBind, freeBelow}
 use Rattle.term_names.specs.Names.{bucketOf, mayBeFree, freeIn, Listed}
-use Rattle.term_names.specs.NamesWalk.{freeAmong, freeUnder, Exactly, Means, Right, Grown, Walked}
+use Rattle.term_names.specs.NamesWalk.{freeAmong, freeUnder, freeInLet, Exactly, Means, Right, Grown, Walked}
 use Rattle.term_names.specs.declared.Below.{Below}
-use Rattle.term_names.specs.declared.Below.the-variants.{Nothing, Variable, Body, Run}
+use Rattle.term_names.specs.declared.Below.the-variants.{Nothing, Variable, Body, Run, Values, Let}
 use Rattle.marks.proofs.Laws.{zeros}
-use Rattle.free_vars.proofs.Laws.{any-none, any-is, below-is, below-not, look-low, look-self, look-application, look-operator, look-bound, look-late, look-body}
+use Rattle.free_vars.proofs.Laws.{any-none, any-first, no-value, first-value, below-is, below-not, look-low, look-self, look-application, look-operator}
+use Rattle.free_vars.proofs.Laws.{look-bound, look-late, look-body, let-bound, let-late, let-body}
 
 clash : {C : Type 0} → false ≡ true → C
 clash e = absurd (let z : _≡_ {A = ℕ} 0 1 = cc in omega arith)
@@ -87,25 +88,45 @@ module _ (tags values : List ℕ) (t tag : ℕ) (k : tag ≡ getD tags t 0) wher
   find-operator h = record { at = λ v e. sym (look-operator tags values v t (other (λ q. omega arith) v e) tag k h) }
 
   module _ (l : 23 ≤ tag) (h : tag < 28) (run : List ℕ) (o : run ≡ operandsOf tags values t) (body : ℕ) (a : body ≡ getD run 0 0) where
-    pub find-late : t ≤ body → Exactly tags values t (λ v. false)
-    unfolding freeIn
-    find-late g = record {
-      at = λ v e. let n = other (λ q. omega arith) v e in
-          by-test (pairsBind values (eqb tag 27) v run)
-          (λ p. sym (look-bound tags values v t n tag k l h run o _ refl p))
-          (λ p. sym (look-late tags values v t n tag k l h run o _ refl p body a g));
-    }
+    module _ (y : tag ≡ 27) where
+      pub find-values : t ≤ body → Exactly tags values t (freeAmong tags values t (letValues (operandsOf tags values t)))
+      unfolding freeIn freeAmong
+      find-values g = record {
+        at = λ v e. let n = other (λ q. omega arith) v e in
+            by-test (pairsBind values true v run)
+            (λ p. sym (let-bound tags values v t n tag k l h run o true (sym (eq-eqb tag 27 y)) _ refl refl p))
+            (λ p. sym (let-late tags values v t n tag k l h run o true (sym (eq-eqb tag 27 y)) _ refl refl p body a g));
+      }
 
-    pub find-body : body < t → Exactly tags values t (freeUnder tags values t body)
-    unfolding freeIn freeUnder
-    find-body g = record {
-      at = λ v e. let n = other (λ q. omega arith) v e in
-          by-test (pairsBind values (eqb tag 27) v run)
-          (λ p. rw (← k, ← o, p) (sym (look-bound tags values v t n tag k l h run o _ refl p)))
-          (λ p. rw (← k, ← o, p) (sym (look-body tags values v t n tag k l h run o _ refl p body a g)));
-    }
+      pub find-let : body < t → Exactly tags values t (freeInLet tags values t body)
+      unfolding freeIn freeAmong freeUnder freeInLet
+      find-let g = record {
+        at = λ v e. let n = other (λ q. omega arith) v e in
+            by-test (pairsBind values true v run)
+            (λ p. rw (← k, eq-eqb tag 27 y, ← o, p, or-false) (rw (← o) at (sym (let-bound tags values v t n tag k l h run o true (sym (eq-eqb tag 27 y)) _ refl refl p))))
+            (λ p. rw (← k, eq-eqb tag 27 y, ← o, p) (rw (← o) at (sym (let-body tags values v t n tag k l h run o true (sym (eq-eqb tag 27 y)) _ refl refl p body a g))));
+      }
 
-pub ruleset finds = (find-nothing, find-variable, find-application, find-operator, find-late, find-body)
+    module _ (y : tag ≡ 27 → ⊥) where
+      pub find-late : t ≤ body → Exactly tags values t (λ v. false)
+      unfolding freeIn
+      find-late g = record {
+        at = λ v e. let n = other (λ q. omega arith) v e in
+            by-test (pairsBind values false v run)
+            (λ p. sym (look-bound tags values v t n tag k l h run o false (sym (ne-eqb tag 27 y)) _ refl refl p))
+            (λ p. sym (look-late tags values v t n tag k l h run o false (sym (ne-eqb tag 27 y)) _ refl refl p body a g));
+      }
+
+      pub find-body : body < t → Exactly tags values t (freeUnder tags values t body)
+      unfolding freeIn freeUnder
+      find-body g = record {
+        at = λ v e. let n = other (λ q. omega arith) v e in
+            by-test (pairsBind values false v run)
+            (λ p. rw (← k, ne-eqb tag 27 y, ← o, p) (sym (look-bound tags values v t n tag k l h run o false (sym (ne-eqb tag 27 y)) _ refl refl p)))
+            (λ p. rw (← k, ne-eqb tag 27 y, ← o, p) (sym (look-body tags values v t n tag k l h run o false (sym (ne-eqb tag 27 y)) _ refl refl p body a g)));
+      }
+
+pub ruleset finds = (find-nothing, find-variable, find-application, find-operator, find-late, find-body, find-values, find-let)
 
 -- ---- tables that grow
 same-grown : (names : List ℕ) → Grown names names
@@ -194,45 +215,100 @@ module _ (tags values : List ℕ) (t : ℕ) where
           → (seen′ : List ℕ) → seen′ ≡ set seen t 1 → Walked tags values names seen′ names′ (freeIn tags values t)
       walk-run e run o d = done _ (rw e at m) names seen names′ (rw o at d)
 
+      pub walk-values : s ≡ Values → (run : List ℕ) → run ≡ operandsOf tags values t → Walked tags values names seen names′ (freeAmong tags values t (letValues run))
+          → (seen′ : List ℕ) → seen′ ≡ set seen t 1 → Walked tags values names seen′ names′ (freeIn tags values t)
+      walk-values e run o d = done _ (rw e at m) names seen names′ (rw o at d)
+
+      pub walk-let : (u : TermPlace) → s ≡ Let u → (run : List ℕ) → run ≡ operandsOf tags values t → Walked tags values names seen names′ (freeAmong tags values t (letValues run))
+          → (seen′ names″ : List ℕ) → Walked tags values names′ seen′ names″ (freeIn tags values (u .0))
+          → (seen″ : List ℕ) → seen″ ≡ set seen′ t 1 → Walked tags values names seen″ names″ (freeIn tags values t)
+      unfolding freeInLet
+      walk-let u e run o d seen′ names″ d′ =
+          let w : Walked tags values names seen names′ (freeAmong tags values t (letValues (operandsOf tags values t))) = rw o at d in
+          done _ ((rw e at m) .1) names seen′ names″ (record {
+            grown = more-grown names names′ (d .grown) names″ (d′ .grown);
+            right = d′ .right;
+            listed = record {
+              at = λ v q f. by-test (freeAmong tags values t (letValues (operandsOf tags values t)) v)
+                  (λ z. listed-grown names′ names″ (d′ .grown) tags values _ (w .listed) .at v q z)
+                  (λ z. under-listed tags values t (u .0) names″ (d′ .listed) .at v q (rw z at f));
+            };
+          })
+
+    pub let-below : (u : TermPlace) → s ≡ Let u → u .0 < t
+    let-below u e = (rw e at m) .0
+
     pub body-below : (u : TermPlace) → s ≡ Body u → u .0 < t
     body-below u e = (rw e at m) .0
 
--- ---- the walk along a run
+-- ---- the walk along the places l, of which the first is u
+module _ (tags values : List ℕ) (t u : ℕ) (l rest : List ℕ)
+    (first : (v : ℕ) → anyOf (freeBelow tags values v t) l ≡ freeBelow tags values v t u || anyOf (freeBelow tags values v t) rest) where
+  skip : t ≤ u → (names seen names′ : List ℕ) → Walked tags values names seen names′ (freeAmong tags values t rest)
+      → Walked tags values names seen names′ (freeAmong tags values t l)
+  unfolding freeAmong
+  skip h names seen names′ d = record {
+    grown = d .grown;
+    right = d .right;
+    listed = record { at = λ v q f. d .listed .at v q (rw (first v, below-not tags values v t u h) at f) };
+  }
+
+  go-on : u < t → (names seen names′ : List ℕ) → Walked tags values names seen names′ (freeIn tags values u)
+      → (seen′ names″ : List ℕ) → Walked tags values names′ seen′ names″ (freeAmong tags values t rest)
+      → Walked tags values names seen′ names″ (freeAmong tags values t l)
+  unfolding freeAmong freeIn
+  go-on h names seen names′ d seen′ names″ d′ = record {
+    grown = more-grown names names′ (d .grown) names″ (d′ .grown);
+    right = d′ .right;
+    listed = record {
+      at = λ v q f. by-test (isFree tags values v u)
+          (λ o. listed-grown names′ names″ (d′ .grown) tags values _ (d .listed) .at v q o)
+          (λ o. d′ .listed .at v q (rw (first v, below-is tags values v t u h, o) at f));
+    };
+  }
+
+none-left : (tags values : List ℕ) (t : ℕ) (l : List ℕ) → ((v : ℕ) → false ≡ anyOf (freeBelow tags values v t) l)
+    → (seen names : List ℕ) → Right tags values seen names → Walked tags values names seen names (freeAmong tags values t l)
+unfolding freeAmong
+none-left tags values t l none seen names r = record {
+  grown = same-grown names;
+  right = r;
+  listed = record { at = λ v q f. clash (none v ∙ f) };
+}
+
+-- ---- along a run
 module _ (tags values : List ℕ) (t : ℕ) (run : List ℕ) where
   pub run-end : (seen names : List ℕ) → Right tags values seen names → length run ≡ 0 → Walked tags values names seen names (freeAmong tags values t run)
-  unfolding freeAmong
-  run-end seen names r e = record {
-    grown = same-grown names;
-    right = r;
-    listed = record { at = λ v q f. clash (any-none _ run e ∙ f) };
-  }
+  run-end seen names r e = none-left tags values t run (λ v. any-none _ run e) seen names r
 
   module _ (some : length run ≡ 0 → ⊥) where
     pub run-skip : t ≤ getD run 0 0 → (names seen names′ : List ℕ)
         → Walked tags values names seen names′ (freeAmong tags values t (take (length run - 1) (drop 1 run)))
         → Walked tags values names seen names′ (freeAmong tags values t run)
-    unfolding freeAmong
-    run-skip h names seen names′ d = record {
-      grown = d .grown;
-      right = d .right;
-      listed = record { at = λ v q f. d .listed .at v q (rw (any-is tags values v t run some, below-not tags values v t (getD run 0 0) h) at f) };
-    }
+    run-skip = skip tags values t (getD run 0 0) run _ (λ v. any-first _ run some)
 
     pub run-on : getD run 0 0 < t → (names seen names′ : List ℕ) → Walked tags values names seen names′ (freeIn tags values (getD run 0 0))
         → (seen′ names″ : List ℕ) → Walked tags values names′ seen′ names″ (freeAmong tags values t (take (length run - 1) (drop 1 run)))
         → Walked tags values names seen′ names″ (freeAmong tags values t run)
-    unfolding freeAmong freeIn
-    run-on h names seen names′ d seen′ names″ d′ = record {
-      grown = more-grown names names′ (d .grown) names″ (d′ .grown);
-      right = d′ .right;
-      listed = record {
-        at = λ v q f. by-test (isFree tags values v (getD run 0 0))
-            (λ o. listed-grown names′ names″ (d′ .grown) tags values _ (d .listed) .at v q o)
-            (λ o. d′ .listed .at v q (rw (any-is tags values v t run some, below-is tags values v t (getD run 0 0) h, o) at f));
-      };
-    }
+    run-on = go-on tags values t (getD run 0 0) run _ (λ v. any-first _ run some)
 
-pub ruleset walks = (walk-seen, walk-nothing, walk-variable, walk-body, walk-run, run-end, run-skip, run-on)
+-- ---- along a let's values
+module _ (tags values : List ℕ) (t : ℕ) (run : List ℕ) where
+  pub values-end : (seen names : List ℕ) → Right tags values seen names → length run < 3 → Walked tags values names seen names (freeAmong tags values t (letValues run))
+  values-end seen names r e = none-left tags values t (letValues run) (λ v. no-value _ run e) seen names r
+
+  module _ (some : 3 ≤ length run) where
+    pub values-skip : t ≤ getD run 2 0 → (names seen names′ : List ℕ)
+        → Walked tags values names seen names′ (freeAmong tags values t (letValues (take (length run - 2) (drop 2 run))))
+        → Walked tags values names seen names′ (freeAmong tags values t (letValues run))
+    values-skip = skip tags values t (getD run 2 0) (letValues run) _ (λ v. first-value _ run some)
+
+    pub values-on : getD run 2 0 < t → (names seen names′ : List ℕ) → Walked tags values names seen names′ (freeIn tags values (getD run 2 0))
+        → (seen′ names″ : List ℕ) → Walked tags values names′ seen′ names″ (freeAmong tags values t (letValues (take (length run - 2) (drop 2 run))))
+        → Walked tags values names seen′ names″ (freeAmong tags values t (letValues run))
+    values-on = go-on tags values t (getD run 2 0) (letValues run) _ (λ v. first-value _ run some)
+
+pub ruleset walks = (walk-seen, walk-nothing, walk-variable, walk-body, walk-run, walk-values, walk-let, run-end, run-skip, run-on, values-end, values-skip, values-on)
 
 -- ---- the whole walk, from a fresh memo
 pub fresh : (tags values names : List ℕ) (k : ℕ) → Right tags values (replicate k 0) names

@@ -12,6 +12,7 @@ ghost use mathlib.Core.Path.{_≡_};
 ghost use Prim.Native.Nat.{_+_};
 ghost use lib.ListN.{getD, set};
 ghost use Rattle.cells.specs.Cell.{sortOf};
+ghost use Rattle.free_vars.specs.Free.{letValues};
 ghost use Rattle.term_names.specs.Names.{bucketOf, mayBeFree, freeIn, Listed};
 ghost use Rattle.term_names.specs.NamesWalk.{freeAmong, Means, Right, Walked};
 
@@ -44,12 +45,15 @@ fn mark_name(values: &[u32], names: &mut [u8], v: TermPlace)
     }
 }
 
-// Where a term's free variables are: nowhere, at the term itself, in the body under its pairs, or in the operand run.
+// Where a term's free variables are: nowhere, at the term itself, in the body under its pairs, in the operand run, in a let's
+// values, or in its values and in its body under its pairs.
 pub enum Below {
     Nothing,
     Variable,
     Body(TermPlace),
     Run,
+    Values,
+    Let(TermPlace),
 }
 
 // Where the free variables of the term at t are.
@@ -71,6 +75,12 @@ pub fn below_at(tags: &[u32], values: &[u32], t: TermPlace) -> Below
         return Below::Run;
     }
     let body = cell(operands(tags, values, t), 0);
+    if tag == 27 {
+        if t.0 <= body {
+            return Below::Values;
+        }
+        return Below::Let(TermPlace(body));
+    }
     if t.0 <= body {
         return Below::Nothing;
     }
@@ -100,6 +110,15 @@ fn names_of_term(tags: &[u32], values: &[u32], seen: &mut [u8], names: &mut [u8]
             names_of_run(tags, values, seen, names, t, operands(tags, values, t));
             set_mark(seen, t.0)
         }
+        Below::Values => {
+            names_of_values(tags, values, seen, names, t, operands(tags, values, t));
+            set_mark(seen, t.0)
+        }
+        Below::Let(u) => {
+            names_of_values(tags, values, seen, names, t, operands(tags, values, t));
+            names_of_term(tags, values, seen, names, u);
+            set_mark(seen, t.0)
+        }
     }
 }
 
@@ -124,6 +143,30 @@ fn names_of_run(
     }
     names_of_term(tags, values, seen, names, TermPlace(u));
     names_of_run(tags, values, seen, names, t, &run[1..])
+}
+
+// Marks the names of a let's values that stand before t: the values walker. The run's first cell is the body, or a value that the
+// walk has passed.
+fn names_of_values(
+    tags: &[u32],
+    values: &[u32],
+    seen: &mut [u8],
+    names: &mut [u8],
+    t: TermPlace,
+    run: &[u32],
+)
+    requires { ⌜ Right (now tags) (now values) (now seen) (now names) ⌝ }
+    ensures { λ _. ⌜ Walked (now (tags .entry)) (now (values .entry)) (now (names .entry)) (now (seen .exit)) (now (names .exit)) (freeAmong (now (tags .entry)) (now (values .entry)) (t .0) (letValues (now (run .entry)))) ⌝ }
+{
+    if run.len() < 3 {
+        return;
+    }
+    let u = run[2];
+    if t.0 <= u {
+        return names_of_values(tags, values, seen, names, t, &run[2..]);
+    }
+    names_of_term(tags, values, seen, names, TermPlace(u));
+    names_of_values(tags, values, seen, names, t, &run[2..])
 }
 
 // Sets the bucket of every variable that is free in the term at t.

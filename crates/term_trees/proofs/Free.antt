@@ -13,10 +13,10 @@ use Rattle.cells.specs.Cell.{cellsOf, sortOf, operandsOf}
 use Rattle.cells.specs.ByPlace.{by-test, byPlace-is}
 use Rattle.headers.specs.WellFormed.{shapeOf, countFits, kindAt, pairKind, valueFits, isSortTag, isTermTag, firstBad}
 use Rattle.descriptions.specs.Description.{firstRepeat}
-use Rattle.free_vars.specs.Free.{pairIn, boundBy, letBinds, anyOf, underPairs, freeStep, isFree}
+use Rattle.free_vars.specs.Free.{pairIn, boundBy, letBinds, anyOf, valuesIn, letValues, underPairs, freeStep, isFree}
 use Rattle.term_trees.specs.Term.{Var, Var-discrete, var}
 use Rattle.term_trees.specs.Tree.{sortTree, varsOf, termsOf, letsOf, termFrom, tree}
-use Rattle.term_trees.specs.FreeTree.{isYes, same, has, letVars, free, frees, varAt}
+use Rattle.term_trees.specs.FreeTree.{isYes, same, has, letVars, free, frees, freeValues, varAt}
 use Rattle.cells.specs.declared.Found.the-variants.{Nothing}
 use Rattle.headers.specs.declared.well_formed.Shape.{Shape}
 use Rattle.headers.specs.declared.well_formed.Shape.the-variants.{Application, Binder, Let, Operator}
@@ -48,7 +48,7 @@ module _ (values : List ℕ) (v : ℕ) (rec : ℕ → Bool) where
       cond (ltb k 22) false
       (cond (ltb k 23) (anyOf rec (drop 1 cells))
       (cond (ltb k 27) (underPairs rec (boundBy values v (drop 1 cells)) (drop 1 cells))
-      (cond (ltb k 28) (underPairs rec (letBinds values v (drop 1 cells)) (drop 1 cells))
+      (cond (ltb k 28) (anyOf rec (letValues (drop 1 cells)) || underPairs rec (letBinds values v (drop 1 cells)) (drop 1 cells))
       (anyOf rec (drop 1 cells)))))
 
   step-is : (tags : List ℕ) (t : ℕ) → freeStep tags values v t rec ≡ cond (eqb t v) true (below (getD tags t 0) (cellsOf values t))
@@ -110,6 +110,14 @@ module _ (tags values : List ℕ) (n : ℕ) (whole : n ≤ length values) (forme
         ap₂ _||_ (rw (← stated-is tags values n whole formed u (omega arith) k) at (pair-same a (sortOf values u) (omega arith) o))
         (lets-has (suc (suc j)) cs (omega arith) (omega arith) (f .1 .1))
 
+    values-free : (j : ℕ) (cs : List ℕ) → 2 ≤ j → j % 2 ≡ 0 → Each tags t Let j cs
+        → anyOf rec (valuesIn cs) ≡ freeValues (letsOf (tree tags values) cs) (varAt tags values v)
+    unfolding anyOf valuesIn free letsOf kindAt
+    values-free j [] l e f = refl
+    values-free j (a ∷ []) l e f = refl
+    values-free j (a ∷ (u ∷ cs)) l e f =
+        ap₂ _||_ (right-cell u (rw (pair-second OfTerm j l e) at (f .1 .0))) (values-free (suc (suc j)) cs (omega arith) (omega arith) (f .1 .1))
+
     abbrev Right : ℕ → List ℕ → Type 0
     Right k cells = Each tags t (shapeOf k) 0 cells → below values v rec k cells ≡ free (termFrom k cells (sortTree tags values) (tree tags values)) (varAt tags values v)
 
@@ -128,7 +136,7 @@ module _ (tags values : List ℕ) (n : ℕ) (whole : n ≤ length values) (forme
     under-vars b cs f g = under _ _ _ _ (vars-has 2 cs (omega arith) refl g) (right-cell b f)
 
     right-at : (cells : List ℕ) (k : ℕ) → isTermTag k ≡ true → (k ≡ 21 → ⊥) → countFits (shapeOf k) (length cells) ≡ true → Right k cells
-    unfolding below free termFrom shapeOf countFits kindAt pairKind underPairs boundBy letBinds anyOf
+    unfolding below free termFrom shapeOf countFits kindAt pairKind underPairs boundBy letBinds letValues anyOf
     right-at cells k m o c =
         by-term-tag (λ k. (k ≡ 21 → ⊥) → countFits (shapeOf k) (length cells) ≡ true → Right k cells)
         (λ o c f. refl)
@@ -142,7 +150,7 @@ module _ (tags values : List ℕ) (n : ℕ) (whole : n ≤ length values) (forme
         (λ o c. from-two (Right 24) (λ s b cs f. under-vars b cs (f .1 .0) (f .1 .1)) cells (even-rest _ c .0))
         (λ o c. from-two (Right 25) (λ s b cs f. under-vars b cs (f .1 .0) (f .1 .1)) cells (even-rest _ c .0))
         (λ o c. from-two (Right 26) (λ s b cs f. under-vars b cs (f .1 .0) (f .1 .1)) cells (even-rest _ c .0))
-        (λ o c. from-two (Right 27) (λ s b cs f. under _ _ _ _ (lets-has 2 cs (omega arith) refl (f .1 .1)) (right-cell b (f .1 .0))) cells (even-rest _ c .0))
+        (λ o c. from-two (Right 27) (λ s b cs f. ap₂ _||_ (values-free 2 cs (omega arith) refl (f .1 .1)) (under _ _ _ _ (lets-has 2 cs (omega arith) refl (f .1 .1)) (right-cell b (f .1 .0)))) cells (even-rest _ c .0))
         (λ k l m o. right-op cells k l m)
         k (length cells) m c o c
 

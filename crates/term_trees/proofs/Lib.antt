@@ -16,3 +16,4 @@ pub mod WrongSort
 pub mod Free
 pub mod Occurs
 pub mod Passed
+pub mod WithoutLet

@@ -1,6 +1,6 @@
 -- A variable that is free in a term stands in the pool, if the pool passes check 14.
 -- Assumes nothing.
-use Prim.Native.Nat.{ℕ, zero, suc, _≤_, _<_}
+use Prim.Native.Nat.{ℕ, zero, suc, _≤_, _<_, _%_}
 use mathlib.Core.Path.{_≡_, refl}
 use mathlib.Core.Bool.{true, false, not, _&&_}
 use mathlib.Core.List.{List, [], _∷_}
@@ -13,15 +13,15 @@ use Rattle.cells.specs.ByPlace.{by-test}
 use Rattle.headers.specs.WellFormed.{shapeOf, countFits, kindAt, pairKind, valueFits, isTermTag, firstBad}
 use Rattle.term_trees.specs.Term.{Var, Vars, Var-discrete}
 use Rattle.term_trees.specs.Tree.{sortTree, varsOf, termsOf, letsOf, termFrom, tree}
-use Rattle.term_trees.specs.FreeTree.{isYes, same, has, letVars, free, frees, varAt}
+use Rattle.term_trees.specs.FreeTree.{isYes, same, has, letVars, free, frees, freeValues, varAt}
 use Rattle.cells.specs.declared.Found.the-variants.{Nothing}
 use Rattle.headers.specs.declared.well_formed.Shape.{Shape}
-use Rattle.headers.specs.declared.well_formed.Shape.the-variants.{Application, Operator}
+use Rattle.headers.specs.declared.well_formed.Shape.the-variants.{Application, Let, Operator}
 use Rattle.headers.specs.declared.well_formed.CellKind.the-variants.{OfTerm}
 use Rattle.term_trees.proofs.Header.{both, Each, Described, term-cell, term-tagged}
 use Rattle.term_trees.proofs.Walk.{place-described}
 use Rattle.term_trees.proofs.Tags.{shape-op, by-term-tag}
-use Rattle.term_trees.proofs.Parts.{not-first, from-one, from-two}
+use Rattle.term_trees.proofs.Parts.{not-first, pair-second, from-one, from-two}
 use Rattle.term_trees.proofs.Terms.{term-is, term-op, even-rest}
 use Rattle.term_trees.proofs.Stated.{var-is}
 
@@ -61,6 +61,15 @@ module _ (tags values : List ℕ) (n : ℕ) (whole : n ≤ length values) (forme
     under : (us : Vars) (b : ℕ) → valueFits tags t OfTerm b ≡ true → (not (has us v) && free (tree tags values b) v) ≡ true → Found
     under us b f e = in-cell b f (both (not (has us v)) _ e .1)
 
+    -- in a let's values
+    in-values : (j : ℕ) (cs : List ℕ) → 2 ≤ j → j % 2 ≡ 0 → Each tags t Let j cs → freeValues (letsOf (tree tags values) cs) v ≡ true → Found
+    unfolding free letsOf kindAt
+    in-values j [] l p f e = never e
+    in-values j (a ∷ []) l p f e = never e
+    in-values j (a ∷ (u ∷ cs)) l p f e =
+        by-test (free (tree tags values u) v) (λ o. in-cell u (rw (pair-second OfTerm j l p) at (f .1 .0)) o)
+        (λ o. in-values (suc (suc j)) cs (omega arith) (omega arith) (f .1 .1) (rw o at e))
+
     abbrev Occurs : ℕ → List ℕ → Type 0
     Occurs k cells = Each tags t (shapeOf k) 0 cells → free (termFrom k cells (sortTree tags values) (tree tags values)) v ≡ true → Found
 
@@ -90,7 +99,10 @@ module _ (tags values : List ℕ) (n : ℕ) (whole : n ≤ length values) (forme
         (λ o c. from-two (Occurs 24) (λ s b cs f. under (varsOf (sortTree tags values) cs) b (f .1 .0)) cells (even-rest _ c .0))
         (λ o c. from-two (Occurs 25) (λ s b cs f. under (varsOf (sortTree tags values) cs) b (f .1 .0)) cells (even-rest _ c .0))
         (λ o c. from-two (Occurs 26) (λ s b cs f. under (varsOf (sortTree tags values) cs) b (f .1 .0)) cells (even-rest _ c .0))
-        (λ o c. from-two (Occurs 27) (λ s b cs f. under (letVars (letsOf (tree tags values) cs)) b (f .1 .0)) cells (even-rest _ c .0))
+        (λ o c. from-two (Occurs 27)
+        (λ s b cs f e. by-test (freeValues (letsOf (tree tags values) cs) v) (λ y. in-values 2 cs (omega arith) refl (f .1 .1) y)
+        (λ y. under (letVars (letsOf (tree tags values) cs)) b (f .1 .0) (rw y at e)))
+        cells (even-rest _ c .0))
         (λ k l m o. occurs-op cells k l m)
         k (length cells) m c o c
 

@@ -1,6 +1,7 @@
 -- Free variables of a tree.
--- 01, "Sorts and free variables": "a variable is name with sort; binders remove their pairs; a let takes its body's, minus the let's names
--- with their values' sorts." SMT-LIB 2.6, section 3.6, also counts a let's values and shadows by name alone.
+-- 01, "Sorts and free variables": "a variable is name with sort; binders remove their pairs". 02, S-3: "A let's free variables now also
+-- include those free in its values, as SMT-LIB 2.6 has it." SMT-LIB 2.6, 3.6.1: the let is parallel, so that its values stand outside its
+-- names. The names with their values' sorts are taken from the body alone, and of a repeated name every pair; SMT-LIB shadows by name alone.
 -- Rests on Sort, Term and Tree.
 use Prim.Native.Nat.{ℕ, _+_}
 use mathlib.Core.Bool.{Bool, true, false, not, _&&_, _||_}
@@ -37,7 +38,7 @@ unfoldable mutual
   free (app s f ts) v = free f v || frees ts v
   free (quant b s vs t) v = not (has vs v) && free t v
   free (bind k s vs t) v = not (has vs v) && free t v
-  free (letin s ls t) v = not (has (letVars ls) v) && free t v
+  free (letin s ls t) v = freeValues ls v || (not (has (letVars ls) v) && free t v)
   free (op k s ts) v = frees ts v
   free noTerm v = false
 
@@ -45,6 +46,11 @@ unfoldable mutual
   pub frees : Terms → Var → Bool
   frees tnil v = false
   frees (tcons t ts) v = free t v || frees ts v
+
+  -- v is free in one of a let's values
+  pub freeValues : Lets → Var → Bool
+  freeValues lnil v = false
+  freeValues (lcons a t ls) v = free t v || freeValues ls v
 
 -- the variable at the place v: its name and its sort
 unfoldable pub varAt : List ℕ → List ℕ → ℕ → Var

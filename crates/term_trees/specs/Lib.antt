@@ -3,3 +3,5 @@ pub mod Term
 pub mod Tree
 pub mod FreeTree
 pub mod SortTree
+pub mod Lets
+pub mod FreeWithoutLetValues

@@ -33,17 +33,26 @@ operands-requires c κs = search needs
 pairs-bind-requires : tie.Need-pairs-bind-requires
 pairs-bind-requires c κs = search needs
 
-returns-6 : tie.Need-returns-6
-returns-6 c = search looks
-
 cell-requires-2 : tie.Need-cell-requires-2
 cell-requires-2 c κs = search needs
+
+returns-6 : tie.Need-returns-6
+returns-6 c = search looks
 
 returns-7 : tie.Need-returns-7
 returns-7 c = search looks
 
 returns-8 : tie.Need-returns-8
 returns-8 c = search looks
+
+returns-9 : tie.Need-returns-9
+returns-9 c = search looks
+
+returns-10 : tie.Need-returns-10
+returns-10 c = search looks
+
+returns-11 : tie.Need-returns-11
+returns-11 c = search looks
 
 pub look-spec : {M : Type 1} → statement M
 look-spec =
@@ -59,7 +68,10 @@ look-spec =
     returns-5
     operands-requires
     pairs-bind-requires
-    returns-6
     cell-requires-2
+    returns-6
     returns-7
-    returns-8)
+    returns-8
+    returns-9
+    returns-10
+    returns-11)
