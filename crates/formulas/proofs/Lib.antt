@@ -9,3 +9,5 @@ pub mod FormTree
 pub mod Operands
 pub mod FormFits
 pub mod SameTree
+pub mod OneValue
+pub mod Structures

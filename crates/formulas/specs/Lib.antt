@@ -7,3 +7,4 @@ pub mod Totals
 pub mod TruthCases
 pub mod Mapped
 pub mod Built
+pub mod Values
