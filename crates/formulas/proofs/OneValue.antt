@@ -8,8 +8,8 @@ use Rattle.term_trees.specs.Sort.{Sort}
 use Rattle.term_trees.specs.Term.{Var, Vars, Term, Terms, Lets, stated, const, bitVector, var, app, quant, bind, letin, op, noTerm, tnil, tcons, lnil, lcons}
 use Rattle.term_trees.specs.FreeTree.{same, has, letVars, free, frees, freeValues}
 use Rattle.formulas.specs.Truth.{Assignment, Reading, Local, assign}
-use Rattle.formulas.proofs.Over.{bool-cases, andOr-intro, or-left, or-right, same-eq, same-not, same-refl, assign-same, assign-other}
 use Rattle.formulas.specs.Values.{Valuation, taking, naming, OneValue, Compositional, FromValues}
+use Rattle.formulas.proofs.Over.{bool-cases, andOr-intro, or-left, or-right, same-eq, same-not, same-refl, assign-same, assign-other}
 
 module _ (Value : Sort → Type 0) where
   abbrev A : Type 0

@@ -9,7 +9,7 @@ use lib.Seq.{drop-cons, take-all, getD-set-other}
 use lib.Dec.{ltb, eqb}
 use native.Mathlib.Omega.{arith}
 use native.Mathlib.Numerals.{add-one}
-use borrow.Author.Tests.{lt-ltb, le-ltb, eq-eqb, ne-eqb, eqb-true, eqb-false, ltb-true, ltb-false}
+use borrow.Author.Tests.{lt-ltb, le-ltb, eq-eqb, ne-eqb, eqb-true, eqb-false, ltb-true}
 use Rattle.cells.specs.Cell.{sortOf, operandsOf}
 use Rattle.cells.specs.ByPlace.{by-test, downTo, byPlace, byPlace-is}
 use Rattle.marks.specs.Marks.{Noted}

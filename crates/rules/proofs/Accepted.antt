@@ -3,8 +3,8 @@
 --     step-follows       so an answer 0 of `check`
 -- Assumes what demand 3 does: for rule 3, no variable taken out is free in the left quantified formula.
 use Prim.Native.Nat.{ℕ, suc}
-use mathlib.Core.Path.{_≡_, refl, sym, ap, _∙_}
-use mathlib.Core.Bool.{Bool, true, false, cond}
+use mathlib.Core.Path.{_≡_, sym, ap, _∙_}
+use mathlib.Core.Bool.{true}
 use mathlib.Core.List.{List}
 use lib.ListN.{length, getD}
 use lib.Dec.{eqb}
@@ -17,7 +17,7 @@ use Rattle.term_trees.specs.Tree.{tree}
 use Rattle.answers.specs.declared.Answer.{Answer}
 use Rattle.term_trees.proofs.Passed.{Passed, pool-passes, pool-accepts}
 use Rattle.formulas.specs.Truth.{Assignment, Reading, Local, True}
-use Rattle.quantifiers.specs.Outcome.{pass, answerOf}
+use Rattle.quantifiers.specs.Outcome.{pass}
 use Rattle.joining.proofs.sound.QntJoin.{qnt-join-sound}
 use Rattle.removing.proofs.sound.QntRmUnused.{qnt-rm-unused-sound}
 use Rattle.clausification.proofs.sound.QntCnf.{qnt-cnf-sound}
@@ -26,8 +26,8 @@ use Rattle.miniscoping.proofs.sound.MiniscopeSplit.{miniscope-split-sound}
 use Rattle.miniscoping.proofs.sound.MiniscopeIte.{miniscope-ite-sound}
 use Rattle.clausification.specs.NoCapture.{NoCapture}
 use Rattle.rules.specs.Step.{isRule, ruleOutcome, stepAnswer, Follows}
-use Rattle.rules.proofs.Codes.{rule-codes, accepted}
 use Rattle.rules.specs.Premises.{numbered}
+use Rattle.rules.proofs.Codes.{rule-codes, accepted}
 
 module _ {tags values table : List ℕ} {n : ℕ} (c : Passed tags values table n) (x : ℕ) (t : isTerm tags n x ≡ true) where
   pub rule-sound : (rule : ℕ) → ruleOutcome tags values n rule x ≡ pass tt → (rule ≡ 3 → NoCapture (tree tags values x))

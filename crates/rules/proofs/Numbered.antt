@@ -5,7 +5,7 @@
 use Prim.Native.Nat.{zero, suc, Fin, zero-le, suc-le-suc}
 use mathlib.Core.Path.{_≡_, refl, sym, ap, _∙_, fun-ext}
 use mathlib.Core.Bool.{Bool, true}
-use mathlib.Core.List.{List, [], _∷_, List·Memᴰ, List·Memᴰ·head, List·Memᴰ·tail}
+use mathlib.Core.List.{List, _∷_, List·Memᴰ, List·Memᴰ·head, List·Memᴰ·tail}
 use native.Mathlib.Decide.{Fin·succ}
 use lib.ListN.{length, getD}
 use Rattle.term_trees.specs.Sort.{Sort}

@@ -192,7 +192,8 @@ mask-of-term-mask-of-run-requires t c κs = search needs
 
 mask-of-term-note-mask-requires-4 : (t : ℕ) → mask-of-term-lts.Need-note-mask-requires-4 (mask-of-term-calls t) (mask-of-term-at t) mask-of-term.Post
 mask-of-term-note-mask-requires-4 t c κs =
-    among-room (c .before .before .before .before .before .before .before .before .before .before .before .before .before .before .before .before .before .args .list .now) (c .before .before .before .before .before .before .before .before .before .before .before .before .before .before .before .before .before .pre .1 .0) _ _ _ _ _ _ _ (c .before .before .before .mask-of-run .ensures)
+    let start = c .before .before .before .before .before .before .before .before .before .before .before .before .before .before .before .before .before in
+    among-room (start .args .list .now) (start .pre .1 .0) _ _ _ _ _ _ _ (c .before .before .before .mask-of-run .ensures)
 
 mask-of-term-enum-told-4 : (t : ℕ) → mask-of-term-lts.Need-enum-told-4 (mask-of-term-calls t) (mask-of-term-at t) mask-of-term.Post
 mask-of-term-enum-told-4 t c = search needs
