@@ -4,13 +4,12 @@
 -- Assumes what demand 3 does.
 use Prim.Native.Nat.{ℕ}
 use mathlib.Core.Path.{_≡_, refl}
-use mathlib.Core.Bool.{true, false}
+use mathlib.Core.Bool.{true}
 use mathlib.Core.List.{List, [], _∷_}
 use Rattle.sort_rules.specs.Table.{builtIn}
 use Rattle.term_trees.specs.Term.{Term}
-use Rattle.formulas.specs.Truth.{Assignment, Reading, True}
+use Rattle.formulas.specs.Truth.{Assignment, Reading, Local, True}
 use Rattle.clausification.specs.NoCapture.{NoCapture}
-use Rattle.rules.specs.Premises.{holdsLet, LocalWithoutLet}
 use Rattle.rules.specs.Step.{conclusionTerm}
 use Rattle.rules.proofs.Accepted.{step-follows}
 use Rattle.rules.proofs.Numbered.{every-reading}
@@ -26,6 +25,6 @@ module _ (bytes : List ℕ) where
   conclusionOf j = conclusionTerm (fileTags bytes) (fileValues bytes) builtIn (cellCount bytes) (ruleOf bytes j) (placeOf bytes j ∷ [])
 
   pub accepted-step-true : {out out′ : List ℕ} {r : ℕ} → Answered bytes out r out′ → (j : ℕ) → answerTo bytes j .code ≡ 0
-      → holdsLet (conclusionOf j) ≡ false → (ruleOf bytes j ≡ 3 → NoCapture (conclusionOf j))
-      → (R : Reading) → LocalWithoutLet R → (ρ : Assignment (R .Value)) → True R (conclusionOf j) ρ ≡ true
-  accepted-step-true a j e none premise R local ρ = every-reading (conclusionOf j) (a .follows j e none premise) R local ρ
+      → (ruleOf bytes j ≡ 3 → NoCapture (conclusionOf j))
+      → (R : Reading) → Local R → (ρ : Assignment (R .Value)) → True R (conclusionOf j) ρ ≡ true
+  accepted-step-true a j e premise R local ρ = every-reading (conclusionOf j) (a .follows j e premise) R local ρ
