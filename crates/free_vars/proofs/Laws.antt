@@ -280,8 +280,6 @@ module _ (tags values : List ℕ) (v t : ℕ) (run : List ℕ) where
           → Answered tags values v memo′ s (anyOf (freeBelow tags values v t) (letValues run))
       values-on e memo′ s b = record { is = rw (value-is, below-is tags values v t (getD run 2 0) h, ← a .is, e) (b .is); right = b .right }
 
-pub ruleset walks = (step-yes, step-no, step-body, step-run, step-values, let-found, let-on, noted, run-end, run-skip, run-found, run-on, values-end, values-skip, values-found, values-on)
-
 -- ---- a fresh memo
 pub fresh : (tags values : List ℕ) (v k : ℕ) → Right tags values v (replicate k 0)
 fresh tags values v k = record { at = λ u e. absurd (omega (arith, zeros k u)) }

@@ -1,7 +1,8 @@
+use mathlib.Core.Path.{_∙_}
 use borrow.Author.Needs.{needs}
 use native.Mathlib.Omega.{arith}
 use lib.ListN.{length}
-use Rattle.free_vars.proofs.Laws.{walks, noted, let-on, step-below, let-below}
+use Rattle.free_vars.proofs.Laws.{noted, step-yes, step-no, step-body, step-run, step-values, step-below, let-found, let-on, let-below, run-end, run-skip, run-found, run-on, values-end, values-skip, values-found, values-on}
 use Prim.Native.Nat.{ℕ, _<_, _*_, _+_, _^_}
 use borrow.Fn.Kinds.{In}
 use borrow.Fn.PlainCycle.{Measures, is, falls, and}
@@ -147,10 +148,10 @@ compute-free-vars-values-free-vars-requires-2 :
 compute-free-vars-values-free-vars-requires-2 t c κs = search needs
 
 compute-free-vars-same-length : (t : ℕ) → compute-free-vars-lts.Need-same-length (compute-free-vars-calls t) (compute-free-vars-at t) compute-free-vars.Post
-compute-free-vars-same-length t c = cc
+compute-free-vars-same-length t c = c .before .before .memo8 .given
 
 compute-free-vars-returns : (t : ℕ) → compute-free-vars-lts.Need-returns (compute-free-vars-calls t) (compute-free-vars-at t) compute-free-vars.Post
-compute-free-vars-returns t c = search walks
+compute-free-vars-returns t c = search let-found
 
 compute-free-vars-compute-free-vars-requires-2 :
     (t : ℕ) → compute-free-vars-lts.Need-compute-free-vars-requires-2 (compute-free-vars-calls t) (compute-free-vars-at t) compute-free-vars.Post
@@ -163,37 +164,50 @@ compute-free-vars-note-no-requires-5 : (t : ℕ) → compute-free-vars-lts.Need-
 compute-free-vars-note-no-requires-5 t c κs = search needs
 
 compute-free-vars-same-length-2 : (t : ℕ) → compute-free-vars-lts.Need-same-length-2 (compute-free-vars-calls t) (compute-free-vars-at t) compute-free-vars.Post
-compute-free-vars-same-length-2 t c = cc
+compute-free-vars-same-length-2 t c = search needs
 
 compute-free-vars-returns-2 : (t : ℕ) → compute-free-vars-lts.Need-returns-2 (compute-free-vars-calls t) (compute-free-vars-at t) compute-free-vars.Post
-compute-free-vars-returns-2 t c = search walks
+compute-free-vars-returns-2 t c = search step-yes
 
 compute-free-vars-same-length-3 : (t : ℕ) → compute-free-vars-lts.Need-same-length-3 (compute-free-vars-calls t) (compute-free-vars-at t) compute-free-vars.Post
-compute-free-vars-same-length-3 t c = cc
+compute-free-vars-same-length-3 t c = c .before .memo .given
 
 compute-free-vars-returns-3 : (t : ℕ) → compute-free-vars-lts.Need-returns-3 (compute-free-vars-calls t) (compute-free-vars-at t) compute-free-vars.Post
-compute-free-vars-returns-3 t c = search walks
+compute-free-vars-returns-3 t c = search (noted, step-no)
 
 compute-free-vars-same-length-4 : (t : ℕ) → compute-free-vars-lts.Need-same-length-4 (compute-free-vars-calls t) (compute-free-vars-at t) compute-free-vars.Post
-compute-free-vars-same-length-4 t c = cc
+compute-free-vars-same-length-4 t c =
+    let at-memo3 = c .before in
+    let at-memo2 = at-memo3 .before .before .before .before in
+    at-memo3 .memo3 .given ∙ at-memo2 .memo2 .given
 
 compute-free-vars-returns-4 : (t : ℕ) → compute-free-vars-lts.Need-returns-4 (compute-free-vars-calls t) (compute-free-vars-at t) compute-free-vars.Post
-compute-free-vars-returns-4 t c = search walks
+compute-free-vars-returns-4 t c = search (noted, step-body)
 
 compute-free-vars-same-length-5 : (t : ℕ) → compute-free-vars-lts.Need-same-length-5 (compute-free-vars-calls t) (compute-free-vars-at t) compute-free-vars.Post
-compute-free-vars-same-length-5 t c = cc
+compute-free-vars-same-length-5 t c =
+    let at-memo5 = c .before in
+    let at-memo4 = at-memo5 .before .before .before .before in
+    at-memo5 .memo5 .given ∙ at-memo4 .memo4 .given
 
 compute-free-vars-returns-5 : (t : ℕ) → compute-free-vars-lts.Need-returns-5 (compute-free-vars-calls t) (compute-free-vars-at t) compute-free-vars.Post
-compute-free-vars-returns-5 t c = search walks
+compute-free-vars-returns-5 t c = search (noted, step-run)
 
 compute-free-vars-same-length-6 : (t : ℕ) → compute-free-vars-lts.Need-same-length-6 (compute-free-vars-calls t) (compute-free-vars-at t) compute-free-vars.Post
-compute-free-vars-same-length-6 t c = cc
+compute-free-vars-same-length-6 t c =
+    let at-memo7 = c .before in
+    let at-memo6 = at-memo7 .before .before .before .before in
+    at-memo7 .memo7 .given ∙ at-memo6 .memo6 .given
 
 compute-free-vars-returns-6 : (t : ℕ) → compute-free-vars-lts.Need-returns-6 (compute-free-vars-calls t) (compute-free-vars-at t) compute-free-vars.Post
-compute-free-vars-returns-6 t c = search walks
+compute-free-vars-returns-6 t c = search (noted, step-values)
 
 compute-free-vars-same-length-7 : (t : ℕ) → compute-free-vars-lts.Need-same-length-7 (compute-free-vars-calls t) (compute-free-vars-at t) compute-free-vars.Post
-compute-free-vars-same-length-7 t c = cc
+compute-free-vars-same-length-7 t c =
+    let at-memo10 = c .before in
+    let at-memo9 = at-memo10 .before .before .before .before in
+    let at-memo8 = at-memo9 .before .before .before .before .before in
+    at-memo10 .memo10 .given ∙ (at-memo9 .memo9 .given ∙ at-memo8 .memo8 .given)
 
 compute-free-vars-returns-7 : (t : ℕ) → compute-free-vars-lts.Need-returns-7 (compute-free-vars-calls t) (compute-free-vars-at t) compute-free-vars.Post
 compute-free-vars-returns-7 t c =
@@ -202,7 +216,7 @@ compute-free-vars-returns-7 t c =
     search (noted, on)
 
 run-free-vars-returns : (t : ℕ) → run-free-vars-lts.Need-returns (run-free-vars-calls t) (run-free-vars-at t) run-free-vars.Post
-run-free-vars-returns t c = search walks
+run-free-vars-returns t c = search run-end
 
 run-free-vars-shared-slice-read-u : (t : ℕ) → run-free-vars-lts.Need-shared-slice-read-u (run-free-vars-calls t) (run-free-vars-at t) run-free-vars.Post
 run-free-vars-shared-slice-read-u t c = search needs
@@ -220,20 +234,20 @@ run-free-vars-run-free-vars-requires : (t : ℕ) → run-free-vars-lts.Need-run-
 run-free-vars-run-free-vars-requires t c κs = search needs
 
 run-free-vars-same-length : (t : ℕ) → run-free-vars-lts.Need-same-length (run-free-vars-calls t) (run-free-vars-at t) run-free-vars.Post
-run-free-vars-same-length t c = cc
+run-free-vars-same-length t c = c .before .memo .given
 
 run-free-vars-returns-2 : (t : ℕ) → run-free-vars-lts.Need-returns-2 (run-free-vars-calls t) (run-free-vars-at t) run-free-vars.Post
-run-free-vars-returns-2 t c = search walks
+run-free-vars-returns-2 t c = search run-skip
 
 run-free-vars-compute-free-vars-requires :
     (t : ℕ) → run-free-vars-lts.Need-compute-free-vars-requires (run-free-vars-calls t) (run-free-vars-at t) run-free-vars.Post
 run-free-vars-compute-free-vars-requires t c κs = search needs
 
 run-free-vars-same-length-2 : (t : ℕ) → run-free-vars-lts.Need-same-length-2 (run-free-vars-calls t) (run-free-vars-at t) run-free-vars.Post
-run-free-vars-same-length-2 t c = cc
+run-free-vars-same-length-2 t c = c .before .before .memo2 .given
 
 run-free-vars-returns-3 : (t : ℕ) → run-free-vars-lts.Need-returns-3 (run-free-vars-calls t) (run-free-vars-at t) run-free-vars.Post
-run-free-vars-returns-3 t c = search walks
+run-free-vars-returns-3 t c = search run-found
 
 run-free-vars-sub-run-free-vars-2 : (t : ℕ) → run-free-vars-lts.Need-sub-run-free-vars-2 (run-free-vars-calls t) (run-free-vars-at t) run-free-vars.Post
 run-free-vars-sub-run-free-vars-2 t c = search needs
@@ -249,13 +263,16 @@ run-free-vars-run-free-vars-requires-2 : (t : ℕ) → run-free-vars-lts.Need-ru
 run-free-vars-run-free-vars-requires-2 t c κs = search needs
 
 run-free-vars-same-length-3 : (t : ℕ) → run-free-vars-lts.Need-same-length-3 (run-free-vars-calls t) (run-free-vars-at t) run-free-vars.Post
-run-free-vars-same-length-3 t c = cc
+run-free-vars-same-length-3 t c =
+    let at-memo3 = c .before in
+    let at-memo2 = at-memo3 .before .before .before .before .before .before in
+    at-memo3 .memo3 .given ∙ at-memo2 .memo2 .given
 
 run-free-vars-returns-4 : (t : ℕ) → run-free-vars-lts.Need-returns-4 (run-free-vars-calls t) (run-free-vars-at t) run-free-vars.Post
-run-free-vars-returns-4 t c = search walks
+run-free-vars-returns-4 t c = search run-on
 
 values-free-vars-returns : (t : ℕ) → values-free-vars-lts.Need-returns (values-free-vars-calls t) (values-free-vars-at t) values-free-vars.Post
-values-free-vars-returns t c = search walks
+values-free-vars-returns t c = search values-end
 
 values-free-vars-shared-slice-read-u : (t : ℕ) → values-free-vars-lts.Need-shared-slice-read-u (values-free-vars-calls t) (values-free-vars-at t) values-free-vars.Post
 values-free-vars-shared-slice-read-u t c = search needs
@@ -276,20 +293,20 @@ values-free-vars-values-free-vars-requires :
 values-free-vars-values-free-vars-requires t c κs = search needs
 
 values-free-vars-same-length : (t : ℕ) → values-free-vars-lts.Need-same-length (values-free-vars-calls t) (values-free-vars-at t) values-free-vars.Post
-values-free-vars-same-length t c = cc
+values-free-vars-same-length t c = c .before .memo .given
 
 values-free-vars-returns-2 : (t : ℕ) → values-free-vars-lts.Need-returns-2 (values-free-vars-calls t) (values-free-vars-at t) values-free-vars.Post
-values-free-vars-returns-2 t c = search walks
+values-free-vars-returns-2 t c = search values-skip
 
 values-free-vars-compute-free-vars-requires :
     (t : ℕ) → values-free-vars-lts.Need-compute-free-vars-requires (values-free-vars-calls t) (values-free-vars-at t) values-free-vars.Post
 values-free-vars-compute-free-vars-requires t c κs = search needs
 
 values-free-vars-same-length-2 : (t : ℕ) → values-free-vars-lts.Need-same-length-2 (values-free-vars-calls t) (values-free-vars-at t) values-free-vars.Post
-values-free-vars-same-length-2 t c = cc
+values-free-vars-same-length-2 t c = c .before .before .memo2 .given
 
 values-free-vars-returns-3 : (t : ℕ) → values-free-vars-lts.Need-returns-3 (values-free-vars-calls t) (values-free-vars-at t) values-free-vars.Post
-values-free-vars-returns-3 t c = search walks
+values-free-vars-returns-3 t c = search values-found
 
 values-free-vars-sub-values-free-vars-2 :
     (t : ℕ) → values-free-vars-lts.Need-sub-values-free-vars-2 (values-free-vars-calls t) (values-free-vars-at t) values-free-vars.Post
@@ -308,10 +325,13 @@ values-free-vars-values-free-vars-requires-2 :
 values-free-vars-values-free-vars-requires-2 t c κs = search needs
 
 values-free-vars-same-length-3 : (t : ℕ) → values-free-vars-lts.Need-same-length-3 (values-free-vars-calls t) (values-free-vars-at t) values-free-vars.Post
-values-free-vars-same-length-3 t c = cc
+values-free-vars-same-length-3 t c =
+    let at-memo3 = c .before in
+    let at-memo2 = at-memo3 .before .before .before .before .before .before in
+    at-memo3 .memo3 .given ∙ at-memo2 .memo2 .given
 
 values-free-vars-returns-4 : (t : ℕ) → values-free-vars-lts.Need-returns-4 (values-free-vars-calls t) (values-free-vars-at t) values-free-vars.Post
-values-free-vars-returns-4 t c = search walks
+values-free-vars-returns-4 t c = search values-on
 
 pub +compute-free-vars+run-free-vars+values-free-vars-spec : {M : Type 1} → statement M
 +compute-free-vars+run-free-vars+values-free-vars-spec =
