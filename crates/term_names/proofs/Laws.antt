@@ -308,8 +308,6 @@ module _ (tags values : List ℕ) (t : ℕ) (run : List ℕ) where
         → Walked tags values names seen′ names″ (freeAmong tags values t (letValues run))
     values-on = go-on tags values t (getD run 2 0) (letValues run) _ (λ v. first-value _ run some)
 
-pub ruleset walks = (walk-seen, walk-nothing, walk-variable, walk-body, walk-run, walk-values, walk-let, run-end, run-skip, run-on, values-end, values-skip, values-on)
-
 -- ---- the whole walk, from a fresh memo
 pub fresh : (tags values names : List ℕ) (k : ℕ) → Right tags values (replicate k 0) names
 fresh tags values names k = record { at = λ u e. absurd (omega (arith, zeros k u)) }

@@ -1,7 +1,8 @@
+use mathlib.Core.Path.{_∙_}
 use borrow.Author.Needs.{needs}
 use native.Mathlib.Omega.{arith}
 use lib.ListN.{length}
-use Rattle.term_names.proofs.Laws.{walks, walk-run, walk-values, walk-let, body-below, let-below}
+use Rattle.term_names.proofs.Laws.{walk-seen, walk-nothing, walk-variable, walk-body, walk-run, walk-values, walk-let, body-below, let-below, run-end, run-skip, run-on, values-end, values-skip, values-on}
 use Prim.Native.Nat.{ℕ, _<_, _*_, _+_, _^_}
 use borrow.Fn.Kinds.{In}
 use borrow.Fn.PlainCycle.{Measures, is, falls, and}
@@ -84,7 +85,7 @@ abbrev names-of-values-calls : ℕ → names-of-values-lts.Claims
 names-of-values-calls t = (names-of-values-below t, names-of-values.Post, names-of-term-below t, names-of-term.Post)
 
 names-of-run-returns : (t : ℕ) → names-of-run-lts.Need-returns (names-of-run-calls t) (names-of-run-at t) names-of-run.Post
-names-of-run-returns t c = search walks
+names-of-run-returns t c = search run-end
 
 names-of-run-shared-slice-read-u : (t : ℕ) → names-of-run-lts.Need-shared-slice-read-u (names-of-run-calls t) (names-of-run-at t) names-of-run.Post
 names-of-run-shared-slice-read-u t c = search needs
@@ -102,13 +103,13 @@ names-of-run-names-of-run-requires : (t : ℕ) → names-of-run-lts.Need-names-o
 names-of-run-names-of-run-requires t c κs = search needs
 
 names-of-run-same-length : (t : ℕ) → names-of-run-lts.Need-same-length (names-of-run-calls t) (names-of-run-at t) names-of-run.Post
-names-of-run-same-length t c = cc
+names-of-run-same-length t c = c .before .before .before .seen .given
 
 names-of-run-same-length-2 : (t : ℕ) → names-of-run-lts.Need-same-length-2 (names-of-run-calls t) (names-of-run-at t) names-of-run.Post
-names-of-run-same-length-2 t c = cc
+names-of-run-same-length-2 t c = c .before .names .given
 
 names-of-run-returns-2 : (t : ℕ) → names-of-run-lts.Need-returns-2 (names-of-run-calls t) (names-of-run-at t) names-of-run.Post
-names-of-run-returns-2 t c = search walks
+names-of-run-returns-2 t c = search run-skip
 
 names-of-run-names-of-term-requires : (t : ℕ) → names-of-run-lts.Need-names-of-term-requires (names-of-run-calls t) (names-of-run-at t) names-of-run.Post
 names-of-run-names-of-term-requires t c κs = search needs
@@ -126,22 +127,28 @@ names-of-run-names-of-run-requires-2 : (t : ℕ) → names-of-run-lts.Need-names
 names-of-run-names-of-run-requires-2 t c κs = search needs
 
 names-of-run-same-length-3 : (t : ℕ) → names-of-run-lts.Need-same-length-3 (names-of-run-calls t) (names-of-run-at t) names-of-run.Post
-names-of-run-same-length-3 t c = cc
+names-of-run-same-length-3 t c =
+    let at-seen3 = c .before .before .before in
+    let at-seen2 = at-seen3 .before .before .before .before .before .before .before .before in
+    at-seen3 .seen3 .given ∙ at-seen2 .seen2 .given
 
 names-of-run-same-length-4 : (t : ℕ) → names-of-run-lts.Need-same-length-4 (names-of-run-calls t) (names-of-run-at t) names-of-run.Post
-names-of-run-same-length-4 t c = cc
+names-of-run-same-length-4 t c =
+    let at-names3 = c .before in
+    let at-names2 = at-names3 .before .before .before .before .before .before .before .before in
+    at-names3 .names3 .given ∙ at-names2 .names2 .given
 
 names-of-run-returns-3 : (t : ℕ) → names-of-run-lts.Need-returns-3 (names-of-run-calls t) (names-of-run-at t) names-of-run.Post
-names-of-run-returns-3 t c = search walks
+names-of-run-returns-3 t c = search run-on
 
 names-of-term-mark-at-requires : (t : ℕ) → names-of-term-lts.Need-mark-at-requires (names-of-term-calls t) (names-of-term-at t) names-of-term.Post
 names-of-term-mark-at-requires t c κs = search needs
 
 names-of-term-same-length : (t : ℕ) → names-of-term-lts.Need-same-length (names-of-term-calls t) (names-of-term-at t) names-of-term.Post
-names-of-term-same-length t c = cc
+names-of-term-same-length t c = search needs
 
 names-of-term-returns : (t : ℕ) → names-of-term-lts.Need-returns (names-of-term-calls t) (names-of-term-at t) names-of-term.Post
-names-of-term-returns t c = search walks
+names-of-term-returns t c = search walk-seen
 
 names-of-term-below-at-requires : (t : ℕ) → names-of-term-lts.Need-below-at-requires (names-of-term-calls t) (names-of-term-at t) names-of-term.Post
 names-of-term-below-at-requires t c κs = search needs
@@ -216,34 +223,40 @@ names-of-term-set-mark-requires-6 : (t : ℕ) → names-of-term-lts.Need-set-mar
 names-of-term-set-mark-requires-6 t c κs = search needs
 
 names-of-term-same-length-2 : (t : ℕ) → names-of-term-lts.Need-same-length-2 (names-of-term-calls t) (names-of-term-at t) names-of-term.Post
-names-of-term-same-length-2 t c = cc
+names-of-term-same-length-2 t c = c .before .seen .given
 
 names-of-term-returns-2 : (t : ℕ) → names-of-term-lts.Need-returns-2 (names-of-term-calls t) (names-of-term-at t) names-of-term.Post
-names-of-term-returns-2 t c = search walks
+names-of-term-returns-2 t c = search walk-nothing
 
 names-of-term-same-length-3 : (t : ℕ) → names-of-term-lts.Need-same-length-3 (names-of-term-calls t) (names-of-term-at t) names-of-term.Post
-names-of-term-same-length-3 t c = cc
+names-of-term-same-length-3 t c = c .before .seen2 .given
 
 names-of-term-same-length-4 : (t : ℕ) → names-of-term-lts.Need-same-length-4 (names-of-term-calls t) (names-of-term-at t) names-of-term.Post
-names-of-term-same-length-4 t c = cc
+names-of-term-same-length-4 t c = c .before .before .before .before .before .names .given
 
 names-of-term-returns-3 : (t : ℕ) → names-of-term-lts.Need-returns-3 (names-of-term-calls t) (names-of-term-at t) names-of-term.Post
-names-of-term-returns-3 t c = search walks
+names-of-term-returns-3 t c = search walk-variable
 
 names-of-term-same-length-5 : (t : ℕ) → names-of-term-lts.Need-same-length-5 (names-of-term-calls t) (names-of-term-at t) names-of-term.Post
-names-of-term-same-length-5 t c = cc
+names-of-term-same-length-5 t c =
+    let at-seen4 = c .before in
+    let at-seen3 = at-seen4 .before .before .before .before .before .before in
+    at-seen4 .seen4 .given ∙ at-seen3 .seen3 .given
 
 names-of-term-same-length-6 : (t : ℕ) → names-of-term-lts.Need-same-length-6 (names-of-term-calls t) (names-of-term-at t) names-of-term.Post
-names-of-term-same-length-6 t c = cc
+names-of-term-same-length-6 t c = c .before .before .before .before .before .names2 .given
 
 names-of-term-returns-4 : (t : ℕ) → names-of-term-lts.Need-returns-4 (names-of-term-calls t) (names-of-term-at t) names-of-term.Post
-names-of-term-returns-4 t c = search walks
+names-of-term-returns-4 t c = search walk-body
 
 names-of-term-same-length-7 : (t : ℕ) → names-of-term-lts.Need-same-length-7 (names-of-term-calls t) (names-of-term-at t) names-of-term.Post
-names-of-term-same-length-7 t c = cc
+names-of-term-same-length-7 t c =
+    let at-seen6 = c .before in
+    let at-seen5 = at-seen6 .before .before .before .before .before .before in
+    at-seen6 .seen6 .given ∙ at-seen5 .seen5 .given
 
 names-of-term-same-length-8 : (t : ℕ) → names-of-term-lts.Need-same-length-8 (names-of-term-calls t) (names-of-term-at t) names-of-term.Post
-names-of-term-same-length-8 t c = cc
+names-of-term-same-length-8 t c = c .before .before .before .before .before .names3 .given
 
 names-of-term-returns-5 : (t : ℕ) → names-of-term-lts.Need-returns-5 (names-of-term-calls t) (names-of-term-at t) names-of-term.Post
 names-of-term-returns-5 t c =
@@ -252,10 +265,13 @@ names-of-term-returns-5 t c =
     walk-run _ _ _ _ (at-told .before .before .below-at .ensures) _ _ _ (at-told .enum-told3 .given .1) _ (at-run .before .operands .ensures) (at-run .names-of-run .ensures) _ (c .before .before .set-mark4 .ensures)
 
 names-of-term-same-length-9 : (t : ℕ) → names-of-term-lts.Need-same-length-9 (names-of-term-calls t) (names-of-term-at t) names-of-term.Post
-names-of-term-same-length-9 t c = cc
+names-of-term-same-length-9 t c =
+    let at-seen8 = c .before in
+    let at-seen7 = at-seen8 .before .before .before .before .before .before in
+    at-seen8 .seen8 .given ∙ at-seen7 .seen7 .given
 
 names-of-term-same-length-10 : (t : ℕ) → names-of-term-lts.Need-same-length-10 (names-of-term-calls t) (names-of-term-at t) names-of-term.Post
-names-of-term-same-length-10 t c = cc
+names-of-term-same-length-10 t c = c .before .before .before .before .before .names4 .given
 
 names-of-term-returns-6 : (t : ℕ) → names-of-term-lts.Need-returns-6 (names-of-term-calls t) (names-of-term-at t) names-of-term.Post
 names-of-term-returns-6 t c =
@@ -264,10 +280,17 @@ names-of-term-returns-6 t c =
     walk-values _ _ _ _ (at-told .before .before .below-at .ensures) _ _ _ (at-told .enum-told4 .given .1) _ (at-run .before .operands2 .ensures) (at-run .names-of-values .ensures) _ (c .before .before .set-mark5 .ensures)
 
 names-of-term-same-length-11 : (t : ℕ) → names-of-term-lts.Need-same-length-11 (names-of-term-calls t) (names-of-term-at t) names-of-term.Post
-names-of-term-same-length-11 t c = cc
+names-of-term-same-length-11 t c =
+    let at-seen11 = c .before in
+    let at-seen10 = at-seen11 .before .before .before .before .before .before in
+    let at-seen9 = at-seen10 .before .before .before .before .before .before .before in
+    at-seen11 .seen11 .given ∙ (at-seen10 .seen10 .given ∙ at-seen9 .seen9 .given)
 
 names-of-term-same-length-12 : (t : ℕ) → names-of-term-lts.Need-same-length-12 (names-of-term-calls t) (names-of-term-at t) names-of-term.Post
-names-of-term-same-length-12 t c = cc
+names-of-term-same-length-12 t c =
+    let at-names6 = c .before .before .before .before .before in
+    let at-names5 = at-names6 .before .before .before .before .before .before .before in
+    at-names6 .names6 .given ∙ at-names5 .names5 .given
 
 names-of-term-returns-7 : (t : ℕ) → names-of-term-lts.Need-returns-7 (names-of-term-calls t) (names-of-term-at t) names-of-term.Post
 names-of-term-returns-7 t c =
@@ -278,7 +301,7 @@ names-of-term-returns-7 t c =
     _ _ (at-term .names-of-term2 .ensures) _ (c .before .before .set-mark6 .ensures)
 
 names-of-values-returns : (t : ℕ) → names-of-values-lts.Need-returns (names-of-values-calls t) (names-of-values-at t) names-of-values.Post
-names-of-values-returns t c = search walks
+names-of-values-returns t c = search values-end
 
 names-of-values-shared-slice-read-u : (t : ℕ) → names-of-values-lts.Need-shared-slice-read-u (names-of-values-calls t) (names-of-values-at t) names-of-values.Post
 names-of-values-shared-slice-read-u t c = search needs
@@ -299,13 +322,13 @@ names-of-values-names-of-values-requires :
 names-of-values-names-of-values-requires t c κs = search needs
 
 names-of-values-same-length : (t : ℕ) → names-of-values-lts.Need-same-length (names-of-values-calls t) (names-of-values-at t) names-of-values.Post
-names-of-values-same-length t c = cc
+names-of-values-same-length t c = c .before .before .before .seen .given
 
 names-of-values-same-length-2 : (t : ℕ) → names-of-values-lts.Need-same-length-2 (names-of-values-calls t) (names-of-values-at t) names-of-values.Post
-names-of-values-same-length-2 t c = cc
+names-of-values-same-length-2 t c = c .before .names .given
 
 names-of-values-returns-2 : (t : ℕ) → names-of-values-lts.Need-returns-2 (names-of-values-calls t) (names-of-values-at t) names-of-values.Post
-names-of-values-returns-2 t c = search walks
+names-of-values-returns-2 t c = search values-skip
 
 names-of-values-names-of-term-requires : (t : ℕ) → names-of-values-lts.Need-names-of-term-requires (names-of-values-calls t) (names-of-values-at t) names-of-values.Post
 names-of-values-names-of-term-requires t c κs = search needs
@@ -326,13 +349,19 @@ names-of-values-names-of-values-requires-2 :
 names-of-values-names-of-values-requires-2 t c κs = search needs
 
 names-of-values-same-length-3 : (t : ℕ) → names-of-values-lts.Need-same-length-3 (names-of-values-calls t) (names-of-values-at t) names-of-values.Post
-names-of-values-same-length-3 t c = cc
+names-of-values-same-length-3 t c =
+    let at-seen3 = c .before .before .before in
+    let at-seen2 = at-seen3 .before .before .before .before .before .before .before .before in
+    at-seen3 .seen3 .given ∙ at-seen2 .seen2 .given
 
 names-of-values-same-length-4 : (t : ℕ) → names-of-values-lts.Need-same-length-4 (names-of-values-calls t) (names-of-values-at t) names-of-values.Post
-names-of-values-same-length-4 t c = cc
+names-of-values-same-length-4 t c =
+    let at-names3 = c .before in
+    let at-names2 = at-names3 .before .before .before .before .before .before .before .before in
+    at-names3 .names3 .given ∙ at-names2 .names2 .given
 
 names-of-values-returns-3 : (t : ℕ) → names-of-values-lts.Need-returns-3 (names-of-values-calls t) (names-of-values-at t) names-of-values.Post
-names-of-values-returns-3 t c = search walks
+names-of-values-returns-3 t c = search values-on
 
 pub +names-of-run+names-of-term+names-of-values-spec : {M : Type 1} → statement M
 +names-of-run+names-of-term+names-of-values-spec =
