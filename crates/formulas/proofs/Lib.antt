@@ -1,6 +1,8 @@
 pub mod Over
 pub mod Leaves
 pub mod NormalTruth
+pub mod TruthAlong
+pub mod Numbered
 pub mod Totals
 pub mod Coincide
 pub mod ClauseTruth

@@ -3,6 +3,7 @@ pub mod Normal
 pub mod Clauses
 pub mod Skeleton
 pub mod Truth
+pub mod Numbered
 pub mod Totals
 pub mod TruthCases
 pub mod Mapped

@@ -16,6 +16,7 @@ use Rattle.pool_checks.specs.Check.{andThen, checkPool}
 use Rattle.term_trees.specs.Tree.{tree}
 use Rattle.answers.specs.declared.Answer.{Answer}
 use Rattle.term_trees.proofs.Passed.{Passed, pool-passes, pool-accepts}
+use Rattle.formulas.specs.Numbered.{numbered}
 use Rattle.formulas.specs.Truth.{Assignment, Reading, Local, True}
 use Rattle.quantifiers.specs.Outcome.{pass}
 use Rattle.joining.proofs.sound.QntJoin.{qnt-join-sound}
@@ -26,7 +27,6 @@ use Rattle.miniscoping.proofs.sound.MiniscopeSplit.{miniscope-split-sound}
 use Rattle.miniscoping.proofs.sound.MiniscopeIte.{miniscope-ite-sound}
 use Rattle.clausification.specs.NoCapture.{NoCapture}
 use Rattle.rules.specs.Step.{isRule, ruleOutcome, stepAnswer, Follows}
-use Rattle.rules.specs.Premises.{numbered}
 use Rattle.rules.proofs.Codes.{rule-codes, accepted}
 
 module _ {tags values table : List ℕ} {n : ℕ} (c : Passed tags values table n) (x : ℕ) (t : isTerm tags n x ≡ true) where

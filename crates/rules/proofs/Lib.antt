@@ -1,4 +1,3 @@
-pub mod TruthAlong
 pub mod Numbered
 pub mod Codes
 pub mod Accepted

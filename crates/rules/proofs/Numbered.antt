@@ -1,82 +1,18 @@
--- Readings whose values are numbers are enough: what is true in all of them is true in every reading. Each value stands in the list of its
--- sort's values, and its number is its position there.
---     every-reading     that
+-- Readings whose values are numbers are enough: what is true in all of them is true in every reading.
+--     every-reading     the converse of TrueInReadings
 -- Assumes nothing.
-use Prim.Native.Nat.{zero, suc, Fin, zero-le, suc-le-suc}
-use mathlib.Core.Path.{_≡_, refl, sym, ap, _∙_, fun-ext}
-use mathlib.Core.Bool.{Bool, true}
-use mathlib.Core.List.{List, _∷_, List·Memᴰ, List·Memᴰ·head, List·Memᴰ·tail}
-use native.Mathlib.Decide.{Fin·succ}
-use lib.ListN.{length, getD}
-use Rattle.term_trees.specs.Sort.{Sort}
-use Rattle.term_trees.specs.Term.{Var, Vars, Term}
-use Rattle.term_trees.specs.FreeTree.{has}
-use Rattle.formulas.specs.Skeleton.{skeleton, IsOpaque}
-use Rattle.formulas.specs.Truth.{Assignment, Reading, Local, over, True}
-use Rattle.formulas.proofs.Over.{bool-cases, same-at, Within, mix, mix-in, mix-out, over-elim, over-intro}
-use Rattle.formulas.proofs.Leaves.{skeleton-leaves}
-use Rattle.rules.specs.Premises.{Numbers, numbered, TrueInReadings}
-use Rattle.rules.proofs.TruthAlong.{truth-along}
-
--- a position at which a member stands
-position : {A : Type 0} {x : A} {xs : List A} (d : A) → List·Memᴰ x xs → (i : Fin (suc (length xs))) × (getD xs (i .0) d ≡ x)
-position {xs = y ∷ ys} d (List·Memᴰ·head e) = ((zero, suc-le-suc zero-le), sym e)
-position {xs = y ∷ ys} d (List·Memᴰ·tail m) = let r = position d m in (Fin·succ (r .0), r .1)
+use mathlib.Core.Path.{_≡_, sym, ap, _∙_}
+use mathlib.Core.Bool.{true}
+use Rattle.term_trees.specs.Term.{Term}
+use Rattle.formulas.specs.Truth.{Assignment, Reading, Local, True}
+use Rattle.formulas.proofs.Numbered.{at, read, numbers, N, code, numbers-true, start-read}
+use Rattle.rules.specs.Premises.{TrueInReadings}
 
 module _ (R : Reading) (start : Assignment (R .Value)) where
-  -- the sort's value that stands at a number; past the list, a value that the assignment `start` gives
-  abbrev some : (s : Sort) → R .Value s
-  some s = start (record { name = 0; sort = s })
-
-  abbrev at : (s : Sort) → Fin (suc (length (R .values s))) → R .Value s
-  at s i = getD (R .values s) (i .0) (some s)
-
-  abbrev read : ((v : Var) → Fin (suc (length (R .values (v .sort))))) → Assignment (R .Value)
-  read ρ v = at (v .sort) (ρ v)
-
-  abbrev numbers : Numbers
-  numbers = record { most = λ s. length (R .values s); opaque-truth = λ t ρ. R .opaque-truth t (read ρ) }
-
-  abbrev N : Reading
-  N = numbered numbers
-
-  abbrev A : Type 0
-  A = Assignment (N .Value)
-
-  -- the numbers of an assignment's values
-  code : Assignment (R .Value) → A
-  code ρ v = position (some (v .sort)) (R .listed (v .sort) (ρ v)) .0
-
-  read-code : (ρ : Assignment (R .Value)) (v : Var) → read (code ρ) v ≡ ρ v
-  unfolding code
-  read-code ρ v = position (some (v .sort)) (R .listed (v .sort) (ρ v)) .1
-
-  numbers-local : Local R → Local N
-  numbers-local local t o ρ σ h = local t o (read ρ) (read σ) (λ v q. ap (at (v .sort)) (h v q))
-
-  -- σ, which differs from what ρ is read as in vs alone, is read from its own numbers in vs and those of ρ elsewhere
-  read-mix : (vs : Vars) (ρ : A) (σ : Assignment (R .Value)) → Within (R .Value) vs (read ρ) σ
-      → (v : Var) → read (mix (N .Value) vs (code σ) ρ) v ≡ σ v
-  read-mix vs ρ σ w v =
-      bool-cases (has vs v)
-      (λ q. ap (at (v .sort)) (mix-in (N .Value) vs (code σ) ρ v q) ∙ read-code σ v)
-      (λ q. ap (at (v .sort)) (mix-out (N .Value) vs (code σ) ρ v q) ∙ sym (w v q))
-
-  numbers-over : (b : Bool) (vs : Vars) (p : Assignment (R .Value) → Bool) (ρ : A)
-      → over N b vs (λ σ. p (read σ)) ρ ≡ over R b vs p (read ρ)
-  numbers-over b vs p ρ =
-      same-at b _ _
-      (λ e. over-intro R b vs p (read ρ)
-      (λ σ w. sym (ap p (fun-ext (read-mix vs ρ σ w)))
-      ∙ over-elim N b vs (λ τ. p (read τ)) ρ (mix (N .Value) vs (code σ) ρ) (mix-out (N .Value) vs (code σ) ρ) e))
-      (λ e. over-intro N b vs (λ τ. p (read τ)) ρ
-      (λ σ w. over-elim R b vs p (read ρ) (read σ) (λ v q. ap (at (v .sort)) (w v q)) e))
-
-  numbers-true : (c : Term) (ρ : A) → True N c ρ ≡ True R c (read ρ)
-  unfolding True
-  numbers-true c ρ = truth-along N R read IsOpaque (λ t o σ. refl) numbers-over (skeleton c) (skeleton-leaves c) ρ
+  numbers-local : Local R → Local (N R start)
+  numbers-local local t o ρ σ h = local t o (read R start ρ) (read R start σ) (λ v q. ap (at R start (v .sort)) (h v q))
 
 pub every-reading : (c : Term) → TrueInReadings c → (R : Reading) → Local R → (ρ : Assignment (R .Value)) → True R c ρ ≡ true
 every-reading c h R local ρ =
-    sym (ap (True R c) (fun-ext (read-code R ρ ρ)))
+    sym (ap (True R c) (start-read R ρ))
     ∙ (sym (numbers-true R ρ c (code R ρ ρ)) ∙ h (numbers R ρ) (numbers-local R ρ local) (code R ρ ρ))
