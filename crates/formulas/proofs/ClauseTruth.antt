@@ -1,6 +1,6 @@
 -- Clauses say as much as the form that they are of, and follow from the formula whose foralls are taken out.
 --     cnf-truth          a form's clauses, all of them, have the form's value
---     clauses-truth      so a term's clause list has the term's value, if no forall is reached
+--     clauses-truth      so a term's clauses have the term's value, if no forall is reached: any number of them, and the empty one too
 --     clause-follows     each clause follows from the formula, whatever values the quantified and the taken-out variables take
 --     clause-sound       the same of terms: what rule 3 says
 -- Assumes that no variable taken out is free in the quantified formula.
@@ -13,28 +13,18 @@ use Rattle.term_trees.specs.Term.{Var, Vars, Term, quant}
 use Rattle.term_trees.specs.FreeTree.{has, free}
 use Rattle.formulas.specs.Formula.{Form, all}
 use Rattle.formulas.specs.Normal.{Normal, Normals, lit, nmany, nall, nnil, ncons, nnf, prenex, prenexes, taken}
-use Rattle.formulas.specs.Clauses.{Clause, product, cnf, cnfAnd, cnfOr}
-use Rattle.formulas.specs.Skeleton.{skeleton, IsOpaque, normals, clauseForm, clauseTerm}
+use Rattle.formulas.specs.Clauses.{Clause, product, cnf, cnfAnd, cnfOr, reachesForall, reachForall}
+use Rattle.formulas.specs.Skeleton.{skeleton, IsOpaque, build, normals, clauseForm, clauseTerm, clausesOf, NoForallReached}
 use Rattle.formulas.specs.Truth.{Assignment, Reading, Local, over, truth, True, truthN, truthNs, clauseTruth, clausesTruth}
+use Rattle.formulas.specs.Truth.{someTrue, eachSomeTrue, Says}
 use Rattle.formulas.proofs.Over.{bool-cases, not-both, andOr-intro, andOr-left, andOr-right, or-left, or-right, or-cases}
 use Rattle.formulas.proofs.Over.{Subset, outside, has-append, Within, mix, mix-in, mix-out, over-elim, over-intro}
-use Rattle.formulas.proofs.Leaves.{Each, EachN, nnf-each, clause-each, skeleton-leaves}
+use Rattle.formulas.proofs.Leaves.{Each, EachN, EachC, EachCs, nnf-each, prenex-each, cnf-each, clause-each, skeleton-leaves}
 use Rattle.formulas.proofs.NormalTruth.{nnf-truth, build-truth}
 use Rattle.formulas.proofs.Coincide.{freeF, Rests, coincide, free-skeleton}
 
--- ---- a forall reached through `and` and `or`
+-- ---- where no forall is reached, taking out changes nothing
 module _ {B L : Type 0} where
-  abbrev mutual
-    pub reachesForall : Normal B L → Bool
-    reachesForall (lit b t) = false
-    reachesForall (nmany b ns) = reachForall ns
-    reachesForall (nall b vs n) = b
-
-    pub reachForall : Normals B L → Bool
-    reachForall nnil = false
-    reachForall (ncons n ns) = reachesForall n || reachForall ns
-
-  -- where there is none, taking out changes nothing
   mutual
     pub prenex-same : (n : Normal B L) → reachesForall n ≡ false → prenex n ≡ n
     prenex-same (lit b t) e = refl
@@ -89,11 +79,22 @@ module _ (R : Reading) where
     cnfOr-truth nnil ρ = refl
     cnfOr-truth (ncons n ns) ρ = product-truth (cnf n) (cnfOr ns) ρ ∙ ap₂ _||_ (cnf-truth n ρ) (cnfOr-truth ns ρ)
 
-  -- a term's clause list
-  pub clauses-truth : (t : Term) → reachesForall (nnf (skeleton t) true) ≡ false
-      → (ρ : A) → clausesTruth R (cnf (prenex (nnf (skeleton t) true))) ρ ≡ True R t ρ
+  -- clauses as terms
+  terms-truth : (c : Clause Vars Term) → EachC IsOpaque c → (ρ : A) → someTrue R (map build c) ρ ≡ clauseTruth R c ρ
+  terms-truth [] o ρ = refl
+  terms-truth (l ∷ c) o ρ = ap₂ _||_ (build-truth R l (o .0) ρ) (terms-truth c (o .1) ρ)
+
+  lists-truth : (cs : List (Clause Vars Term)) → EachCs IsOpaque cs → (ρ : A) → eachSomeTrue R (map (map build) cs) ρ ≡ clausesTruth R cs ρ
+  lists-truth [] o ρ = refl
+  lists-truth (c ∷ cs) o ρ = ap₂ _&&_ (terms-truth c (o .0) ρ) (lists-truth cs (o .1) ρ)
+
+  -- a term's clauses
+  pub clauses-truth : (t : Term) → NoForallReached t → Says R (clausesOf t) t
   unfolding True
-  clauses-truth t e ρ = rw (prenex-same (nnf (skeleton t) true) e) (cnf-truth (nnf (skeleton t) true) ρ ∙ nnf-truth R (skeleton t) true ρ)
+  clauses-truth t e ρ =
+      let n = nnf (skeleton t) true in
+      lists-truth (cnf (prenex n)) (cnf-each IsOpaque (prenex n) (prenex-each IsOpaque n (nnf-each IsOpaque (skeleton t) true (skeleton-leaves t)))) ρ
+      ∙ rw (prenex-same n e) (cnf-truth n ρ ∙ nnf-truth R (skeleton t) true ρ)
 
   -- a clause of the list, and its form
   clause-true : (c : Clause Vars Term) (cs : List (Clause Vars Term)) (ρ : A) → List·Memᴰ c cs

@@ -6,6 +6,7 @@ pub mod Numbered
 pub mod Totals
 pub mod Coincide
 pub mod ClauseTruth
+pub mod ClauseCases
 pub mod Mapped
 pub mod FormTree
 pub mod Operands

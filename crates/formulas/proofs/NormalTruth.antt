@@ -10,7 +10,7 @@ use Rattle.term_trees.specs.Term.{Vars, Term}
 use Rattle.formulas.specs.Formula.{Form, Forms, opaque, neg, many, imp, ite, iff, all, fnil, fcons}
 use Rattle.formulas.specs.Normal.{Normal, Normals, lit, nmany, nall, nnil, ncons, flip, nnf, nnfs}
 use Rattle.formulas.specs.Skeleton.{skeleton, skeletons, IsOpaque, formOf, notOf, build, builds}
-use Rattle.formulas.specs.Truth.{Assignment, Reading, andOr, over, truth, truths, True, truthN, truthNs}
+use Rattle.formulas.specs.Truth.{Assignment, Reading, andOr, over, truth, truths, True, truthN, truthNs, HasValue}
 use Rattle.formulas.proofs.Over.{same-at, over-elim, over-intro}
 use Rattle.formulas.proofs.Leaves.{EachN, EachNs, nnf-each, skeleton-leaves}
 
@@ -116,6 +116,6 @@ module _ (R : Reading) where
     builds-truth (ncons n ns) o b ρ = ap₂ (andOr b) (build-truth n (o .0) ρ) (builds-truth ns (o .1) b ρ)
 
   -- the normal form of a term, as a term
-  pub normal-truth : (t : Term) (p : Bool) (ρ : Assignment (R .Value)) → True R (build (nnf (skeleton t) p)) ρ ≡ flip (True R t ρ) p
+  pub normal-truth : (t : Term) (p : Bool) → HasValue R p (build (nnf (skeleton t) p)) t
   unfolding True
   normal-truth t p ρ = build-truth (nnf (skeleton t) p) (nnf-each IsOpaque (skeleton t) p (skeleton-leaves t)) ρ ∙ nnf-truth R (skeleton t) p ρ

@@ -1,20 +1,23 @@
 -- Readings whose values are numbers are enough: a term has in a reading the value that it has in one with numbers. Each value stands in the
 -- list of its sort's values, and its number is its position there; an opaque term's truth is asked of the values that the numbers are read as.
 --     numbers-true      a term's value in the reading with numbers
+--     every-value       SameValue holds in every reading
+--     every-clauses     so does ClausesSay
 -- Nothing is asked of locality.
 -- Assumes nothing.
 use Prim.Native.Nat.{zero, suc, Fin, zero-le, suc-le-suc}
-use mathlib.Core.Path.{_≡_, refl, sym, ap, _∙_, fun-ext}
-use mathlib.Core.Bool.{Bool}
+use mathlib.Core.Path.{_≡_, refl, sym, ap, ap₂, _∙_, fun-ext}
+use mathlib.Core.Bool.{Bool, _&&_, _||_}
 use mathlib.Core.List.{List, [], _∷_, List·Memᴰ, List·Memᴰ·head, List·Memᴰ·tail}
 use native.Mathlib.Decide.{Fin·succ}
 use lib.ListN.{length, getD}
 use Rattle.term_trees.specs.Sort.{Sort}
 use Rattle.term_trees.specs.Term.{Var, Vars, Term}
 use Rattle.term_trees.specs.FreeTree.{has}
+use Rattle.formulas.specs.Normal.{flip}
 use Rattle.formulas.specs.Skeleton.{skeleton, IsOpaque}
-use Rattle.formulas.specs.Truth.{Assignment, Reading, over, True}
-use Rattle.formulas.specs.Numbered.{Numbers, numbered}
+use Rattle.formulas.specs.Truth.{Assignment, Reading, over, True, someTrue, eachSomeTrue, HasValue, Says}
+use Rattle.formulas.specs.Numbered.{Numbers, numbered, SameValue, ClausesSay}
 use Rattle.formulas.proofs.Over.{bool-cases, same-at, Within, mix, mix-in, mix-out, over-elim, over-intro}
 use Rattle.formulas.proofs.Leaves.{skeleton-leaves}
 use Rattle.formulas.proofs.TruthAlong.{truth-along}
@@ -74,6 +77,29 @@ module _ (R : Reading) (start : Assignment (R .Value)) where
   unfolding True
   numbers-true c ρ = truth-along N R read IsOpaque (λ t o σ. refl) numbers-over (skeleton c) (skeleton-leaves c) ρ
 
+  numbers-some : (c : List Term) (ρ : A) → someTrue N c ρ ≡ someTrue R c (read ρ)
+  numbers-some [] ρ = refl
+  numbers-some (t ∷ c) ρ = ap₂ _||_ (numbers-true t ρ) (numbers-some c ρ)
+
+  numbers-each : (cs : List (List Term)) (ρ : A) → eachSomeTrue N cs ρ ≡ eachSomeTrue R cs (read ρ)
+  numbers-each [] ρ = refl
+  numbers-each (c ∷ cs) ρ = ap₂ _&&_ (numbers-some c ρ) (numbers-each cs ρ)
+
   -- the values that the assignment gives are read from their numbers
   pub start-read : read (code start) ≡ start
   start-read = fun-ext (read-code start)
+
+-- ---- what holds of numbers holds in every reading
+pub every-value : (p : Bool) (x t : Term) → SameValue p x t → (R : Reading) → HasValue R p x t
+every-value p x t h R ρ =
+    sym (ap (True R x) (start-read R ρ))
+    ∙ (sym (numbers-true R ρ x (code R ρ ρ))
+    ∙ (h (numbers R ρ) (code R ρ ρ)
+    ∙ ap (λ (b : Bool). flip b p) (numbers-true R ρ t (code R ρ ρ) ∙ ap (True R t) (start-read R ρ))))
+
+pub every-clauses : (cs : List (List Term)) (t : Term) → ClausesSay cs t → (R : Reading) → Says R cs t
+every-clauses cs t h R ρ =
+    sym (ap (eachSomeTrue R cs) (start-read R ρ))
+    ∙ (sym (numbers-each R ρ cs (code R ρ ρ))
+    ∙ (h (numbers R ρ) (code R ρ ρ)
+    ∙ (numbers-true R ρ t (code R ρ ρ) ∙ ap (True R t) (start-read R ρ))))

@@ -6,6 +6,7 @@ pub mod Truth
 pub mod Numbered
 pub mod Totals
 pub mod TruthCases
+pub mod ClauseCases
 pub mod Mapped
 pub mod Built
 pub mod Values

@@ -2,7 +2,10 @@
 -- them holds in every reading (proofs/Numbered.antt).
 --     Numbers          how many values each sort has, and the truth of opaque terms
 --     numbered N       the reading
--- Demand 3: "a reading gives each sort finitely many values, at least one".
+--     SameValue p x t  HasValue in all of them; nothing is asked of locality
+--     ClausesSay cs t  Says in all of them
+-- Demand 3: "a reading gives each sort finitely many values, at least one". S-1: "in every reading .. even where an opaque literal's value
+-- depends on every variable".
 -- Rests on term_trees' Sort and Term, and on Truth.
 use Prim.Native.Nat.{ℕ, zero, suc, Fin, zero-le, suc-le-suc}
 use mathlib.Core.Path.{refl, ap}
@@ -11,7 +14,7 @@ use mathlib.Core.List.{List, [], _∷_, map, List·Memᴰ, List·Memᴰ·head, L
 use native.Mathlib.Decide.{Fin·succ, Fin·val-path}
 use Rattle.term_trees.specs.Sort.{Sort}
 use Rattle.term_trees.specs.Term.{Var, Term}
-use Rattle.formulas.specs.Truth.{Reading}
+use Rattle.formulas.specs.Truth.{Reading, HasValue, Says}
 
 -- the sort s has the values 0 to most s
 pub record Numbers : Type 0 where
@@ -40,3 +43,10 @@ numbered N =
       listed = λ s. below-listed (suc (N .most s));
       opaque-truth = N .opaque-truth;
     }
+
+-- ---- values in all of them
+abbrev pub SameValue : Bool → Term → Term → Type 0
+SameValue p x t = (N : Numbers) → HasValue (numbered N) p x t
+
+abbrev pub ClausesSay : List (List Term) → Term → Type 0
+ClausesSay cs t = (N : Numbers) → Says (numbered N) cs t

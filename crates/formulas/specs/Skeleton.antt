@@ -3,19 +3,21 @@
 --     IsOpaque t     t is no connective or quantifier
 --     build n        the term of the normal form n
 --     clauseTerm c   the term of the clause c
+--     clausesOf t    the clauses of t, as terms
+--     NoForallReached t     no forall is reached after t's normal form
 -- 01, "Normal form and clauses": "`not` with 1 operand flips the polarity; `and`, `or` of any length; `=>` with 2; `ite` with 3; `=` with 2
 -- whose left has sort Bool; forall and exists. These are the connectives and quantifiers of demand 3. Any other count or term is opaque".
 -- Rests on pool's Sort and Term, and on Formula, Normal, Clauses and Built.
 use Prim.Native.Nat.{ℕ}
 use mathlib.Core.Path.{_≡_}
 use mathlib.Core.Bool.{Bool, true, false, cond, decide}
-use mathlib.Core.List.{[], _∷_}
+use mathlib.Core.List.{List, [], _∷_, map}
 use lib.Dec.{eqb}
 use Rattle.term_trees.specs.Sort.{Sort, Sort-discrete, bool}
 use Rattle.term_trees.specs.Term.{Vars, Term, Terms, const, bitVector, var, app, quant, bind, letin, op, noTerm, tnil, tcons, stated}
 use Rattle.formulas.specs.Formula.{Form, Forms, opaque, neg, many, imp, ite, iff, all, fnil, fcons}
-use Rattle.formulas.specs.Normal.{Normal, Normals, lit, nmany, nall, nnil, ncons}
-use Rattle.formulas.specs.Clauses.{Clause}
+use Rattle.formulas.specs.Normal.{Normal, Normals, lit, nmany, nall, nnil, ncons, nnf, prenex}
+use Rattle.formulas.specs.Clauses.{Clause, cnf, reachesForall}
 use Rattle.formulas.specs.Built.{tagOfMany}
 
 -- ---- a connective of its operands' formulas; t is the term itself, opaque where the count of operands is another
@@ -110,3 +112,11 @@ module _ {B L : Type 0} where
 
 abbrev pub clauseTerm : Clause Vars Term → Term
 clauseTerm c = build (clauseForm c)
+
+-- ---- the clauses of a term: those of its normal form at true polarity with foralls taken out
+abbrev pub clausesOf : Term → List (List Term)
+clausesOf t = map (map build) (cnf (prenex (nnf (skeleton t) true)))
+
+-- S-1: "a formula in which .. no forall is reached after the normal form"
+abbrev pub NoForallReached : Term → Type 0
+NoForallReached t = reachesForall (nnf (skeleton t) true) ≡ false

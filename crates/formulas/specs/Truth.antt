@@ -3,6 +3,9 @@
 --     truthN R n ρ     a normal form's
 --     True R t ρ       a term's: that of its formula
 --     clauseTruth R c ρ, clausesTruth R cs ρ     a clause's, and that of all clauses of a list
+--     someTrue R c ρ, eachSomeTrue R cs ρ        the same of clauses of terms
+--     HasValue R p x t      x has t's value if p, else the negated one
+--     Says R cs t           the conjunction of the clauses cs has t's value
 -- 01, "Truth in a reading", quoted below. Demand 3: "a reading gives each sort finitely many values, at least one; a variable is its name
 -- with its sort; a term that is no connective or quantifier has a truth value fixed by its free variables' values".
 -- Rests on pool's Sort, Term and FreeTree, and on Formula, Normal, Clauses and Skeleton.
@@ -97,3 +100,20 @@ module _ (R : Reading) where
   abbrev pub clausesTruth : List (Clause Vars Term) → Assignment (R .Value) → Bool
   clausesTruth [] ρ = true
   clausesTruth (c ∷ cs) ρ = clauseTruth c ρ && clausesTruth cs ρ
+
+  -- the same of clauses whose literals are terms
+  abbrev pub someTrue : List Term → Assignment (R .Value) → Bool
+  someTrue [] ρ = false
+  someTrue (t ∷ c) ρ = True t ρ || someTrue c ρ
+
+  abbrev pub eachSomeTrue : List (List Term) → Assignment (R .Value) → Bool
+  eachSomeTrue [] ρ = true
+  eachSomeTrue (c ∷ cs) ρ = someTrue c ρ && eachSomeTrue cs ρ
+
+  -- ---- values at every assignment. S-1: "the conjunction of its clauses has the formula's value .. the normal form at true polarity has
+  -- its value and at false polarity the negated value"
+  abbrev pub HasValue : Bool → Term → Term → Type 0
+  HasValue p x t = (ρ : Assignment (R .Value)) → True x ρ ≡ flip (True t ρ) p
+
+  abbrev pub Says : List (List Term) → Term → Type 0
+  Says cs t = (ρ : Assignment (R .Value)) → eachSomeTrue cs ρ ≡ True t ρ

@@ -6,11 +6,11 @@
 --     clausal-form-read       the taken-out form, read back
 --     clauses-are             the clauses, literal by literal
 --     clause-places-are       the terms at the literal places
---     clause-list-truth       in every reading the list has the term's value, if no forall is reached
+--     clause-list-truth       in every reading the list has the term's value, if no forall is reached; whatever the number of clauses
 -- Assumes nothing.
 use Prim.Native.Nat.{ℕ, _<_}
 use mathlib.Core.Path.{_≡_, refl, sym, ap, ap₂, _∙_}
-use mathlib.Core.Bool.{Bool, true, false, _&&_, _||_}
+use mathlib.Core.Bool.{true}
 use mathlib.Core.List.{List, [], _∷_, map}
 use lib.ListN.{getD}
 use lib.Seq.{getD-take}
@@ -22,12 +22,10 @@ use Rattle.term_trees.proofs.Passed.{Passed}
 use Rattle.formulas.specs.Normal.{lit, nmany, nall, nnf, prenex, taken}
 use Rattle.formulas.specs.Clauses.{Clause, cnf}
 use Rattle.formulas.specs.Built.{Pool, count, takenOut, normalAt}
-use Rattle.formulas.specs.Skeleton.{skeleton, IsOpaque, build}
-use Rattle.formulas.specs.Truth.{Assignment, Reading, True, clauseTruth, clausesTruth}
-use Rattle.formulas.proofs.Leaves.{EachC, EachCs, nnf-each, prenex-each, cnf-each, skeleton-leaves}
+use Rattle.formulas.specs.Skeleton.{skeleton, build, clausesOf, NoForallReached}
+use Rattle.formulas.specs.Truth.{Reading, eachSomeTrue, Says}
 use Rattle.formulas.proofs.Mapped.{prenex-map, taken-map, cnf-map}
-use Rattle.formulas.proofs.NormalTruth.{build-truth}
-use Rattle.formulas.proofs.ClauseTruth.{reachesForall, clauses-truth}
+use Rattle.formulas.proofs.ClauseTruth.{clauses-truth}
 use Rattle.formulas.proofs.FormTree.{varsAt}
 use Rattle.formulas.proofs.SameTree.{sort-kept}
 use Rattle.clauses.specs.Lists.{clausePlaces}
@@ -55,24 +53,6 @@ module _ (q : Pool) where
   all-places-are [] (d ∷ ds) e = cc
   all-places-are (c ∷ cs) [] e = cc
   all-places-are (c ∷ cs) (d ∷ ds) e = ap₂ _∷_ (places-are c d (cc)) (all-places-are cs ds (cc))
-
--- a clause of terms is true where one of them is, a list where all its clauses are
-module _ (R : Reading) where
-  abbrev pub someTrue : List Term → Assignment (R .Value) → Bool
-  someTrue [] ρ = false
-  someTrue (t ∷ ts) ρ = True R t ρ || someTrue ts ρ
-
-  abbrev pub eachSomeTrue : List (List Term) → Assignment (R .Value) → Bool
-  eachSomeTrue [] ρ = true
-  eachSomeTrue (c ∷ cs) ρ = someTrue c ρ && eachSomeTrue cs ρ
-
-  terms-truth : (c : Clause Vars Term) → EachC IsOpaque c → (ρ : Assignment (R .Value)) → someTrue (map build c) ρ ≡ clauseTruth R c ρ
-  terms-truth [] o ρ = refl
-  terms-truth (l ∷ c) o ρ = ap₂ _||_ (build-truth R l (o .0) ρ) (terms-truth c (o .1) ρ)
-
-  lists-truth : (cs : List (Clause Vars Term)) → EachCs IsOpaque cs → (ρ : Assignment (R .Value)) → eachSomeTrue (map (map build) cs) ρ ≡ clausesTruth R cs ρ
-  lists-truth [] o ρ = refl
-  lists-truth (c ∷ cs) o ρ = ap₂ _&&_ (terms-truth c (o .0) ρ) (lists-truth cs (o .1) ρ)
 
 -- ---- a pool that goes on from the used cells
 module _ {tags values rules : List ℕ} {n : ℕ} (c : Passed tags values rules n) (q : Pool) (good : Good q) (g : Grows (poolOf tags values n) q) where
@@ -133,15 +113,11 @@ module _ {tags values rules : List ℕ} {n : ℕ} (c : Passed tags values rules 
       ∙ (ap cnf (clausal-form-read .is) ∙ clauses-leafed (nnf (skeleton (tree tags values t)) true))
 
   pub clause-places-are : map (map (termIn (clausalIn tags values n t .pool))) (map clausePlaces (cnf (clausalFormIn tags values n t)))
-      ≡ map (map build) (cnf (prenex (nnf (skeleton (tree tags values t)) true)))
+      ≡ clausesOf (tree tags values t)
   clause-places-are =
       all-places-are (clausalIn tags values n t .pool) (cnf (clausalFormIn tags values n t)) (cnf (prenex (nnf (skeleton (tree tags values t)) true))) clauses-are
 
-  pub clause-list-truth : reachesForall (nnf (skeleton (tree tags values t)) true) ≡ false → (R : Reading) (ρ : Assignment (R .Value))
-      → eachSomeTrue R (map (map (termIn (clausalIn tags values n t .pool))) (map clausePlaces (cnf (clausalFormIn tags values n t)))) ρ ≡ True R (tree tags values t) ρ
+  pub clause-list-truth : NoForallReached (tree tags values t) → (R : Reading)
+      → Says R (map (map (termIn (clausalIn tags values n t .pool))) (map clausePlaces (cnf (clausalFormIn tags values n t)))) (tree tags values t)
   clause-list-truth e R ρ =
-      let m = nnf (skeleton (tree tags values t)) true in
-      ap (λ (cs : List (List Term)). eachSomeTrue R cs ρ) clause-places-are
-      ∙ (lists-truth R (cnf (prenex m))
-      (cnf-each IsOpaque (prenex m) (prenex-each IsOpaque m (nnf-each IsOpaque (skeleton (tree tags values t)) true (skeleton-leaves (tree tags values t))))) ρ
-      ∙ clauses-truth R (tree tags values t) e ρ)
+      ap (λ (cs : List (List Term)). eachSomeTrue R cs ρ) clause-places-are ∙ clauses-truth R (tree tags values t) e ρ

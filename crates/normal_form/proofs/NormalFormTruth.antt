@@ -1,5 +1,5 @@
 -- The public normal form of a term: in every reading the term that it puts has the value of the term at true polarity, and the negated value
--- at false polarity.
+-- at false polarity, whatever the number of new cells.
 -- 01, demand 3, of `negation_normal_form`.
 -- Assumes nothing.
 use Prim.Native.Nat.{ℕ, _≤_, _<_}
@@ -17,10 +17,10 @@ use Rattle.descriptions.proofs.description.Growth.{Same}
 use Rattle.term_trees.specs.Term.{Term}
 use Rattle.term_trees.specs.Tree.{tree}
 use Rattle.term_trees.proofs.Passed.{Passed}
-use Rattle.formulas.specs.Normal.{flip, nnf}
+use Rattle.formulas.specs.Normal.{nnf}
 use Rattle.formulas.specs.Built.{count, normalForm}
 use Rattle.formulas.specs.Skeleton.{skeleton, build}
-use Rattle.formulas.specs.Truth.{Assignment, Reading, True}
+use Rattle.formulas.specs.Truth.{Reading, True, HasValue}
 use Rattle.formulas.proofs.FormTree.{one-bool}
 use Rattle.formulas.proofs.NormalTruth.{normal-truth}
 use Rattle.formulas.proofs.SameTree.{formed-kept, tree-kept}
@@ -72,6 +72,6 @@ module _ {tags values rules : List ℕ} {n : ℕ} (c : Passed tags values rules 
         t (omega (arith, used-count)) (rw (getD-take n tags t 0 h) k) p)
 
     -- its truth
-    pub normal-form-truth : (R : Reading) (p : Bool) (ρ : Assignment (R .Value))
-        → True R (termIn (normalPlace tags values rules n t p .pool) (normalPlace tags values rules n t p .place)) ρ ≡ flip (True R (tree tags values t) ρ) p
+    pub normal-form-truth : (R : Reading) (p : Bool)
+        → HasValue R p (termIn (normalPlace tags values rules n t p .pool) (normalPlace tags values rules n t p .place)) (tree tags values t)
     normal-form-truth R p ρ = ap (λ (x : Term). True R x ρ) (normal-form-is p .is) ∙ normal-truth R (tree tags values t) p ρ
