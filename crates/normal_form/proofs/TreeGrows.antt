@@ -2,19 +2,16 @@
 --     sort-grows, tree-grows     a sort and a term of a pool have the same trees in every pool that goes on
 --     put-term                   the term that is put
 -- Assumes nothing.
-use Prim.Native.Nat.{ℕ, zero, suc, _+_, _-_, _≤_, _<_}
+use Prim.Native.Nat.{ℕ, zero, suc, _+_, _-_, _<_}
 use mathlib.Core.Path.{_≡_, refl, sym, ap, _∙_}
 use mathlib.Core.Bool.{Bool, true, false, not}
-use mathlib.Core.List.{List, [], _∷_, _++_}
+use mathlib.Core.List.{List, [], _∷_}
 use lib.ListN.{length, getD, replicate, getD-replicate}
 use lib.Seq.{getD-at, getD-append-add}
-use lib.Dec.{leb}
 use native.Mathlib.Omega.{arith}
-use borrow.Author.Tests.{leb-false, lt-ltb, ne-eqb}
+use borrow.Author.Tests.{lt-ltb, ne-eqb}
 use Rattle.cells.specs.Bounded.{everyIn, every}
-use Rattle.cells.specs.ByPlace.{by-test}
 use Rattle.cells.specs.Cell.{cellsOf, isAt}
-use Rattle.cells.specs.Headers.{firstIn, firstFrom, firstHeader}
 use Rattle.cells.specs.declared.Found.{Found}
 use Rattle.cells.specs.declared.Found.the-variants.{At, Nothing}
 use Rattle.cells.proofs.Walks.{first-end, first-next}
@@ -25,6 +22,7 @@ use Rattle.descriptions.proofs.description.Growth.{Same}
 use Rattle.term_trees.specs.Tree.{sortTree, termFrom, tree}
 use Rattle.term_trees.proofs.Header.{Each}
 use Rattle.term_trees.proofs.Terms.{term-is}
+use Rattle.term_trees.proofs.Walk.{found-holds}
 use Rattle.formulas.specs.Built.{Pool, Placed, count, extend, placeAt, put}
 use Rattle.formulas.proofs.Operands.{IsTerm}
 use Rattle.formulas.proofs.SameTree.{at-true, made-same, value-kept, formed-kept, sort-kept, tree-kept}
@@ -122,25 +120,9 @@ module _ (q : Pool) (tag : ℕ) (cells : List ℕ) (s : Sound q) (fit : Fit q ta
       bad p = not (headerFits (q⁺ .tags) (q⁺ .values) (count q⁺) p)
 
 -- ---- what is put
--- the test holds where a walk ends
-module _ (values : List ℕ) (n : ℕ) (test : ℕ → Bool) where
-  holds-in : (f p t : ℕ) → firstIn values n test f p ≡ At t → test t ≡ true
-  unfolding firstIn
-  holds-in zero p t e = let z : _≡_ {A = ℕ} 0 1 = cc in absurd (omega arith)
-  holds-in (suc f) p t e =
-      by-test (leb n p)
-      (λ o. let d : Nothing ≡ At t = rw o at e in let z : _≡_ {A = ℕ} 0 1 = cc in absurd (omega arith))
-      (λ o. by-test (test p)
-      (λ y. let d : At p ≡ At t = rw (o, y) at e in let z : p ≡ t = cc in rw (← z) y)
-      (λ y. holds-in f (p + (1 + getD values p 0)) t (rw (o, y) at e)))
-
-  pub first-holds : (t : ℕ) → firstHeader values n test ≡ At t → test t ≡ true
-  unfolding firstHeader firstFrom
-  first-holds t e = holds-in (n - 0) 0 t e
-
 found-at : (tags values : List ℕ) (n tag : ℕ) (cells : List ℕ) (p : ℕ) → find tags values n tag cells ≡ At p → (getD tags p 0 ≡ tag) × (cellsOf values p ≡ cells)
 unfolding find
-found-at tags values n tag cells p e = at-true tags values p tag cells (first-holds values n (λ q. isAt tags values q tag cells) p e)
+found-at tags values n tag cells p e = at-true tags values p tag cells (found-holds values n (λ q. isAt tags values q tag cells) p e)
 
 -- the term with this tag and these cells stands in the pool, which goes on from q
 pub record PutTerm (q : Pool) (tag : ℕ) (cells : List ℕ) (o : Placed) : Type 0 where

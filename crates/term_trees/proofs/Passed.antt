@@ -118,6 +118,16 @@ module _ (tags values rules : List ℕ) (n : ℕ) where
       after refusal h (At p) next f e = absurd (h p e)
       after refusal h Nothing next f e = f e
 
+  pub term-accepts : (t : ℕ) → checkTerm tags values rules n t .code ≡ 0 → checkTerm tags values rules n t ≡ accepted 0 0
+  unfolding checkTerm andThen
+  term-accepts t e =
+      by-test (eqb (checkPool tags values rules n .code) 0)
+      (λ a. by-test (isTerm tags n t) (λ b. rw (a, b)) (λ b. absurd (other (rw (a, b) at e))))
+      (λ a. absurd (eqb-false _ 0 a (rw a at e)))
+    where
+      other : _≡_ {A = ℕ} 17 0 → ⊥
+      other z = omega arith
+
   pub term-passes : (t : ℕ) → checkTerm tags values rules n t ≡ accepted 0 0 → Passed tags values rules n × (isTerm tags n t ≡ true)
   unfolding checkTerm andThen
   term-passes t e =
