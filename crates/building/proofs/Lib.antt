@@ -1,2 +1,4 @@
 pub mod Interning
+pub mod Repeats
+pub mod NewTerms
 pub mod Clausal

@@ -41,7 +41,7 @@ module _ (q : Pool) (size : ℕ) where
   unfolding fits
   fits-true h l = rw (le-leb (count q) size h, le-leb (count q) 8192 l)
 
-  fits-room : fits q size ≡ true → (count q ≤ size) × (count q ≤ 8192)
+  pub fits-room : fits q size ≡ true → (count q ≤ size) × (count q ≤ 8192)
   unfolding fits
   fits-room e = (leb-true _ _ (and-left (leb (count q) size) _ e), leb-true _ _ (and-right (leb (count q) size) _ e))
 
