@@ -4,3 +4,7 @@ pub mod NormalFormTruth
 pub mod ReadBack
 pub mod ReadPlace
 pub mod ClauseListTruth
+pub mod Accepted
+pub mod Values
+pub mod Passes
+pub mod Promises

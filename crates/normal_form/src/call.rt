@@ -10,12 +10,14 @@ use prenex_forall::build_taken_out;
 ghost use Prim.Native.Nat.{_≤_, _<_};
 ghost use mathlib.Core.Path.{_≡_};
 ghost use Rattle.sort_rules.specs.Table.{builtIn};
-ghost use Rattle.normal_form.specs.Calls.{NormalForm, ClauseList, clausal};
+ghost use Rattle.normal_form.specs.Calls.{ClauseList, clausal};
+ghost use Rattle.normal_form.specs.Promise.{NormalFormPromise, ClauseListPromise};
 ghost use Rattle.description_index.specs.Index.{Index};
 ghost use Rattle.building.specs.Walk.{State, NormalBuilt};
 ghost use Rattle.normal_form.specs.ClauseCall.{ClausalBuilt, Kept, unlisted};
 
-// The normal form of the term at t at a polarity: accepted, its place and the new count.
+// The normal form of the term at t at a polarity: accepted, its place and the new count. What stands there has the term's value at true
+// polarity, and the negated value at false.
 pub fn normal_form(
     tags: &mut [u32],
     values: &mut [u32],
@@ -23,7 +25,7 @@ pub fn normal_form(
     t: TermPlace,
     polarity: bool,
 ) -> Answer
-    ensures { λ r. ⌜ NormalForm (now (tags .entry)) (now (values .entry)) builtIn n (t .0) polarity r (now (tags .exit)) (now (values .exit)) ⌝ }
+    ensures { λ r. ⌜ NormalFormPromise (now (tags .entry)) (now (values .entry)) builtIn n (t .0) polarity r (now (tags .exit)) (now (values .exit)) ⌝ }
 {
     let mut index = [0u32; 12288];
     let checked = index_term(tags, values, n, t, &mut index);
@@ -113,7 +115,8 @@ fn keep_listed(tags: &mut [u32], values: &mut [u32], n: usize, m: usize, answer:
     }
 }
 
-// The clause list of the term at t: accepted, its two totals and the new count, with the list in the lent arrays.
+// The clause list of the term at t: accepted, its two totals and the new count, with the list in the lent arrays. If no forall is reached,
+// the conjunction of its clauses has the term's value.
 pub fn clause_list(
     tags: &mut [u32],
     values: &mut [u32],
@@ -122,7 +125,7 @@ pub fn clause_list(
     literals: &mut [u32],
     ends: &mut [u32],
 ) -> Listed
-    ensures { λ r. ⌜ ClauseList (now (tags .entry)) (now (values .entry)) builtIn n (t .0) (now (literals .entry)) (now (ends .entry)) (r .answer) (r .count) (now (tags .exit)) (now (values .exit)) (now (literals .exit)) (now (ends .exit)) ⌝ }
+    ensures { λ r. ⌜ ClauseListPromise (now (tags .entry)) (now (values .entry)) builtIn n (t .0) (now (literals .entry)) (now (ends .entry)) (r .answer) (r .count) (now (tags .exit)) (now (values .exit)) (now (literals .exit)) (now (ends .exit)) ⌝ }
 {
     if literals.len() < 8192 {
         return refused(Answer::refused(30, 0, 0));

@@ -1,21 +1,21 @@
 -- Laws of the public calls: what a term that passes its checks gives the walkers, and what is left in the arrays at each answer.
 -- Assumes nothing.
-use Prim.Native.Nat.{ℕ, _-_, _^_, _<_}
+use Prim.Native.Nat.{ℕ, _^_, _<_}
 use mathlib.Core.Path.{_≡_, refl, sym, ap, _∙_}
-use mathlib.Core.Bool.{Bool, true, false, _&&_}
+use mathlib.Core.Bool.{Bool, true}
 use mathlib.Core.List.{List}
-use lib.ListN.{length, take}
+use lib.ListN.{length, getD, take}
 use lib.Seq.{length-take-le}
-use lib.Dec.{eqb, ltb}
+use lib.Dec.{ltb}
 use native.Mathlib.Omega.{arith}
-use borrow.Author.Tests.{eq-eqb, ne-eqb, eqb-false, ltb-true}
-use Rattle.cells.specs.ByPlace.{by-test}
-use Rattle.headers.specs.WellFormed.{isTerm}
+use borrow.Author.Tests.{eq-eqb, ne-eqb, ltb-true}
+use Rattle.headers.specs.WellFormed.{isTermTag, isTerm}
 use Rattle.descriptions.specs.Description.{zeroFrom, Cut}
 use Rattle.answers.specs.Answer.{accepted}
-use Rattle.pool_checks.specs.Check.{checkPool, andThen, checkTerm}
+use Rattle.pool_checks.specs.Check.{andThen, checkTerm}
 use Rattle.answers.specs.declared.Answer.{Answer}
-use Rattle.term_trees.proofs.Passed.{Passed, term-passes}
+use Rattle.term_trees.proofs.Header.{both}
+use Rattle.term_trees.proofs.Passed.{Passed, term-accepts, term-passes}
 use Rattle.building.specs.declared.build.Built.{Built}
 use Rattle.building.specs.declared.build.Built.the-variants.{At, Full}
 use Rattle.formulas.specs.Built.{Pool, Placed, count}
@@ -26,33 +26,22 @@ use Rattle.building.proofs.build.Laws.{pool-count}
 use Rattle.building.proofs.Clausal.{passed-state, zero-kept}
 
 -- ---- a term that passes its checks
-and-left : (a b : Bool) → (a && b) ≡ true → a ≡ true
-and-left true b e = refl
-and-left false b e = cc
-
-term-below : (tags : List ℕ) (n t : ℕ) → isTerm tags n t ≡ true → t < n
-unfolding isTerm
-term-below tags n t e = ltb-true t n (and-left (ltb t n) _ e)
+pub record TermPassed (tags values rules : List ℕ) (n t : ℕ) : Type 0 where
+  pub passed : Passed tags values rules n
+  pub below : t < n
+  pub term : isTermTag (getD tags t 0) ≡ true
 
 module _ (tags values rules : List ℕ) (n t : ℕ) where
-  -- an acceptance carries no number
-  term-accepts : checkTerm tags values rules n t .code ≡ 0 → checkTerm tags values rules n t ≡ accepted 0 0
-  unfolding checkTerm andThen
-  term-accepts e =
-      by-test (eqb (checkPool tags values rules n .code) 0)
-      (λ a. by-test (isTerm tags n t) (λ b. rw (a, b)) (λ b. absurd (other (rw (a, b) at e))))
-      (λ a. absurd (eqb-false _ 0 a (rw a at e)))
-    where
-      other : _≡_ {A = ℕ} 17 0 → ⊥
-      other z = omega arith
+  pub term-passed : checkTerm tags values rules n t .code ≡ 0 → TermPassed tags values rules n t
+  unfolding isTerm
+  term-passed e =
+      let (passed, term) = term-passes tags values rules n t (term-accepts tags values rules n t e) in
+      let (below, tag) = both (ltb t n) _ term in
+      record { passed = passed; below = ltb-true t n below; term = tag }
 
-  module _ (a : Answer) (is : a ≡ checkTerm tags values rules n t) (ok : a .code ≡ 0) where
-    passed : Passed tags values rules n × (isTerm tags n t ≡ true)
-    passed = term-passes tags values rules n t (term-accepts (sym (ap (λ (x : Answer). x .code) is) ∙ ok))
-
-    pub checked-ready : State n n tags values × (t < n)
-    checked-ready =
-        let (p, term) = passed in (passed-state p, term-below tags n t term)
+  pub checked-ready : (a : Answer) → a ≡ checkTerm tags values rules n t → a .code ≡ 0 → State n n tags values × (t < n)
+  checked-ready a is ok =
+      let c = term-passed (sym (ap (λ (x : Answer). x .code) is) ∙ ok) in (passed-state (c .passed), c .below)
 
 -- ---- what is left in the arrays
 -- arrays that hold a pool, cut back to its count

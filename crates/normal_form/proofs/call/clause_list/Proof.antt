@@ -1,3 +1,4 @@
+use Rattle.normal_form.proofs.Promises.{clause-list-promise}
 use borrow.Author.Needs.{needs}
 use Rattle.normal_form.proofs.call.Clauses.{checks, list-stopped, list-kept, list-parts, list-lent, list-small}
 use Rattle.normal_form.proofs.call.clause_list.Statement.{statement}
@@ -10,7 +11,7 @@ refused-requires-2 : tie.Need-refused-requires-2
 refused-requires-2 c κs = search needs
 
 returns : tie.Need-returns
-returns c = search checks
+returns c = clause-list-promise (search checks)
 
 refused-requires-3 : tie.Need-refused-requires-3
 refused-requires-3 c κs = search needs
@@ -19,7 +20,7 @@ refused-requires-4 : tie.Need-refused-requires-4
 refused-requires-4 c κs = search needs
 
 returns-2 : tie.Need-returns-2
-returns-2 c = search checks
+returns-2 c = clause-list-promise (search checks)
 
 clausal-of-requires : tie.Need-clausal-of-requires
 clausal-of-requires c κs = search needs
@@ -37,7 +38,7 @@ same-length-2 : tie.Need-same-length-2
 same-length-2 c = search needs
 
 returns-3 : tie.Need-returns-3
-returns-3 c = search checks
+returns-3 c = clause-list-promise (search checks)
 
 cut-back-requires : tie.Need-cut-back-requires
 cut-back-requires c κs = search needs
@@ -89,8 +90,8 @@ returns-4 c =
     let at-built = at-if3 .before .before .before in
     let at-clausal-of = at-built .before .before .before .before .before .before in
     let at-if2 = at-clausal-of .before .before .before in
-    list-stopped _ _ _ _ _ _ _ (at-if2 .before .if1 .left) (at-if2 .if2 .left) _ _ _ (at-clausal-of .clausal-of .ensures) _ (at-built .built .given .1)
-    (at-if3 .if3 .left) _ _ _ _ (at-cut-back .cut-back .ensures) (at-cut-back2 .cut-back2 .ensures) _ (c .refused6 .ensures)
+    clause-list-promise (list-stopped _ _ _ _ _ _ _ (at-if2 .before .if1 .left) (at-if2 .if2 .left) _ _ _ (at-clausal-of .clausal-of .ensures) _ (at-built .built .given .1)
+    (at-if3 .if3 .left) _ _ _ _ (at-cut-back .cut-back .ensures) (at-cut-back2 .cut-back2 .ensures) _ (c .refused6 .ensures))
 
 same-length-7 : tie.Need-same-length-7
 same-length-7 c = search needs
@@ -113,8 +114,8 @@ returns-5 c =
     let at-tags = at-values .before .before in
     let at-clausal-of = at-tags .before in
     let at-if2 = at-clausal-of .before .before .before in
-    list-kept _ _ _ _ _ _ _ (at-if2 .before .if1 .left) (at-if2 .if2 .left) _ _ _ (at-clausal-of .clausal-of .ensures) _ _ (at-built2 .built2 .given .1)
-    _ _ _ (at-list-clauses .list-clauses .ensures) (at-tags .tags .given) (at-values .values .given) _ _ _ (at-keep-listed .keep-listed .ensures)
+    clause-list-promise (list-kept _ _ _ _ _ _ _ (at-if2 .before .if1 .left) (at-if2 .if2 .left) _ _ _ (at-clausal-of .clausal-of .ensures) _ _ (at-built2 .built2 .given .1)
+    _ _ _ (at-list-clauses .list-clauses .ensures) (at-tags .tags .given) (at-values .values .given) _ _ _ (at-keep-listed .keep-listed .ensures))
 
 pub clause-list-spec : {M : Type 1} → statement M
 clause-list-spec =

@@ -1,4 +1,5 @@
 use mathlib.Core.Path.{_∙_}
+use Rattle.normal_form.proofs.Promises.{normal-form-promise}
 use Rattle.normal_form.proofs.call.Laws.{normals, checked-ready, count-fits}
 use borrow.Author.Needs.{needs}
 use Rattle.normal_form.proofs.call.normal_form.Statement.{statement}
@@ -14,7 +15,7 @@ same-length-2 : tie.Need-same-length-2
 same-length-2 c = search needs
 
 returns : tie.Need-returns
-returns c = search normals
+returns c = normal-form-promise (search normals)
 
 cut-back-requires : tie.Need-cut-back-requires
 cut-back-requires c κs = search needs
@@ -26,7 +27,7 @@ same-length-4 : tie.Need-same-length-4
 same-length-4 c = c .before .values .given
 
 returns-2 : tie.Need-returns-2
-returns-2 c = search normals
+returns-2 c = normal-form-promise (search normals)
 
 build-normal-form-requires : tie.Need-build-normal-form-requires
 build-normal-form-requires c κs =
@@ -60,7 +61,7 @@ same-length-6 c =
     at-values3 .values3 .given ∙ at-values2 .values2 .given
 
 returns-3 : tie.Need-returns-3
-returns-3 c = search normals
+returns-3 c = normal-form-promise (search normals)
 
 cut-back-requires-3 : tie.Need-cut-back-requires-3
 cut-back-requires-3 c κs = search needs
@@ -84,7 +85,7 @@ same-length-8 c =
     at-values4 .values4 .given ∙ at-values2 .values2 .given
 
 returns-4 : tie.Need-returns-4
-returns-4 c = search normals
+returns-4 c = normal-form-promise (search normals)
 
 pub normal-form-spec : {M : Type 1} → statement M
 normal-form-spec =
