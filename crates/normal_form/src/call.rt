@@ -10,7 +10,7 @@ use prenex_forall::build_taken_out;
 ghost use Prim.Native.Nat.{_≤_, _<_};
 ghost use mathlib.Core.Path.{_≡_};
 ghost use Rattle.sort_rules.specs.Table.{builtIn};
-ghost use Rattle.normal_form.specs.Calls.{ClauseList, clausal};
+ghost use Rattle.normal_form.specs.Calls.{clausal};
 ghost use Rattle.normal_form.specs.Promise.{NormalFormPromise, ClauseListPromise};
 ghost use Rattle.description_index.specs.Index.{Index};
 ghost use Rattle.building.specs.Walk.{State, NormalBuilt};
