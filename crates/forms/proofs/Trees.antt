@@ -1,4 +1,5 @@
 -- The forms that the rules match at places, as trees, for a pool that passes its checks.
+--     term-below          a term's place is below the count, and has a term's tag
 --     quantifier-tree     a quantifier: it states Bool, and its body is a term of the pool
 --     operator-tree, equality-tree     an operator and its operands
 --     one-binding         two pairs of one variable are one pair
@@ -7,7 +8,7 @@
 use Prim.Native.Nat.{ℕ, suc, _+_, _≤_, _<_, _%_}
 use mathlib.Core.Path.{_≡_, refl, sym, ap, ap₂, _∙_}
 use mathlib.Core.Bool.{Bool, true, false}
-use mathlib.Core.List.{List, [], _∷_}
+use mathlib.Core.List.{List, [], _∷_, _++_}
 use mathlib.Core.Option.{some, none}
 use lib.ListN.{length, getD, drop}
 use lib.Dec.{eqb, ltb}
@@ -36,7 +37,7 @@ use Rattle.term_trees.proofs.Passed.{Passed, sort-of-cells, term-of-cells, sort
 use Rattle.term_trees.proofs.Passed.{free-of-tree, free-stands, cells-of-var, found-at, found-none}
 use Rattle.formulas.proofs.Over.{bool-cases}
 use Rattle.quantifiers.specs.Binding.{Binding, bindingsOf, same, has, firstOf, freeAt, bindingFree}
-use Rattle.forms.specs.Form.{Quantifier, quantifier, tagOf, operator, twoOf, threeOf, equality}
+use Rattle.forms.specs.Form.{Quantifier, quantifier, tagOf, operator, oneOf, twoOf, threeOf, equality}
 use Rattle.forms.proofs.Passes.{then-some, cond-some}
 use Rattle.quantifiers.proofs.Bindings.{binding-eq, first-none, varOf, varsAt, vars-are, has-pair}
 use Rattle.quantifiers.proofs.Sound.{Unfree}
@@ -61,6 +62,19 @@ module _ (tags : List ℕ) (n : ℕ) where
   sorted-has [] s a h = let z : _≡_ {A = ℕ} 0 1 = cc in absurd (omega arith)
   sorted-has (b ∷ bs) s a h = bool-cases (same b a) (λ e. rw (← binding-eq b a e) (s .0)) (λ e. sorted-has bs (s .1) a (rw e at h))
 
+  pub sorted-append : (as′ bs : List Binding) → Sorted as′ → Sorted bs → Sorted (as′ ++ bs)
+  sorted-append [] bs s u = u
+  sorted-append (a ∷ as′) bs s u = (s .0, sorted-append as′ bs (s .1) u)
+
+  -- the pairs of a binder's cells, from its cell j on
+  pub pairs-sorted : (x j : ℕ) (cs : List ℕ) → x ≤ n → 2 ≤ j → j % 2 ≡ 0 → Each tags x Binder j cs → Sorted (bindingsOf cs)
+  unfolding bindingsOf kindAt
+  pairs-sorted x j [] h l e f = tt
+  pairs-sorted x j (a ∷ []) h l e f = tt
+  pairs-sorted x j (a ∷ (s ∷ cs)) h l e f =
+      let (m, k) = sort-cell tags x s (rw (pair-second OfSort j l e) at (f .1 .0)) in
+      ((omega arith, k), pairs-sorted x (suc (suc j)) cs h (omega arith) (omega arith) (f .1 .1))
+
 module _ (tags values : List ℕ) (n : ℕ) where
   -- what stands at x, as a tree; the parts are terms and sorts of the pool
   pub record IsQuantifier (x : ℕ) (q : Quantifier) : Type 0 where
@@ -80,6 +94,11 @@ module _ (tags values : List ℕ) (n : ℕ) where
     pub right : isTerm tags n r ≡ true
 
 -- lists of so many
+pub one-are : (os : List ℕ) (a : ℕ) → oneOf os ≡ some a → os ≡ a ∷ []
+one-are [] a e = cc
+one-are (b ∷ []) a e = cc
+one-are (b ∷ (d ∷ os)) a e = cc
+
 pub two-are : (os : List ℕ) (p : ℕ × ℕ) → twoOf os ≡ some p → os ≡ p .0 ∷ p .1 ∷ []
 two-are [] p e = cc
 two-are (a ∷ []) p e = cc
@@ -94,16 +113,18 @@ three-are (a ∷ (b ∷ (d ∷ []))) p e = cc
 three-are (a ∷ (b ∷ (d ∷ (f ∷ os)))) p e = cc
 
 module _ {tags values rules : List ℕ} {n : ℕ} (c : Passed tags values rules n) where
+  pub term-below : (x : ℕ) → isTerm tags n x ≡ true → (x < n) × (isTermTag (getD tags x 0) ≡ true)
+  unfolding isTerm
+  term-below x t = let (h, k) = both (ltb x n) _ t in (ltb-true x n h, k)
+
   module _ (x : ℕ) (t : isTerm tags n x ≡ true) where
     below : x < n
-    unfolding isTerm
-    below = ltb-true x n (both (ltb x n) _ t .0)
+    below = term-below x t .0
 
     tagged : isTermTag (getD tags x 0) ≡ true
-    unfolding isTerm
-    tagged = both (ltb x n) _ t .1
+    tagged = term-below x t .1
 
-    here : Described tags values x
+    pub here : Described tags values x
     here = place-described tags values n (c .formed) (c .whole) x below (term-tagged _ tagged)
 
   is-term : (p u : ℕ) → p < n → (u < p) × (isTermTag (getD tags u 0) ≡ true) → isTerm tags n u ≡ true
@@ -127,16 +148,8 @@ module _ {tags values rules : List ℕ} {n : ℕ} (c : Passed tags values rules 
       by-kind true e = rw e at (states c x (below x t) (tagged x t))
       by-kind false e = rw e at (states c x (below x t) (tagged x t))
 
-  sorts-below : (x j : ℕ) (cs : List ℕ) → x < n → 2 ≤ j → j % 2 ≡ 0 → Each tags x Binder j cs → Sorted tags n (bindingsOf cs)
-  unfolding bindingsOf kindAt
-  sorts-below x j [] h l e f = tt
-  sorts-below x j (a ∷ []) h l e f = tt
-  sorts-below x j (a ∷ (s ∷ cs)) h l e f =
-      let (m, k) = sort-cell tags x s (rw (pair-second OfSort j l e) at (f .1 .0)) in
-      ((omega arith, k), sorts-below x (suc (suc j)) cs h (omega arith) (omega arith) (f .1 .1))
-
   -- the quantifier of this kind and this operand run
-  abbrev ofRun : Bool → List ℕ → Quantifier
+  abbrev pub ofRun : Bool → List ℕ → Quantifier
   ofRun b run = record { kind = b; list = bindingsOf (drop 1 run); body = getD run 0 0 }
 
   record Cells (b : Bool) (cells : List ℕ) : Type 0 where
@@ -152,7 +165,7 @@ module _ {tags values rules : List ℕ} {n : ℕ} (c : Passed tags values rules 
       (λ s u cs f. record {
         tree-is = is b s u cs;
         body = is-term x u h (term-cell tags x u (f .1 .0));
-        sorts = sorts-below x 2 cs h (omega arith) refl (f .1 .1);
+        sorts = pairs-sorted tags n x 2 cs (omega arith) (omega arith) refl (f .1 .1);
       })
     where
       is : (b : Bool) (s u : ℕ) (cs : List ℕ) → termFrom (tagOf b) (s ∷ (u ∷ cs)) (sortTree tags values) (tree tags values)

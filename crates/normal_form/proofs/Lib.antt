@@ -3,6 +3,7 @@ pub mod InternTree
 pub mod NormalFormTruth
 pub mod ReadBack
 pub mod ReadPlace
+pub mod Single
 pub mod ClauseListTruth
 pub mod Accepted
 pub mod Values

@@ -9,7 +9,7 @@ use mathlib.Core.Path.{_≡_, refl, sym, ap, _∙_}
 use mathlib.Core.Bool.{Bool, true, not}
 use mathlib.Core.List.{List, [], _∷_}
 use mathlib.Core.Option.{some}
-use lib.ListN.{length, getD, take}
+use lib.ListN.{length, getD}
 use lib.Seq.{getD-take}
 use lib.Dec.{ltb}
 use native.Mathlib.Omega.{arith}
@@ -22,7 +22,6 @@ use Rattle.headers.specs.WellFormed.{shapeOf, countFits, isTermTag, headerFits,
 use Rattle.answers.specs.Answer.{accepted}
 use Rattle.answers.specs.declared.Answer.{Answer}
 use Rattle.descriptions.specs.Description.{firstRepeat}
-use Rattle.descriptions.proofs.description.Fills.{well-formed-fills}
 use Rattle.sort_rules.specs.Table.{builtIn}
 use Rattle.sort_rules.specs.SortRule.{made, isSort, byRule, computeSort, statesSort}
 use Rattle.pool_checks.specs.Check.{arraysFit, checkCells, checkPool}
@@ -34,16 +33,17 @@ use Rattle.term_trees.proofs.Walk.{place-described}
 use Rattle.term_trees.proofs.SortRules.{states-computed}
 use Rattle.term_trees.proofs.WrongSort.{computed-sorted}
 use Rattle.term_trees.proofs.Passed.{Passed, computed-sort}
-use Rattle.formulas.specs.Built.{Pool, count, normalForm, takenOut}
+use Rattle.formulas.specs.Built.{Pool, count}
 use Rattle.formulas.proofs.FormTree.{first-bool}
 use Rattle.formulas.proofs.SameTree.{formed-kept}
 use Rattle.building.specs.Arrays.{poolOf}
 use Rattle.building.proofs.Interning.{Grows}
 use Rattle.building.proofs.Repeats.{repeat-same}
-use Rattle.building.proofs.NewTerms.{BuiltTag, forall-tag, exists-tag, not-tag, and-tag, or-tag, Clean, intern-clean}
+use Rattle.building.proofs.NewTerms.{BuiltTag, forall-tag, exists-tag, not-tag, and-tag, or-tag, Clean}
 use Rattle.normal_form.specs.Calls.{NormalForm, ClauseList}
 use Rattle.normal_form.proofs.TreeGrows.{Sound}
-use Rattle.normal_form.proofs.NormalFormTruth.{used-same, used-count, used-sound, normal-form-is}
+use Rattle.normal_form.proofs.NormalFormTruth.{used-count, normal-form-is}
+use Rattle.normal_form.proofs.Single.{normal-clean, clausal-clean}
 use Rattle.normal_form.proofs.ClauseListTruth.{old-term, clausal-form-is}
 use Rattle.normal_form.proofs.Accepted.{HoldsPool, padded-length, left-same, left-tree, normal-accepted, list-accepted}
 
@@ -100,13 +100,6 @@ module _ (tags values : List ℕ) (n : ℕ) (whole : n ≤ length values) (forme
 
 -- ---- arrays that hold a pool which goes on from one that passes
 module _ {tags values rules : List ℕ} {n : ℕ} (c : Passed tags values rules n) where
-  start-clean : Clean n (poolOf tags values n)
-  start-clean = record {
-    good = used-sound c .good;
-    single = rw (used-count c) (repeat-same n tags values (take n tags) (take n values) (used-same c) (well-formed-fills tags values n (c .formed)) ∙ c .single);
-    built = λ t h l k. absurd (omega (arith, used-count c));
-  }
-
   module _ (table : BoolConnectives rules) {q : Pool} (s : Sound q) (grows : Grows (poolOf tags values n) q) (clean : Clean n q)
       {tags′ values′ : List ℕ} (h : HoldsPool q (length tags) tags′ values′) where
     whole′ : count q ≤ length values′
@@ -156,19 +149,16 @@ module _ {tags values rules : List ℕ} {n : ℕ} (c : Passed tags values rules 
 -- ---- the two calls
 pub normal-form-passes : {tags values rules : List ℕ} {n t : ℕ} {polarity : Bool} {r : Answer} {tags′ values′ : List ℕ}
     → NormalForm tags values rules n t polarity r tags′ values′ → r .code ≡ 0 → BoolConnectives rules → checkPool tags′ values′ rules (r .second) ≡ accepted 0 0
-unfolding normalForm
 normal-form-passes {tags} {values} {rules} {n} {t} {polarity} {r} {tags′} {values′} f ok table =
     let a = normal-accepted f ok in
     let c = a .checked in
     let i = normal-form-is (c .passed) t (c .below) (c .term) polarity in
-    left-checks (c .passed) table (i .sound) (i .grows) (intern-clean n _ (poolOf tags values n) (start-clean (c .passed))) (a .holds) (r .second) (a .counted)
+    left-checks (c .passed) table (i .sound) (i .grows) (normal-clean (c .passed) t polarity) (a .holds) (r .second) (a .counted)
 
 pub clause-list-passes : {tags values rules : List ℕ} {n t : ℕ} {literals ends : List ℕ} {r : Answer} {m : ℕ} {tags′ values′ literals′ ends′ : List ℕ}
     → ClauseList tags values rules n t literals ends r m tags′ values′ literals′ ends′ → r .code ≡ 0 → BoolConnectives rules → checkPool tags′ values′ rules m ≡ accepted 0 0
-unfolding normalForm takenOut
 clause-list-passes {tags} {values} {rules} {n} {t} {literals} {ends} {r} {m} {tags′} {values′} {literals′} {ends′} f ok table =
     let a = list-accepted f ok in
     let c = a .checked in
     let i = clausal-form-is (c .passed) t (c .below) (c .term) in
-    left-checks (c .passed) table (i .sound) (i .grows)
-    (intern-clean n _ _ (intern-clean n _ (poolOf tags values n) (start-clean (c .passed)))) (a .holds) m (a .counted)
+    left-checks (c .passed) table (i .sound) (i .grows) (clausal-clean (c .passed) t) (a .holds) m (a .counted)

@@ -17,7 +17,7 @@ use Rattle.formulas.proofs.Over.{bool-cases, not-both, same-at, Subset, outside
 use Rattle.formulas.proofs.Leaves.{skeletons-leaves}
 use Rattle.formulas.proofs.Coincide.{Rests, coincides, frees-skeletons, term-coincide}
 
-beq-same : (x : Bool) → Bool·beq x x ≡ true
+pub beq-same : (x : Bool) → Bool·beq x x ≡ true
 beq-same true = refl
 beq-same false = refl
 

@@ -47,7 +47,9 @@ other k z = omega arith
 
 module _ (tags values table : List ℕ) (n rule : ℕ) (conclusion : List ℕ) where
   pub record Accepted : Type 0 where
+    pub pool : checkPool tags values table n .code ≡ 0
     pub passed : Passed tags values table n
+    pub rule-code : isRule rule ≡ true
     pub one : length conclusion ≡ 1
     pub term : isTerm tags n (getD conclusion 0 0) ≡ true
     pub passes : ruleOutcome tags values n rule (getD conclusion 0 0) ≡ pass tt
@@ -60,7 +62,9 @@ module _ (tags values table : List ℕ) (n rule : ℕ) (conclusion : List ℕ) w
       (λ b. by-test (eqb (length conclusion) 1)
       (λ d. by-test (isTerm tags n (getD conclusion 0 0))
       (λ f. record {
+        pool = eqb-true _ 0 a;
         passed = pool-passes tags values table n (pool-accepts tags values table n (eqb-true _ 0 a));
+        rule-code = b;
         one = eqb-true _ 1 d;
         term = f;
         passes = accepted _ (rule-codes tags values n (getD conclusion 0 0) rule) (rw (a, b, d, f) at e);

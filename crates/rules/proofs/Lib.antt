@@ -1,3 +1,4 @@
 pub mod Numbered
 pub mod Codes
 pub mod Accepted
+pub mod Schema

@@ -1,9 +1,10 @@
 -- `check`: the checks of a step and then its rule, what the arrays hold after it, and what an acceptance says of the conclusion.
 -- 01, "What stops a step": "0 is acceptance. Checks run 30, 14, 15, 16, 18, 1, 17, then the rule."
--- Rests on pool's Answer, Check and Tree, on the six rules' definitions and on Premises.
+-- Rests on pool's Answer, Check and Tree, on the six rules' definitions, on schemas' RuleSchema and on Premises.
 use Prim.Native.Nat.{ℕ, min}
 use mathlib.Core.Path.{_≡_}
-use mathlib.Core.Bool.{Bool, not, _&&_, cond}
+use mathlib.Core.Logic.{_↔_}
+use mathlib.Core.Bool.{Bool, true, not, _&&_, cond}
 use mathlib.Core.List.{List}
 use lib.ListN.{length, getD}
 use lib.Dec.{leb, eqb}
@@ -22,6 +23,7 @@ use Rattle.miniscoping.specs.MiniscopeDistribute.{miniscopeDistribute}
 use Rattle.miniscoping.specs.MiniscopeSplit.{miniscopeSplit}
 use Rattle.miniscoping.specs.MiniscopeIte.{miniscopeIte}
 use Rattle.clausification.specs.NoCapture.{NoCapture}
+use Rattle.schemas.specs.RuleSchema.{RuleHolds}
 use Rattle.rules.specs.Premises.{TrueInReadings}
 
 -- "The six rules, with codes": 1 to 6
@@ -72,9 +74,19 @@ module _ (tags values table : List ℕ) (n rule : ℕ) (conclusion : List ℕ) w
   abbrev pub Follows : Answer → Type 0
   Follows a = a .code ≡ 0 → (rule ≡ 3 → NoCapture conclusionTerm) → TrueInReadings conclusionTerm
 
-  -- the whole outcome: the answer r, the arrays after it, and the truth of what is accepted
+  -- a step to accept: the pool and the place pass, the code is a rule's, the conclusion is one of that rule as the Alethe document states it, and
+  -- rule 3 is within its limits
+  pub record StepHolds : Type 0 where
+    pub pool : checkPool tags values table n .code ≡ 0  -- 30, 14, 15, 16
+    pub code : isRule rule ≡ true  -- 18
+    pub one : length conclusion ≡ 1  -- 1
+    pub term : isTerm tags n conclusionPlace ≡ true  -- 17
+    pub holds : RuleHolds tags values n rule conclusionTerm
+
+  -- the whole outcome: the answer r, the arrays after it, what is accepted, and the truth of that
   pub record Step (r : Answer) (tags′ values′ : List ℕ) : Type 0 where
     pub answer : r ≡ stepAnswer
     pub tags-are : tags′ ≡ cellsLeft r tags
     pub values-are : values′ ≡ cellsLeft r values
+    pub accepts : r .code ≡ 0 ↔ StepHolds
     pub follows : Follows r

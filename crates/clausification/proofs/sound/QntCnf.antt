@@ -1,6 +1,6 @@
 -- Rule 3, `qnt_cnf`, is sound.
 -- Assumes that no variable taken out is free in the left quantified formula.
-use Prim.Native.Nat.{ℕ, _<_}
+use Prim.Native.Nat.{ℕ}
 use mathlib.Core.Path.{_≡_, refl, sym, ap, ap₂, subst, _∙_}
 use mathlib.Core.Bool.{Bool, true, false, not, _&&_, _||_}
 use mathlib.Core.List.{List, [], _∷_, _++_, map, List·Memᴰ, List·Memᴰ·head, List·Memᴰ·tail}
@@ -8,12 +8,12 @@ use mathlib.Core.Option.{some, none}
 use lib.ListN.{length, getD}
 use lib.Dec.{eqb}
 use native.Mathlib.Omega.{arith}
-use borrow.Author.Tests.{eqb-true, ne-eqb, ltb-true, not-false}
+use borrow.Author.Tests.{eqb-true, ne-eqb, not-false}
 use Rattle.cells.specs.Cell.{operandsOf, sameCells}
 use Rattle.cells.proofs.Cells.{same-eq}
-use Rattle.headers.specs.WellFormed.{isTermTag, isTerm}
+use Rattle.headers.specs.WellFormed.{isTerm}
 use Rattle.term_trees.specs.Sort.{Sort, bool}
-use Rattle.term_trees.specs.Term.{Var, Vars, Term, Terms, quant, op, tnil, tcons}
+use Rattle.term_trees.specs.Term.{Var, Vars, Term, quant, op, tnil, tcons}
 use Rattle.term_trees.specs.Tree.{sortTree, varsOf, termsOf, tree}
 use Rattle.term_trees.specs.FreeTree.{has as hasVar, free}
 use Rattle.term_trees.proofs.Header.{both}
@@ -31,11 +31,11 @@ use Rattle.normal_form.proofs.InternTree.{termIn}
 use Rattle.normal_form.proofs.NormalFormTruth.{normal-form-is}
 use Rattle.normal_form.proofs.ClauseListTruth.{old-term, old-sort, taken-are, clausal-form-is, clause-places-are}
 use Rattle.quantifiers.specs.Outcome.{pass}
-use Rattle.quantifiers.specs.Binding.{Binding, bindingsOf, same, has, firstOf}
+use Rattle.quantifiers.specs.Binding.{Binding, bindingsOf, has, firstOf}
 use Rattle.forms.specs.Form.{Quantifier, operator, oneOf, twoOf, andThen}
 use Rattle.forms.proofs.Passes.{need-passes, guard-passes, unless-passes, then-some}
-use Rattle.quantifiers.proofs.Bindings.{first-none, varOf, varsAt, vars-are, vars-append, has-at, has-pair}
-use Rattle.forms.proofs.Trees.{AllTerms, Sorted, sorted-has, two-are, quantifier-tree, operator-tree}
+use Rattle.quantifiers.proofs.Bindings.{first-none, pairs-append, varOf, varsAt, vars-are, vars-append, has-at, has-pair}
+use Rattle.forms.proofs.Trees.{term-below, AllTerms, Sorted, sorted-has, one-are, two-are, quantifier-tree, operator-tree}
 use Rattle.clausification.specs.NoCapture.{NoCapture}
 use Rattle.clausification.specs.QntCnf.{implication, isClause, anyClause, takenFrom, clausesFrom, leftAndTaken, clauseFollows, clausified, qntCnf}
 
@@ -51,7 +51,7 @@ implication-true R s s′ l r ρ h = implies-true (True R l ρ) (True R r ρ) h
 
 -- ---- a clause of a list of places, and the clause of terms that stands there
 module _ (at : ℕ → Term) (test : List ℕ → Bool) where
-  passing : {C : Type 0} (cs : List (List ℕ)) (ds : List (Clause Vars Term)) → map (map at) cs ≡ map (map build) ds → anyClause test cs ≡ true
+  pub passing : {C : Type 0} (cs : List (List ℕ)) (ds : List (Clause Vars Term)) → map (map at) cs ≡ map (map build) ds → anyClause test cs ≡ true
       → ((c : List ℕ) (d : Clause Vars Term) → map at c ≡ map build d → test c ≡ true → List·Memᴰ d ds → C) → C
   unfolding anyClause
   passing [] ds e a k = let z : _≡_ {A = ℕ} 0 1 = cc in absurd (omega arith)
@@ -61,44 +61,31 @@ module _ (at : ℕ → Term) (test : List ℕ → Bool) where
       (λ y. k c d (cc) y (List·Memᴰ·head refl))
       (λ y. passing cs ds (cc) y (λ c′ d′ f b m. k c′ d′ f b (List·Memᴰ·tail m)))
 
--- ---- pairs
-has-cases : {C : Type 0} (as′ bs : List Binding) (a : Binding) → has (as′ ++ bs) a ≡ true → (has as′ a ≡ true → C) → (has bs a ≡ true → C) → C
-unfolding has
-has-cases [] bs a h l r = r h
-has-cases (b ∷ as′) bs a h l r =
-    or-cases (same b a) (has (as′ ++ bs) a) h (λ s. l (or-left (same b a) (has as′ a) s))
-    (λ m. has-cases as′ bs a m (λ o. l (or-right (same b a) (has as′ a) o)) r)
-
--- the variables of what is taken out
+-- ---- the variables of what is taken out
 module _ (tags values : List ℕ) where
   mutual
     unfolding varsAt
 
-    vars-taken : (f : Normal (List ℕ) ℕ) → varsAt tags values (taken bindingsOf f) ≡ taken (varsOf (sortTree tags values)) f
+    pub vars-taken : (f : Normal (List ℕ) ℕ) → varsAt tags values (taken bindingsOf f) ≡ taken (varsOf (sortTree tags values)) f
     vars-taken (lit b x) = refl
     vars-taken (nmany b ns) = all-vars-taken ns
     vars-taken (nall true vs f) = vars-append tags values (bindingsOf vs) (taken bindingsOf f) ∙ ap₂ _++_ (sym (vars-are tags values vs)) (vars-taken f)
     vars-taken (nall false vs f) = refl
 
-    all-vars-taken : (fs : Normals (List ℕ) ℕ) → varsAt tags values (takens bindingsOf fs) ≡ takens (varsOf (sortTree tags values)) fs
+    pub all-vars-taken : (fs : Normals (List ℕ) ℕ) → varsAt tags values (takens bindingsOf fs) ≡ takens (varsOf (sortTree tags values)) fs
     all-vars-taken nnil = refl
     all-vars-taken (ncons f fs) = vars-append tags values (taken bindingsOf f) (takens bindingsOf fs) ∙ ap₂ _++_ (vars-taken f) (all-vars-taken fs)
 
-one-are : (os : List ℕ) (a : ℕ) → oneOf os ≡ some a → os ≡ a ∷ []
-one-are [] a e = cc
-one-are (b ∷ []) a e = cc
-one-are (b ∷ (d ∷ os)) a e = cc
-
 -- ---- at places
 module _ {tags values rules : List ℕ} {n : ℕ} (c : Passed tags values rules n) where
-  record IsImplication (x : ℕ) (p : ℕ × ℕ) : Type 0 where
+  pub record IsImplication (x : ℕ) (p : ℕ × ℕ) : Type 0 where
     pub sort : Sort
     pub not-sort : Sort
     pub tree-is : tree tags values x ≡ op 37 sort (tcons (op 34 not-sort (tcons (tree tags values (p .0)) tnil)) (tcons (tree tags values (p .1)) tnil))
     pub left : isTerm tags n (p .0) ≡ true
     pub right : isTerm tags n (p .1) ≡ true
 
-  implication-tree : (x : ℕ) → isTerm tags n x ≡ true → (p : ℕ × ℕ) → implication tags values x ≡ some p → IsImplication x p
+  pub implication-tree : (x : ℕ) → isTerm tags n x ≡ true → (p : ℕ × ℕ) → implication tags values x ≡ some p → IsImplication x p
   unfolding implication termsOf
   implication-tree x t p e =
       then-some (andThen (operator tags values 37 x) twoOf) _ _ e λ sides e₁ h₁.
@@ -122,11 +109,6 @@ module _ {tags values rules : List ℕ} {n : ℕ} (c : Passed tags values rules 
         right = terms .1 .0;
       })
 
-  -- a term of the pool
-  term-below : (x : ℕ) → isTerm tags n x ≡ true → (x < n) × (isTermTag (getD tags x 0) ≡ true)
-  unfolding isTerm
-  term-below x t = let (h, k) = both _ _ t in (ltb-true x n h, k)
-
   -- ---- the right body is a clause of the left body's
   module _ (at : ℕ → Term) (old : (u : ℕ) → isTerm tags n u ≡ true → at u ≡ tree tags values u) where
     operands-are : (us : List ℕ) (d : Clause Vars Term) → AllTerms tags n us → map at us ≡ map build d → termsOf (tree tags values) us ≡ builds (normals d)
@@ -136,13 +118,18 @@ module _ {tags values rules : List ℕ} {n : ℕ} (c : Passed tags values rules 
     operands-are (u ∷ us) [] a e = cc
     operands-are (u ∷ us) (m ∷ d) a e = ap₂ tcons (sym (old u (a .0)) ∙ (cc)) (operands-are us d (a .1) (cc))
 
-    or-clause : (x : ℕ) → isTerm tags n x ≡ true → (us : List ℕ) (d : Clause Vars Term) → map at us ≡ map build d
-        → (eqb (getD tags x 0) 37 && sameCells (operandsOf tags values x) us) ≡ true → skeleton (tree tags values x) ≡ many false (skeletons (builds (normals d)))
-    unfolding operator skeleton formOf
-    or-clause x t us d e b =
+    pub or-tree : (x : ℕ) → isTerm tags n x ≡ true → (us : List ℕ) (d : Clause Vars Term) → map at us ≡ map build d
+        → (eqb (getD tags x 0) 37 && sameCells (operandsOf tags values x) us) ≡ true → (s : Sort) × (tree tags values x ≡ op 37 s (builds (normals d)))
+    unfolding operator
+    or-tree x t us d e b =
         let (k, s) = both (eqb (getD tags x 0) 37) _ b in
         let o = operator-tree c 37 x (omega arith) (omega arith) t us (rw (k, same-eq (operandsOf tags values x) us s)) in
-        ap skeleton (o .tree-is) ∙ ap (λ (ts : Terms). many false (skeletons ts)) (operands-are us d (o .operands) e)
+        (o .sort, o .tree-is ∙ ap (op 37 (o .sort)) (operands-are us d (o .operands) e))
+
+    or-clause : (x : ℕ) → isTerm tags n x ≡ true → (us : List ℕ) (d : Clause Vars Term) → map at us ≡ map build d
+        → (eqb (getD tags x 0) 37 && sameCells (operandsOf tags values x) us) ≡ true → skeleton (tree tags values x) ≡ many false (skeletons (builds (normals d)))
+    unfolding skeleton formOf
+    or-clause x t us d e b = let (s, is) = or-tree x t us d e b in ap skeleton is
 
     is-clause : (x : ℕ) → isTerm tags n x ≡ true → (us : List ℕ) (d : Clause Vars Term) → map at us ≡ map build d → isClause tags values x us ≡ true
         → skeleton (tree tags values x) ≡ skeleton (clauseTerm d)
@@ -161,12 +148,13 @@ module _ {tags values rules : List ℕ} {n : ℕ} (c : Passed tags values rules 
 
   -- ---- the right list is of the left list and what is taken out
   module _ (t : ℕ) (term : isTerm tags n t ≡ true) (ls rs : List Binding) (sorts : Sorted tags n rs) where
-    list-fewer : firstOf (λ a. not (has (ls ++ takenFrom tags values n t) a)) rs ≡ none
+    pub list-fewer : firstOf (λ a. not (has (ls ++ takenFrom tags values n t) a)) rs ≡ none
         → Subset (varsAt tags values rs) (varsAt tags values ls ++ takenVars (nnf (skeleton (tree tags values t)) true))
     unfolding takenFrom varOf
     list-fewer e v h =
         has-pair tags values rs v h λ a m p.
-        has-cases ls (takenFrom tags values n t) a (not-false _ (first-none (λ a. not (has (ls ++ takenFrom tags values n t) a)) rs e a m))
+        or-cases (has ls a) (has (takenFrom tags values n t) a)
+        (sym (pairs-append ls (takenFrom tags values n t) a) ∙ not-false _ (first-none (λ a. not (has (ls ++ takenFrom tags values n t) a)) rs e a m))
         (λ l. has-append (varsAt tags values ls) _ v ∙ or-left _ _ (rw p at (has-at tags values ls a l)))
         (λ r. has-append (varsAt tags values ls) _ v ∙ or-right (hasVar (varsAt tags values ls) v) _ (in-taken a m r p))
       where
@@ -179,7 +167,7 @@ module _ {tags values rules : List ℕ} {n : ℕ} (c : Passed tags values rules 
         in-taken : (a : Binding) → has rs a ≡ true → has (taken bindingsOf f) a ≡ true → varOf tags values a ≡ v
             → hasVar (takenVars (nnf (skeleton (tree tags values t)) true)) v ≡ true
         in-taken a m r p =
-            let (below, tagged) = term-below t term in
+            let (below, tagged) = term-below c t term in
             let (l, k) = sorted-has tags n rs sorts a m in
             let i = normal-form-is c t below tagged true in
             let same-var : varOf (q .tags) (q .values) a ≡ v =
@@ -197,14 +185,14 @@ module _ {tags values rules : List ℕ} {n : ℕ} (c : Passed tags values rules 
         → True R (quant true bool (varsAt tags values (right .list)) (tree tags values (right .body))) ρ ≡ true
     unfolding leftAndTaken clausesFrom True skeleton
     follows fewer found none-free e =
-        let (below, tagged) = term-below (left .body) body in
+        let (below, tagged) = term-below c (left .body) body in
         let o = clausalIn tags values n (left .body) in
         let i = clausal-form-is c (left .body) below tagged in
         passing (termIn (o .pool)) (isClause tags values (right .body)) (clausesFrom tags values n (left .body))
         (cnf (prenex (nnf (skeleton (tree tags values (left .body))) true))) (clause-places-are c (left .body) below tagged) found
         λ us d f b m.
         let is : skeleton (tree tags values (right .body)) ≡ skeleton (clauseTerm d) =
-        is-clause (termIn (o .pool)) (λ u t. let (l, k) = term-below u t in old-term c (o .pool) (i .sound .good) (i .grows) u l k)
+        is-clause (termIn (o .pool)) (λ u t. let (l, k) = term-below c u t in old-term c (o .pool) (i .sound .good) (i .grows) u l k)
         (right .body) clause us d f b in
         rw is
         (clause-sound R local (tree tags values (left .body)) (varsAt tags values (left .list)) (varsAt tags values (right .list)) d bool bool m

@@ -63,7 +63,7 @@ module _ (R : Reading) where
 -- ---- at places
 module _ {tags values rules : List ℕ} {n : ℕ} (c : Passed tags values rules n) where
   -- a right operand is the left one under the quantifier
-  operand-tree : (s : Sides) (t u : ℕ) → isTerm tags n u ≡ true → distributed tags values s t u ≡ pass tt
+  pub operand-tree : (s : Sides) (t u : ℕ) → isTerm tags n u ≡ true → distributed tags values s t u ≡ pass tt
       → tree tags values u ≡ quant (s .kind) bool (varsAt tags values (s .list)) (tree tags values t)
   unfolding distributed
   operand-tree s t u k e =

@@ -86,7 +86,7 @@ module _ {tags values rules : List ℕ} {n : ℕ} (c : Passed tags values rules 
       }
 
   -- the whole pattern; second and third are the operands of the left `ite`
-  record AreSides (x : ℕ) (s : IteSides) : Type 0 where
+  pub record AreSides (x : ℕ) (s : IteSides) : Type 0 where
     pub second : Term
     pub third : Term
     pub sort : Sort
@@ -94,10 +94,15 @@ module _ {tags values rules : List ℕ} {n : ℕ} (c : Passed tags values rules 
     pub to-sort : Sort
     pub tree-is : tree tags values x
         ≡ iteStep (varsAt tags values (s .list)) (varsAt tags values (s .yes-list)) (varsAt tags values (s .no-list)) (tree tags values (s .test)) second third sort from-sort to-sort
+    pub left-is : tree tags values (s .left) ≡ quant true bool (varsAt tags values (s .list)) (op 41 from-sort (tcons (tree tags values (s .test)) (tcons second (tcons third tnil))))
+    pub yes-is : tree tags values (s .yes-place) ≡ quant true bool (varsAt tags values (s .yes-list)) second
+    pub no-is : tree tags values (s .no-place) ≡ quant true bool (varsAt tags values (s .no-list)) third
     pub test : isTerm tags n (s .test) ≡ true
     pub sorts : Sorted tags n (s .list)
+    pub yes-sorts : Sorted tags n (s .yes-list)
+    pub no-sorts : Sorted tags n (s .no-list)
 
-  sides-tree : (x : ℕ) → isTerm tags n x ≡ true → (s : IteSides) → iteSides tags values x ≡ some s → AreSides x s
+  pub sides-tree : (x : ℕ) → isTerm tags n x ≡ true → (s : IteSides) → iteSides tags values x ≡ some s → AreSides x s
   unfolding iteSides
   sides-tree x t s e =
       then-some (equality tags values x) _ _ e λ p e₁ h₁.
@@ -138,8 +143,13 @@ module _ {tags values rules : List ℕ} {n : ℕ} (c : Passed tags values rules 
           eqb-true (from .1) (yes-q .body) o₃,
           eqb-true (from .2) (no-q .body) o₄,
         );
+        left-is = cc (l .tree-is, kind, f .tree-is);
+        yes-is = cc (y .tree-is, yes-kind, eqb-true (from .1) (yes-q .body) o₃);
+        no-is = cc (m .tree-is, no-kind, eqb-true (from .2) (no-q .body) o₄);
         test = f .test;
         sorts = l .sorts;
+        yes-sorts = y .sorts;
+        no-sorts = m .sorts;
       }))
       (λ o. let d : none ≡ some s = rw o at h₆ in let z : _≡_ {A = ℕ} 0 1 = cc in absurd (omega arith))
 

@@ -34,6 +34,7 @@ pub record AreSides (tags values : List ℕ) (n tag x : ℕ) (s : Sides) : Type 
   pub tree-is : tree tags values x
       ≡ op 39 sort (tcons (quant (s .kind) bool (varsAt tags values (s .list)) (op tag from-sort (termsOf (tree tags values) (s .from))))
       (tcons (op tag to-sort (termsOf (tree tags values) (s .to))) tnil))
+  pub left-is : tree tags values (s .left) ≡ quant (s .kind) bool (varsAt tags values (s .list)) (op tag from-sort (termsOf (tree tags values) (s .from)))
   pub right-is : tree tags values (s .right) ≡ op tag to-sort (termsOf (tree tags values) (s .to))
   pub right : isTerm tags n (s .right) ≡ true
   pub sorts : Sorted tags n (s .list)
@@ -63,6 +64,7 @@ module _ {tags values rules : List ℕ} {n : ℕ} (c : Passed tags values rules 
           from-sort = f .sort;
           to-sort = g .sort;
           tree-is = cc (i .tree-is, l .tree-is, f .tree-is, g .tree-is, k);
+          left-is = cc (l .tree-is, f .tree-is, k);
           right-is = g .tree-is;
           right = i .right;
           sorts = l .sorts;

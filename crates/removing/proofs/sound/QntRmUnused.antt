@@ -46,12 +46,12 @@ module _ (R : Reading) (local : Local R) where
 -- ---- at places
 module _ {tags values rules : List ℕ} {n : ℕ} (c : Passed tags values rules n) where
   -- refusal 8: every pair of the right list is in the left
-  pairs-fewer : (ls rs : List Binding) → firstOf (λ a. not (hasPair ls a)) rs ≡ none → Subset (varsAt tags values rs) (varsAt tags values ls)
+  pub pairs-fewer : (ls rs : List Binding) → firstOf (λ a. not (hasPair ls a)) rs ≡ none → Subset (varsAt tags values rs) (varsAt tags values ls)
   pairs-fewer ls rs e v h =
       has-pair tags values rs v h (λ a m p. rw (← p) (has-at tags values ls a (not-false _ (first-none (λ a. not (hasPair ls a)) rs e a m))))
 
   -- refusal 9: a pair of the left list that the right lacks is not free in the body
-  pairs-unused : (t : ℕ) → isTerm tags n t ≡ true → (ls rs : List Binding) → Sorted tags n ls
+  pub pairs-unused : (t : ℕ) → isTerm tags n t ≡ true → (ls rs : List Binding) → Sorted tags n ls
       → firstOf (λ a. not (hasPair rs a) && bindingFree tags values n t a) ls ≡ none
       → (v : Var) → has (varsAt tags values ls) v ≡ true → has (varsAt tags values rs) v ≡ false → free (tree tags values t) v ≡ false
   pairs-unused t k ls rs s e v h g =

@@ -2,6 +2,7 @@
 -- Assumes nothing.
 use Prim.Native.Nat.{ℕ, suc, _-_, _≤_, _<_, min}
 use mathlib.Core.Path.{_≡_, refl, sym, ap, _∙_}
+use mathlib.Core.Logic.{_↔_}
 use mathlib.Core.Bool.{Bool, true, false, not, _&&_, cond}
 use mathlib.Core.List.{List}
 use lib.ListN.{length, getD, length-drop}
@@ -27,11 +28,12 @@ use Rattle.miniscoping.specs.MiniscopeDistribute.{miniscopeDistribute}
 use Rattle.miniscoping.specs.MiniscopeSplit.{miniscopeSplit}
 use Rattle.miniscoping.specs.MiniscopeIte.{miniscopeIte}
 use Rattle.miniscoping.specs.LeftFits.{LeftFits}
-use Rattle.rules.specs.Step.{isRule, ruleOutcome, stepAnswer, cellsLeft, Follows, Step}
+use Rattle.rules.specs.Step.{isRule, ruleOutcome, stepAnswer, cellsLeft, Follows, StepHolds, Step}
 use Rattle.clausification.specs.Promises.{Clausified}
 use Rattle.rules.specs.StepWalk.{beforeRule, Kept, Judged}
 use Rattle.rules.proofs.Codes.{rule-codes, not-30}
 use Rattle.rules.proofs.Accepted.{step-follows}
+use Rattle.rules.proofs.Schema.{step-is}
 
 -- ---- a rule's code
 pub rule-low : (k : ℕ) → k < 1 → false ≡ isRule k
@@ -205,6 +207,7 @@ module _ (tags values table : List ℕ) (n rule : ℕ) (conclusion : List ℕ) (
         answer = answer-is;
         tags-are = left tags tags′ (j .tags-kept);
         values-are = left values values′ (j .values-kept);
+        accepts = step-is tags values table n rule conclusion r answer-is;
         follows = step-follows tags values table n rule conclusion r answer-is;
       }
 
@@ -222,16 +225,19 @@ module _ (tags values table : List ℕ) (n rule : ℕ) (conclusion : List ℕ) (
         (λ k. rw (← is, p, k) (rw (p, k) at before)))
         (λ p. rw (← is, p) (rw p at before))
 
+    holds : early .code ≡ 0 ↔ StepHolds tags values table n rule conclusion
+    holds = step-is tags values table n rule conclusion early refused-is
+
     truth : Follows tags values table n rule conclusion early
     truth = step-follows tags values table n rule conclusion early refused-is
 
     pub step-other : (rule ≡ 3 → ⊥) → Step tags values table n rule conclusion early tags values
     unfolding cellsLeft
-    step-other h = record { answer = refused-is; tags-are = rw (ne-eqb _ _ h); values-are = rw (ne-eqb _ _ h); follows = truth }
+    step-other h = record { answer = refused-is; tags-are = rw (ne-eqb _ _ h); values-are = rw (ne-eqb _ _ h); accepts = holds; follows = truth }
 
     pub step-30 : early .code ≡ 30 → Step tags values table n rule conclusion early tags values
     unfolding cellsLeft
-    step-30 e = record { answer = refused-is; tags-are = sym (unchanged tags); values-are = sym (unchanged values); follows = truth }
+    step-30 e = record { answer = refused-is; tags-are = sym (unchanged tags); values-are = sym (unchanged values); accepts = holds; follows = truth }
       where
         unchanged : (l : List ℕ) → cond (eqb rule 3 && not (eqb (early .code) 30)) (zeroFrom n l) l ≡ l
         unchanged l = by-test (eqb rule 3) (λ o. rw (o, eq-eqb _ _ e)) (λ o. rw o)
@@ -243,6 +249,7 @@ module _ (tags values table : List ℕ) (n rule : ℕ) (conclusion : List ℕ) (
       answer = refused-is;
       tags-are = rw (eq-eqb _ _ e, ne-eqb _ _ h) (cut .tags-are);
       values-are = rw (eq-eqb _ _ e, ne-eqb _ _ h) (cut .values-are);
+      accepts = holds;
       follows = truth;
     }
 

@@ -1,0 +1,3 @@
+pub mod Schemas
+pub mod Notation
+pub mod RuleSchema
