@@ -14,23 +14,27 @@
 --     (and (or))          13, an empty `or` reached; of the call over its cells too
 --     (= p q r)           one opaque literal
 --
--- Of joins the conclusion is `(= (forall outer (forall inner p)) (forall right p))` in a pool of its own. Of formulas clausesOf is the clause list:
--- the normal form at true polarity with its foralls taken out; p, q, r and a are variables of sort Bool; a literal is +t for t, -t for `not` t.
--- Rests on joining's QntJoin, on term_trees' Sort and Term, on formulas' Skeleton, Normal and Clauses, and on normal_form's Calls.
+-- Of joins the conclusion is `(= (forall outer (forall inner p)) (forall right p))` in a pool of its own. Of formulas clausesOf is the clause list
+-- by which rule 3's schema goes: the normal form at true polarity with its foralls taken out; p, q, r and a are variables of sort Bool; a literal
+-- is +t for t, -t for `not` t.
+-- Rests on joining's QntJoin, on term_trees' Sort and Term, on formulas' Skeleton, Normal and Clauses, on
+-- schemas' Schemas and Notation, and on normal_form's Calls.
 use mathlib.Core.Path.{_≡_, refl}
 use Prim.Native.Nat.{ℕ}
-use mathlib.Core.Bool.{Bool, true, false}
+use mathlib.Core.Bool.{true, false}
 use mathlib.Core.List.{List, [], _∷_, _++_}
-use Rattle.term_trees.specs.Sort.{Sort-discrete, bool}
-use Rattle.term_trees.specs.Term.{Vars, Term, Terms, var, op, tnil, tcons, stated}
-use Rattle.formulas.specs.Normal.{Normal, lit, nnf, prenex}
-use Rattle.formulas.specs.Clauses.{Clause, cnf, emptyOr}
+use Rattle.term_trees.specs.Sort.{Sort-discrete}
+use Rattle.term_trees.specs.Term.{Vars, Term, stated}
+use Rattle.formulas.specs.Normal.{Normal, lit}
+use Rattle.formulas.specs.Clauses.{Clause, emptyOr}
 use Rattle.formulas.specs.Skeleton.{skeleton, leftBool, formOf, notOf, iteOf, iffOf}
 use lib.ListN.{length, replicate}
 use Rattle.cells.specs.Cell.{cellsOf, operandsOf}
 use Rattle.quantifiers.specs.Outcome.{Outcome, pass, refuse, _>>=_, _>>_, need, guard}
 use Rattle.quantifiers.specs.Binding.{bindingsOf, same, sameAll}
 use Rattle.forms.specs.Form.{quantifier, operator, equality as equalityAt}
+use Rattle.schemas.specs.Notation.{variable, not′, and′, or′, equals, ite′}
+use Rattle.schemas.specs.Schemas.{clausal, clausesOf}
 use Rattle.joining.specs.QntJoin.{afterPair, withoutAdjacent, joined, qntJoin}
 use Rattle.cells.specs.Bounded.{everyIn, every}
 use Rattle.cells.specs.ByPlace.{downTo, byPlace}
@@ -109,9 +113,6 @@ unfolding join qntJoin _>>=_ _>>_ need guard equalityAt operator quantifier oper
 join-not-twice = refl
 
 -- ---- formulas
-abbrev variable : ℕ → Term
-variable name = var (record { name = name; sort = bool })
-
 abbrev p : Term
 p = variable 1
 
@@ -124,32 +125,7 @@ r = variable 3
 abbrev a : Term
 a = variable 4
 
-abbrev operands : List Term → Terms
-operands [] = tnil
-operands (t ∷ ts) = tcons t (operands ts)
-
-abbrev not′ : Term → Term
-not′ t = op 34 bool (operands (t ∷ []))
-
-abbrev and′ : List Term → Term
-and′ ts = op 36 bool (operands ts)
-
-abbrev or′ : List Term → Term
-or′ ts = op 37 bool (operands ts)
-
-abbrev equals : List Term → Term
-equals ts = op 39 bool (operands ts)
-
-abbrev ite′ : Term → Term → Term → Term
-ite′ t u w = op 41 bool (operands (t ∷ u ∷ w ∷ []))
-
 -- ---- clauses
-abbrev clausal : Term → Normal Vars Term
-clausal t = prenex (nnf (skeleton t) true)
-
-abbrev clausesOf : Term → List (Clause Vars Term)
-clausesOf t = cnf (clausal t)
-
 abbrev + : Term → Normal Vars Term
 + t = lit true t
 

@@ -1,6 +1,6 @@
--- Formulas as they are written, for cases by computation.
+-- Formulas as they are written, for cases by computation; the number of operands.
 -- Rests on term_trees' Sort and Term.
-use Prim.Native.Nat.{ℕ}
+use Prim.Native.Nat.{ℕ, suc}
 use mathlib.Core.List.{List, [], _∷_}
 use Rattle.term_trees.specs.Sort.{bool}
 use Rattle.term_trees.specs.Term.{Term, Terms, var, op, tnil, tcons}
@@ -12,6 +12,10 @@ variable name = var (record { name = name; sort = bool })
 abbrev pub operands : List Term → Terms
 operands [] = tnil
 operands (t ∷ ts) = tcons t (operands ts)
+
+abbrev pub termCount : Terms → ℕ
+termCount tnil = 0
+termCount (tcons t ts) = suc (termCount ts)
 
 abbrev pub not′ : Term → Term
 not′ t = op 34 bool (operands (t ∷ []))

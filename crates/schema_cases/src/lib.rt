@@ -1,0 +1,1 @@
+// The schemas of the six rules at formulas, by computation. Theorems alone.
