@@ -1,0 +1,1 @@
+// What each refusal of a rule says of the conclusion's tree. Theorems alone.
