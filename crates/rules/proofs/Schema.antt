@@ -24,7 +24,7 @@ use Rattle.schemas.proofs.Cnf.{qnt-cnf-within}
 use Rattle.schemas.proofs.Distribute.{miniscope-distribute-is}
 use Rattle.schemas.proofs.Split.{miniscope-split-is}
 use Rattle.schemas.proofs.Ite.{miniscope-ite-is}
-use Rattle.rules.specs.Step.{isRule, ruleOutcome, stepAnswer, StepHolds}
+use Rattle.rules.specs.Step.{ruleOutcome, stepAnswer, StepHolds}
 use Rattle.rules.proofs.Accepted.{step-accepted}
 
 module _ {tags values table : List ℕ} {n : ℕ} (c : Passed tags values table n) (x : ℕ) (t : isTerm tags n x ≡ true) where
