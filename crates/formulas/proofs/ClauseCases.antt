@@ -6,7 +6,7 @@ use mathlib.Core.Path.{_≡_, refl, sym, subst, _∙_}
 use mathlib.Core.Bool.{true, true≢false}
 use mathlib.Core.List.{List, [], _∷_}
 use Rattle.term_trees.specs.Term.{Term, var}
-use Rattle.formulas.specs.Skeleton.{skeleton, clausesOf}
+use Rattle.formulas.specs.Skeleton.{skeleton, clauseTermsOf}
 use Rattle.formulas.specs.Truth.{True, eachSomeTrue}
 use Rattle.formulas.specs.TruthCases.{twoValues, x, forall-false}
 use Rattle.formulas.specs.Numbered.{numbered, ClausesSay}
@@ -19,10 +19,10 @@ x-true : eachSomeTrue twoValues ((var x ∷ []) ∷ []) (λ v. true) ≡ true
 unfolding True skeleton
 x-true = refl
 
-pub forall-needed : ClausesSay (clausesOf everyX) everyX → ⊥
+pub forall-needed : ClausesSay (clauseTermsOf everyX) everyX → ⊥
 forall-needed h =
     let says : ClausesSay ((var x ∷ []) ∷ []) everyX = subst (λ (cs : List (List Term)). ClausesSay cs everyX) forall-clauses h in
     true≢false (sym x-true ∙ (every-clauses ((var x ∷ []) ∷ []) everyX says twoValues (λ v. true) ∙ forall-false (λ v. true)))
 
-pub under-exists-says : ClausesSay (clausesOf someEvery) someEvery
+pub under-exists-says : ClausesSay (clauseTermsOf someEvery) someEvery
 under-exists-says N = clauses-truth (numbered N) someEvery under-exists

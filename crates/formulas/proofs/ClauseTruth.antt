@@ -14,7 +14,7 @@ use Rattle.term_trees.specs.FreeTree.{has, free}
 use Rattle.formulas.specs.Formula.{Form, all}
 use Rattle.formulas.specs.Normal.{Normal, Normals, lit, nmany, nall, nnil, ncons, nnf, prenex, prenexes, taken}
 use Rattle.formulas.specs.Clauses.{Clause, product, cnf, cnfAnd, cnfOr, reachesForall, reachForall}
-use Rattle.formulas.specs.Skeleton.{skeleton, IsOpaque, build, normals, clauseForm, clauseTerm, clausesOf, NoForallReached}
+use Rattle.formulas.specs.Skeleton.{skeleton, IsOpaque, build, normals, clauseForm, clauseTerm, clauseTermsOf, NoForallReached}
 use Rattle.formulas.specs.Truth.{Assignment, Reading, Local, over, truth, True, truthN, truthNs, clauseTruth, clausesTruth}
 use Rattle.formulas.specs.Truth.{someTrue, eachSomeTrue, Says}
 use Rattle.formulas.proofs.Over.{bool-cases, not-both, andOr-intro, andOr-left, andOr-right, or-left, or-right, or-cases}
@@ -89,7 +89,7 @@ module _ (R : Reading) where
   lists-truth (c ∷ cs) o ρ = ap₂ _&&_ (terms-truth c (o .0) ρ) (lists-truth cs (o .1) ρ)
 
   -- a term's clauses
-  pub clauses-truth : (t : Term) → NoForallReached t → Says R (clausesOf t) t
+  pub clauses-truth : (t : Term) → NoForallReached t → Says R (clauseTermsOf t) t
   unfolding True
   clauses-truth t e ρ =
       let n = nnf (skeleton t) true in

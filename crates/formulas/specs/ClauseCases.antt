@@ -14,7 +14,7 @@ use Rattle.term_trees.specs.Sort.{bool}
 use Rattle.term_trees.specs.Term.{Var, Term, var, quant, op, tnil, tcons}
 use Rattle.formulas.specs.Normal.{nnf}
 use Rattle.formulas.specs.Clauses.{reachesForall}
-use Rattle.formulas.specs.Skeleton.{skeleton, formOf, notOf, clausesOf, NoForallReached}
+use Rattle.formulas.specs.Skeleton.{skeleton, formOf, notOf, clauseTermsOf, NoForallReached}
 use Rattle.formulas.specs.TruthCases.{x}
 
 abbrev y : Var
@@ -28,7 +28,7 @@ pub forall-reached : reachesForall (nnf (skeleton everyX) true) ≡ true
 unfolding skeleton
 forall-reached = refl
 
-pub forall-clauses : clausesOf everyX ≡ (var x ∷ []) ∷ []
+pub forall-clauses : clauseTermsOf everyX ≡ (var x ∷ []) ∷ []
 unfolding skeleton
 forall-clauses = refl
 
@@ -44,11 +44,11 @@ pub under-exists : NoForallReached someEvery
 unfolding skeleton
 under-exists = refl
 
-pub exists-clauses : clausesOf someEvery ≡ (someEvery ∷ []) ∷ []
+pub exists-clauses : clauseTermsOf someEvery ≡ (someEvery ∷ []) ∷ []
 unfolding skeleton
 exists-clauses = refl
 
 -- ---- an empty `or`
-pub empty-clause : clausesOf (op 36 bool (tcons (var x) (tcons (op 37 bool tnil) tnil))) ≡ (var x ∷ []) ∷ [] ∷ []
+pub empty-clause : clauseTermsOf (op 36 bool (tcons (var x) (tcons (op 37 bool tnil) tnil))) ≡ (var x ∷ []) ∷ [] ∷ []
 unfolding skeleton formOf
 empty-clause = refl

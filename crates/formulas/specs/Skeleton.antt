@@ -3,7 +3,7 @@
 --     IsOpaque t     t is no connective or quantifier
 --     build n        the term of the normal form n
 --     clauseTerm c   the term of the clause c
---     clausesOf t    the clauses of t, as terms
+--     clauseTermsOf t    the clauses of t, as terms
 --     NoForallReached t     no forall is reached after t's normal form
 -- 01, "Normal form and clauses": "`not` with 1 operand flips the polarity; `and`, `or` of any length; `=>` with 2; `ite` with 3; `=` with 2
 -- whose left has sort Bool; forall and exists. These are the connectives and quantifiers of demand 3. Any other count or term is opaque".
@@ -114,8 +114,8 @@ abbrev pub clauseTerm : Clause Vars Term → Term
 clauseTerm c = build (clauseForm c)
 
 -- ---- the clauses of a term: those of its normal form at true polarity with foralls taken out
-abbrev pub clausesOf : Term → List (List Term)
-clausesOf t = map (map build) (cnf (prenex (nnf (skeleton t) true)))
+abbrev pub clauseTermsOf : Term → List (List Term)
+clauseTermsOf t = map (map build) (cnf (prenex (nnf (skeleton t) true)))
 
 -- S-1: "a formula in which .. no forall is reached after the normal form"
 abbrev pub NoForallReached : Term → Type 0

@@ -22,7 +22,7 @@ use Rattle.term_trees.proofs.Passed.{Passed}
 use Rattle.formulas.specs.Normal.{lit, nmany, nall, nnf, prenex, taken}
 use Rattle.formulas.specs.Clauses.{Clause, cnf}
 use Rattle.formulas.specs.Built.{Pool, count, takenOut, normalAt}
-use Rattle.formulas.specs.Skeleton.{skeleton, build, clausesOf, NoForallReached}
+use Rattle.formulas.specs.Skeleton.{skeleton, build, clauseTermsOf, NoForallReached}
 use Rattle.formulas.specs.Truth.{Reading, eachSomeTrue, Says}
 use Rattle.formulas.proofs.Mapped.{prenex-map, taken-map, cnf-map}
 use Rattle.formulas.proofs.ClauseTruth.{clauses-truth}
@@ -113,7 +113,7 @@ module _ {tags values rules : List ℕ} {n : ℕ} (c : Passed tags values rules 
       ∙ (ap cnf (clausal-form-read .is) ∙ clauses-leafed (nnf (skeleton (tree tags values t)) true))
 
   pub clause-places-are : map (map (termIn (clausalIn tags values n t .pool))) (map clausePlaces (cnf (clausalFormIn tags values n t)))
-      ≡ clausesOf (tree tags values t)
+      ≡ clauseTermsOf (tree tags values t)
   clause-places-are =
       all-places-are (clausalIn tags values n t .pool) (cnf (clausalFormIn tags values n t)) (cnf (prenex (nnf (skeleton (tree tags values t)) true))) clauses-are
 

@@ -15,7 +15,7 @@ use Rattle.term_trees.specs.Tree.{tree}
 use Rattle.formulas.specs.Normal.{Normal, Normals, lit, nmany, nall, nnil, ncons, nnf, prenex}
 use Rattle.formulas.specs.Clauses.{Clause, cnf}
 use Rattle.formulas.specs.Built.{Pool, count}
-use Rattle.formulas.specs.Skeleton.{skeleton, clausesOf, NoForallReached}
+use Rattle.formulas.specs.Skeleton.{skeleton, clauseTermsOf, NoForallReached}
 use Rattle.formulas.specs.Truth.{Reading, True, eachSomeTrue, HasValue, Says}
 use Rattle.formulas.proofs.Leaves.{EachN, EachNs, EachC, EachCs, cnf-each}
 use Rattle.formulas.proofs.Operands.{IsTerm}
@@ -98,7 +98,7 @@ module _ {tags values rules : List ℕ} {n t : ℕ} {literals ends : List ℕ} {
       (clauses-are (c .passed) t (c .below) (c .term))
 
   -- these are the terms of the clauses of the definition: nothing is asked of foralls
-  pub clauses-read-are : clausesRead tags′ values′ literals′ ends′ (r .first) ≡ clausesOf (tree tags values t)
+  pub clauses-read-are : clausesRead tags′ values′ literals′ ends′ (r .first) ≡ clauseTermsOf (tree tags values t)
   clauses-read-are = let c = list-accepted f ok .checked in terms-read ∙ clause-places-are (c .passed) t (c .below) (c .term)
 
   pub clause-list-value : NoForallReached (tree tags values t) → (R : Reading) → Says R (clausesRead tags′ values′ literals′ ends′ (r .first)) (tree tags values t)
