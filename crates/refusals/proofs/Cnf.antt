@@ -23,12 +23,12 @@ use Rattle.forms.specs.Form.{Quantifier, tagOf}
 use Rattle.forms.proofs.Trees.{Sorted, sorted-has, quantifier-tree, binding-free}
 use Rattle.clausification.specs.QntCnf.{implication, takenFrom, leftAndTaken, clauseFollows, clausified, qntCnf}
 use Rattle.schemas.specs.Schemas.{binder, implies, clausal, clausesOf, IsClause, withTaken, Bounded}
-use Rattle.schemas.specs.RuleSchema.{Room}
+use Rattle.schema_theorems.specs.RuleSchema.{Room}
 use Rattle.forms.proofs.Back.{has-is}
-use Rattle.schemas.proofs.Taken.{has-left, free-place}
-use Rattle.schemas.proofs.Clause.{clause-back}
-use Rattle.schemas.proofs.Limits.{empty-is, bounded-back}
-use Rattle.schemas.proofs.Cnf.{implication-back}
+use Rattle.schema_theorems.proofs.Taken.{has-left, free-place}
+use Rattle.schema_theorems.proofs.Clause.{clause-back}
+use Rattle.schema_theorems.proofs.Limits.{empty-is, bounded-back}
+use Rattle.schema_theorems.proofs.Cnf.{implication-back}
 use Rattle.clausification.proofs.sound.QntCnf.{implication-tree}
 use Rattle.refusals.proofs.Refuses.{need-refuses, guard-refuses, unless-refuses, unless-last-refuses, renumber}
 use Rattle.refusals.proofs.Reasons.{NoQuantifier, no-quantifier}

@@ -16,7 +16,7 @@ use Rattle.quantifiers.specs.Outcome.{refuse}
 use Rattle.quantifiers.proofs.Bindings.{varOf}
 use Rattle.miniscoping.specs.MiniscopeIte.{iteSides, miniscopeIte}
 use Rattle.schemas.specs.Schemas.{equal, binder, iteTerm}
-use Rattle.schemas.proofs.Ite.{sides-back}
+use Rattle.schema_theorems.proofs.Ite.{sides-back}
 use Rattle.miniscoping.proofs.sound.MiniscopeIte.{sides-tree}
 use Rattle.refusals.proofs.Refuses.{need-refuses, guard-refuses, unless-last-refuses, renumber}
 use Rattle.refusals.proofs.Reasons.{lists-differ, free-variable}

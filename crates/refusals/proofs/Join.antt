@@ -19,7 +19,7 @@ use Rattle.forms.proofs.Trees.{quantifier-tree, equality-tree}
 use Rattle.joining.specs.QntJoin.{joined, qntJoin}
 use Rattle.schemas.specs.Schemas.{equal, binder, joinedOnce}
 use Rattle.forms.proofs.Back.{lists-same}
-use Rattle.schemas.proofs.Join.{joined-is}
+use Rattle.schema_theorems.proofs.Join.{joined-is}
 use Rattle.refusals.proofs.Refuses.{need-refuses, guard-refuses, last-refuses, renumber}
 use Rattle.refusals.proofs.Reasons.{NoEquality, NoQuantifier, no-equality, no-quantifier, kinds-differ, terms-differ}
 

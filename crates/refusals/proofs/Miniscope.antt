@@ -32,8 +32,8 @@ use Rattle.schemas.specs.Notation.{termCount}
 use Rattle.schemas.specs.Schemas.{equal, binder}
 use Rattle.forms.proofs.Back.{quantifier-back, has-is}
 use Rattle.quantifiers.proofs.Sound.{beq-same}
-use Rattle.schemas.proofs.Distribute.{terms-count, sides-back}
-use Rattle.schemas.proofs.Split.{without-is, uses-there}
+use Rattle.schema_theorems.proofs.Distribute.{terms-count, sides-back}
+use Rattle.schema_theorems.proofs.Split.{without-is, uses-there}
 use Rattle.refusals.proofs.Refuses.{need-refuses, bind-refuses, then-refuses, guard-refuses, unless-last-refuses, last-refuses, renumber}
 use Rattle.refusals.proofs.Reasons.{terms-differ, lists-differ, free-variable}
 

@@ -17,13 +17,13 @@ use Rattle.answers.specs.declared.Answer.{Answer}
 use Rattle.term_trees.specs.Tree.{tree}
 use Rattle.term_trees.proofs.Passed.{Passed, pool-passes, pool-accepts}
 use Rattle.quantifiers.specs.Outcome.{pass, answerOf}
-use Rattle.schemas.specs.RuleSchema.{WithinLimits, RuleSchema, RuleHolds}
-use Rattle.schemas.proofs.Join.{qnt-join-is}
-use Rattle.schemas.proofs.RmUnused.{qnt-rm-unused-is}
-use Rattle.schemas.proofs.Cnf.{qnt-cnf-within}
-use Rattle.schemas.proofs.Distribute.{miniscope-distribute-is}
-use Rattle.schemas.proofs.Split.{miniscope-split-is}
-use Rattle.schemas.proofs.Ite.{miniscope-ite-is}
+use Rattle.schema_theorems.specs.RuleSchema.{WithinLimits, RuleSchema, RuleHolds}
+use Rattle.schema_theorems.proofs.Join.{qnt-join-is}
+use Rattle.schema_theorems.proofs.RmUnused.{qnt-rm-unused-is}
+use Rattle.schema_theorems.proofs.Cnf.{qnt-cnf-within}
+use Rattle.schema_theorems.proofs.Distribute.{miniscope-distribute-is}
+use Rattle.schema_theorems.proofs.Split.{miniscope-split-is}
+use Rattle.schema_theorems.proofs.Ite.{miniscope-ite-is}
 use Rattle.rules.specs.Step.{ruleOutcome, stepAnswer, StepHolds}
 use Rattle.rules.proofs.Accepted.{step-accepted}
 

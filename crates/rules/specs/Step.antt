@@ -23,7 +23,7 @@ use Rattle.miniscoping.specs.MiniscopeDistribute.{miniscopeDistribute}
 use Rattle.miniscoping.specs.MiniscopeSplit.{miniscopeSplit}
 use Rattle.miniscoping.specs.MiniscopeIte.{miniscopeIte}
 use Rattle.clausification.specs.NoCapture.{NoCapture}
-use Rattle.schemas.specs.RuleSchema.{RuleHolds}
+use Rattle.schema_theorems.specs.RuleSchema.{RuleHolds}
 use Rattle.rules.specs.Premises.{TrueInReadings}
 
 -- "The six rules, with codes": 1 to 6

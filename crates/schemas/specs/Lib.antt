@@ -1,3 +1,2 @@
 pub mod Schemas
 pub mod Notation
-pub mod RuleSchema

@@ -1,1 +1,1 @@
-// The six rules as the Alethe document states them, on trees, and that the rules at places are these. Definitions and theorems alone.
+// The six rules as the Alethe document states them, on trees, and cases of them by computation. Definitions and theorems alone.

@@ -22,10 +22,10 @@ use Rattle.forms.specs.Form.{Quantifier}
 use Rattle.forms.proofs.Passes.{need-passes, guard-passes, unless-passes, unless-last, by-option}
 use Rattle.forms.proofs.Trees.{IsQuantifier, IsEquality, quantifier-tree, equality-tree, list-unfree}
 use Rattle.removing.specs.QntRmUnused.{removes as removesAt, unused, bodyOr, qntRmUnused}
 use Rattle.schemas.specs.Schemas.{QntRmUnused, removes, removes-all, equal, binder, Among, FreeAmong, NotFree}
 use Rattle.forms.proofs.Back.{quantifier-back, equality-back, equality-found, same-place, list-unfree-back}
 use Rattle.quantifiers.proofs.Sound.{beq-same}
-use Rattle.schemas.proofs.Lists.{fewer-there, fewer-back, used-there, used-back}
+use Rattle.schema_theorems.proofs.Lists.{fewer-there, fewer-back, used-there, used-back}
 
 module _ {tags values rules : List ℕ} {n : ℕ} (c : Passed tags values rules n) where
   -- ---- from places to trees

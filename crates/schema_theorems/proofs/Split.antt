@@ -24,11 +24,11 @@ use Rattle.forms.proofs.Trees.{AllTerms, SortPlace, Sorted, quantifier-tree, li
 use Rattle.used_pairs.specs.Used.{without as withoutPair, useAll}
 use Rattle.miniscoping.specs.MiniscopeSplit.{splitOff, splitOne, splitAll, splitSides, miniscopeSplit}
 use Rattle.miniscoping.proofs.sound.Sides.{of-kind, either-sides}
 use Rattle.schemas.specs.Notation.{termCount}
 use Rattle.schemas.specs.Schemas.{MiniscopeSplit, splits, Split, ends, as-it-is, under, Uses, nothing, next, without, binder, NotFree}
 use Rattle.forms.proofs.Back.{quantifier-back, same-place, same-is, has-is, list-unfree-back}
 use Rattle.quantifiers.proofs.Sound.{beq-same}
-use Rattle.schemas.proofs.Distribute.{terms-count, sides-back}
+use Rattle.schema_theorems.proofs.Distribute.{terms-count, sides-back}
 
 -- quantifiers at the top: no term is a quantifier over itself
 depth : Term → ℕ

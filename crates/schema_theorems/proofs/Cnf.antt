@@ -22,12 +22,12 @@ use Rattle.forms.proofs.Passes.{need-passes, guard-passes, unless-passes, unles
 use Rattle.forms.proofs.Trees.{AllTerms, quantifier-tree}
 use Rattle.clausification.specs.QntCnf.{implication, withinLimits, leftAndTaken, clauseFollows, clausified, qntCnf}
 use Rattle.clausification.proofs.sound.QntCnf.{implication-tree}
 use Rattle.schemas.specs.Schemas.{QntCnf, clausifies, IsClause, clausesOf, withTaken, Among, FreeAmong, binder, implies}
-use Rattle.schemas.specs.RuleSchema.{Unlimited, WithinLimits}
+use Rattle.schema_theorems.specs.RuleSchema.{Unlimited, WithinLimits}
 use Rattle.forms.proofs.Back.{same-term, quantifier-back, operator-back, two-back}
-use Rattle.schemas.proofs.Taken.{new-there, new-back, missing-there, missing-back}
-use Rattle.schemas.proofs.Limits.{bounded-there, bounded-back}
-use Rattle.schemas.proofs.Clause.{clause-there, clause-back}
+use Rattle.schema_theorems.proofs.Taken.{new-there, new-back, missing-there, missing-back}
+use Rattle.schema_theorems.proofs.Limits.{bounded-there, bounded-back}
+use Rattle.schema_theorems.proofs.Clause.{clause-there, clause-back}
 
 -- what is left of a step that passes 31, 13 and 32
 past-limits : (b₁ b₂ b₃ : Bool) (rest : Outcome (Unit {0})) → Unlimited (answerOf (guard 31 0 0 b₁ >> (guard 13 0 0 b₂ >> (guard 32 0 0 b₃ >> rest)))) → rest ≡ pass tt

@@ -1,1 +1,0 @@
-// The schemas of the six rules at formulas, by computation. Theorems alone.
