@@ -255,3 +255,8 @@ module _ (tags values table : List ℕ) (n rule : ℕ) (conclusion : List ℕ) (
 
 pub indexed-after : (tags values : List ℕ) (n : ℕ) (a : Answer) (index : List ℕ) → Index tags values n index → Indexed tags values n a index
 indexed-after tags values n a index i = record { passed = λ ok. i }
+
+-- `check` hands on what `check_after` promises
+pub handed-on : {tags values table : List ℕ} {n rule : ℕ} {conclusion : List ℕ} {r : Answer} {tags′ values′ : List ℕ}
+    → Step tags values table n rule conclusion r tags′ values′ → Step tags values table n rule conclusion r tags′ values′
+handed-on s = s
