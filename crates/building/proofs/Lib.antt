@@ -1,4 +1,1 @@
 pub mod Interning
-pub mod Repeats
-pub mod NewTerms
-pub mod Clausal

@@ -1,5 +1,4 @@
--- Laws of putting terms into the pool.
-pub mod Laws
 pub mod Building
-pub mod Walks
 pub mod Indexing
+pub mod Laws
+pub mod Walks

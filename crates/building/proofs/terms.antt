@@ -1,2 +1,1 @@
--- Laws of one new term.
 pub mod Cells

@@ -8,7 +8,7 @@ use mathlib.Core.List.{List, map}
 use lib.ListN.{length, getD, take, drop}
 use lib.Dec.{ltb}
 use Rattle.cells.specs.Cell.{operandsOf}
-use Rattle.description_index.specs.Index.{Index}
+use Rattle.descriptions.specs.Index.{Index}
 use Rattle.descriptions.proofs.description.Fills.{Fills}
 use Rattle.building.specs.declared.build.Built.{Built}
 use Rattle.building.specs.declared.build.Built.the-variants.{At, Full}

@@ -3,7 +3,7 @@ use pool::description::Added;
 use pool::index::add;
 ghost use Rattle.formulas.specs.Built.{put};
 ghost use Rattle.building.specs.Arrays.{poolOf};
-ghost use Rattle.description_index.specs.Index.{Index};
+ghost use Rattle.descriptions.specs.Index.{Index};
 ghost use Rattle.building.specs.Walk.{State, Indexed, Puts};
 
 // Where a term that was built stands, with the new count; or no room.

@@ -12,7 +12,7 @@ ghost use lib.ListN.{length, getD, drop};
 ghost use Rattle.formulas.specs.Normal.{flip, lit};
 ghost use Rattle.formulas.specs.Built.{put, tagOfMany, tagOfQuantifier, intern};
 ghost use Rattle.building.specs.Arrays.{poolOf};
-ghost use Rattle.description_index.specs.Index.{Index};
+ghost use Rattle.descriptions.specs.Index.{Index};
 ghost use Rattle.building.specs.Walk.{State, Indexed, Puts, Cells, slotOf, placesIn, runOf};
 
 // The memo's index of a term and a polarity: the forms at true polarity come first.

@@ -1,12 +1,13 @@
 // The check of a step and the public calls of the pool and of normal forms from a shell: a call file on standard input, or the call files that the
 // arguments name, each after a line with its name.
+mod call_files;
 mod report;
 
 ghost use Prim.Native.Nat.{_≤_};
 ghost use mathlib.Core.Path.{_≡_};
 ghost use lib.ListN.{length};
-ghost use Rattle.call_files.specs.Format.{Bounded};
-use call_files::Head;
+ghost use Rattle.calls.specs.Format.{Bounded};
+use crate::call_files::Head;
 use libc::STDIN_FILENO;
 use libc::STDOUT_FILENO;
 use normal_form::call::Listed;
@@ -14,7 +15,7 @@ use normal_form::call::clause_list;
 use normal_form::call::normal_form;
 use pool::TermPlace;
 use rules::check::check;
-use words::read_words;
+use step_files::words::read_words;
 
 fn bad_file() {
     io::write_all(STDOUT_FILENO, b"bad file\n");
@@ -75,7 +76,7 @@ fn check_step(bytes: &[u8], head: Head)
 {
     let t = head.tags;
     let v = head.values;
-    let x = call_files::conclusion_count(head);
+    let x = crate::call_files::conclusion_count(head);
     let mut tags = cells();
     let mut values = cells();
     let mut conclusion = cells();
@@ -224,8 +225,8 @@ fn run(bytes: &[u8]) {
         bad_file();
         return;
     }
-    let head = call_files::read_head(bytes);
-    if !call_files::is_whole(bytes, head) {
+    let head = crate::call_files::read_head(bytes);
+    if !crate::call_files::is_whole(bytes, head) {
         bad_file();
         return;
     }

@@ -1,3 +1,3 @@
-pub mod Cells
 pub mod Bounds
+pub mod Cells
 pub mod Walks

@@ -1,7 +1,7 @@
 -- Laws of `Headers`: a walk over the headers, one law for each way out and one for a turn.
 -- Assumes nothing.
 use Prim.Native.Nat.{ℕ, zero, suc, _+_, _-_, _≤_, _<_}
-use mathlib.Core.Path.{_≡_, refl}
+use mathlib.Core.Path.{_≡_, refl, sym}
 use mathlib.Core.Bool.{Bool, true, false}
 use mathlib.Core.List.{List}
 use lib.ListN.{getD}
@@ -63,3 +63,29 @@ module _ (values : List ℕ) (n : ℕ) (test : ℕ → Bool) where
   pub first-below : (q : ℕ) → firstHeader values n test ≡ At q → q < n
   unfolding firstHeader firstFrom
   first-below q e = below-in (n - 0) 0 q e
+
+-- a walk that finds nothing goes past each header
+module _ (values : List ℕ) (n : ℕ) (test : ℕ → Bool) (p : ℕ) (h : p < n) (none : firstFrom values n test p ≡ Nothing) where
+  pub passes : test p ≡ false
+  passes =
+      by-test (test p)
+      (λ o. let z : At p ≡ Nothing = first-here values n test Nothing p (sym none) h true (sym o) refl in let y : _≡_ {A = ℕ} 0 1 = cc in absurd (omega arith))
+      (λ o. o)
+
+  pub goes-on : firstFrom values n test (p + (1 + getD values p 0)) ≡ Nothing
+  goes-on = sym (first-next values n test Nothing p (sym none) h false (sym passes) refl (getD values p 0) refl)
+
+module _ (values : List ℕ) (n : ℕ) (test : ℕ → Bool) where
+  holds-in : (f p q : ℕ) → firstIn values n test f p ≡ At q → test q ≡ true
+  unfolding firstIn
+  holds-in zero p q e = let z : _≡_ {A = ℕ} 0 1 = cc in absurd (omega arith)
+  holds-in (suc f) p q e =
+      by-test (leb n p)
+      (λ o. let d : Nothing ≡ At q = rw o at e in let z : _≡_ {A = ℕ} 0 1 = cc in absurd (omega arith))
+      (λ o. by-test (test p)
+      (λ y. let d : At p ≡ At q = rw (o, y) at e in let z : p ≡ q = cc in rw z at y)
+      (λ y. holds-in f (p + (1 + getD values p 0)) q (rw (o, y) at e)))
+
+  pub found-holds : (q : ℕ) → firstHeader values n test ≡ At q → test q ≡ true
+  unfolding firstHeader firstFrom
+  found-holds q = holds-in (n - 0) 0 q

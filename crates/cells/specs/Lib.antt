@@ -1,4 +1,6 @@
-pub mod Cell
 pub mod Bounded
-pub mod Headers
 pub mod ByPlace
+pub mod Cell
+pub mod Headers
+pub mod Marks
+pub mod TermTag

@@ -1,3 +1,2 @@
--- Laws of the whole clause list.
 pub mod Laws
 pub mod Lists

@@ -16,8 +16,8 @@ use Rattle.formulas.specs.Clauses.{cnf, cnfAnd, cnfOr, literalTotal, emptyOr}
 use Rattle.formulas.specs.Built.{normalsOf}
 use Rattle.formulas.specs.Totals.{cap, totals}
 use Rattle.clauses.specs.Lists.{emptyOrReached, tooManyClauses, padded, clausePlaces, literalPlaces, clauseEnds}
-use Rattle.clause_totals.specs.ClauseWalk.{formAt, asTotals, Memo}
-use Rattle.clause_totals.specs.declared.totals.Totals as code
+use Rattle.clauses.specs.ClauseWalk.{formAt, asTotals, Memo}
+use Rattle.clauses.specs.declared.totals.Totals as code
 use Rattle.clauses.specs.declared.conjunctive_normal_form.Chosen.{Chosen}
 use Rattle.clauses.specs.declared.conjunctive_normal_form.Digits.{Digits}
 use Rattle.clauses.specs.declared.clause_list.Filled.{Filled}

@@ -1,3 +1,4 @@
-pub mod Lists
-pub mod ListCases
+pub mod ClauseWalk
 pub mod ClauseList
+pub mod ListCases
+pub mod Lists

@@ -1,9 +1,9 @@
 // The whole clause list of a term, as two arrays: the literal places, clause after clause, and each clause's end.
 use crate::conjunctive_normal_form::count_at;
 use crate::conjunctive_normal_form::write_clause;
-use clause_totals::empty_or::empty_or;
-use clause_totals::totals::Totals;
-use clause_totals::totals::list_totals;
+use crate::empty_or::empty_or;
+use crate::totals::Totals;
+use crate::totals::list_totals;
 use formulas::view::NormalView;
 use formulas::view::normal_view;
 use pool::Answer;
@@ -15,7 +15,7 @@ ghost use mathlib.Core.List.{[], _∷_};
 ghost use Prim.Native.Nat.{_≤_};
 ghost use lib.ListN.{length};
 ghost use Rattle.formulas.specs.Clauses.{cnf, cnfAnd};
-ghost use Rattle.clause_totals.specs.ClauseWalk.{formAt};
+ghost use Rattle.clauses.specs.ClauseWalk.{formAt};
 ghost use Rattle.clauses.specs.ClauseList.{runOf, AskMore, AskLists, Adds, Lent, Counted, Ready, Answered, countAnswer, listAnswer};
 
 // How many cells of the two arrays are filled: the clauses' ends and the literals.

@@ -24,15 +24,17 @@ use Rattle.headers.specs.declared.well_formed.Shape.the-variants.{Let}
 use Rattle.headers.specs.declared.well_formed.CellKind.the-variants.{OfTerm}
 use Rattle.descriptions.proofs.description.Fills.{orElse, well-formed-fills}
 use Rattle.descriptions.proofs.description.Growth.{Same, at-same, find-grown}
-use Rattle.free_vars.specs.Free.{pairIn, boundBy, letBinds, freeStep, isFree}
-use Rattle.term_trees.proofs.Header.{Header, header, Each, Described, term-cell}
-use Rattle.term_trees.proofs.Walk.{place-fits, place-described, found-holds}
-use Rattle.term_trees.proofs.Parts.{pair-second, from-two}
-use Rattle.term_trees.proofs.Terms.{even-rest}
-use Rattle.formulas.proofs.SameTree.{at-true}
-use Rattle.quantifiers.specs.Binding.{Binding, freeAt, bindingFree}
-use Rattle.forms.specs.Form.{quantifier}
-use Rattle.forms.specs.FormAnswer.{pairsOf}
+use Rattle.free_variables.specs.Free.{pairIn, boundBy, letBinds, freeStep, isFree}
+use Rattle.meaning.proofs.trees.Header.{Header, header, Each, Described, term-cell}
+use Rattle.meaning.proofs.trees.Walk.{place-fits, place-described}
+use Rattle.cells.proofs.Walks.{found-holds}
+use Rattle.meaning.proofs.trees.Parts.{pair-second, from-two}
+use Rattle.meaning.proofs.trees.Terms.{even-rest}
+use Rattle.meaning.proofs.places.SameTree.{at-true}
+use Rattle.bindings.specs.Binding.{Binding}
+use Rattle.free_variables.specs.BindingFree.{bindingFree, freeAt}
+use Rattle.formulas.specs.Pattern.{quantifier}
+use Rattle.formulas.specs.PatternAnswer.{pairsOf}
 use Rattle.clausification.specs.QntCnf.{isClause}
 
 module _ (n : ℕ) (tags values tags′ values′ : List ℕ) (s : Same n tags values tags′ values′) (formed : firstBad tags values n ≡ Nothing) where

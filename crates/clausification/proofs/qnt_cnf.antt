@@ -1,4 +1,3 @@
--- Laws of rule 3.
-pub mod Laws
-pub mod Follows
 pub mod Clauses
+pub mod Follows
+pub mod Laws

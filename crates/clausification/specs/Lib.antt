@@ -1,5 +1,7 @@
-pub mod QntCnf
-pub mod NoCapture
-pub mod ClauseSearch
-pub mod Promises
 pub mod ClausalForms
+pub mod ClauseSearch
+pub mod NoCapture
+pub mod Promises
+pub mod QntCnf
+pub mod TakenList
+pub mod TakenSearch

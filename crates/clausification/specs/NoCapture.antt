@@ -5,11 +5,11 @@
 -- Rests on pool's Sort, Term and FreeTree, and on formulas' Normal and Skeleton.
 use mathlib.Core.Path.{_≡_}
 use mathlib.Core.Bool.{true, false}
-use Rattle.term_trees.specs.Sort.{Sort}
-use Rattle.term_trees.specs.Term.{Var, Vars, Term, quant, op, tnil, tcons}
-use Rattle.term_trees.specs.FreeTree.{has, free}
+use Rattle.meaning.specs.Sort.{Sort}
+use Rattle.meaning.specs.Term.{Var, Vars, Term, quant, op, tnil, tcons}
+use Rattle.meaning.specs.FreeTree.{has, free}
 use Rattle.formulas.specs.Normal.{nnf, taken}
-use Rattle.formulas.specs.Skeleton.{skeleton}
+use Rattle.meaning.specs.Skeleton.{skeleton}
 
 -- the conclusion c is `(or (not l) r)`
 abbrev pub NoCapture : Term → Type 0

@@ -4,17 +4,18 @@ use Prim.Native.Nat.{ℕ, _<_}
 use mathlib.Core.Path.{_≡_}
 use mathlib.Core.Bool.{true, not, _&&_}
 use mathlib.Core.List.{List, _++_}
-use Rattle.sort_rules.specs.Table.{builtIn}
+use Rattle.sorts.specs.Table.{builtIn}
 use Rattle.descriptions.specs.Description.{zeroFrom}
-use Rattle.pool_checks.specs.Check.{checkPool}
+use Rattle.pool.specs.Check.{checkPool}
 use Rattle.answers.specs.declared.Answer.{Answer}
 use Rattle.formulas.specs.Normal.{taken}
-use Rattle.clause_totals.specs.ClauseWalk.{formAt}
+use Rattle.clauses.specs.ClauseWalk.{formAt}
 use Rattle.building.specs.Walk.{Left}
-use Rattle.quantifiers.specs.Outcome.{Outcome, _>>_, guard, unless, answerOf}
-use Rattle.quantifiers.specs.Binding.{Binding, bindingsOf, has, firstOf, bindingFree}
-use Rattle.forms.specs.Form.{Quantifier}
-use Rattle.forms.specs.FormAnswer.{pairsOf, withList}
+use Rattle.answers.specs.Outcome.{Outcome, _>>_, guard, unless, answerOf}
+use Rattle.bindings.specs.Binding.{Binding, bindingsOf, has, firstOf}
+use Rattle.free_variables.specs.BindingFree.{bindingFree}
+use Rattle.formulas.specs.Pattern.{Quantifier}
+use Rattle.formulas.specs.PatternAnswer.{pairsOf, withList}
 use Rattle.clausification.specs.QntCnf.{isClause, anyClause, qntCnf}
 
 -- the forall at x, whose body is this

@@ -14,9 +14,10 @@ use Rattle.formulas.specs.Clauses.{cnf, emptyOr, literalTotal}
 use Rattle.formulas.specs.Built.{normalAt}
 use Rattle.clauses.specs.Lists.{clausePlaces}
 use Rattle.building.specs.Arrays.{fits, normalIn, clausalIn, clausalFormIn}
-use Rattle.quantifiers.specs.Outcome.{Outcome, _>>=_, _>>_, need, guard, unless}
-use Rattle.quantifiers.specs.Binding.{Binding, bindingsOf, has, firstOf, bindingFree}
-use Rattle.forms.specs.Form.{Quantifier, quantifier, tagOf, operator, oneOf, twoOf, andThen}
+use Rattle.answers.specs.Outcome.{Outcome, _>>=_, _>>_, need, guard, unless}
+use Rattle.bindings.specs.Binding.{Binding, bindingsOf, has, firstOf}
+use Rattle.free_variables.specs.BindingFree.{bindingFree}
+use Rattle.formulas.specs.Pattern.{Quantifier, quantifier, tagOf, operator, oneOf, twoOf, andThen}
 
 -- `(or (not l) r)`: l and r
 unfoldable pub implication : List ℕ → List ℕ → ℕ → Option (ℕ × ℕ)

@@ -1,13 +1,13 @@
 // The two forms of a body that rule 3 goes by, built after the pool: its normal form, and that with foralls taken out. The index has
 // the pool's headers again afterwards.
-use building::build::Built;
-use negation_normal_form::build_normal_form;
+use normal_form::build::Built;
+use normal_form::negation_normal_form::build_normal_form;
+use normal_form::prenex_forall::build_taken_out;
 use pool::TermPlace;
 use pool::index::forget;
 use pool::index::index_headers;
-use prenex_forall::build_taken_out;
 ghost use Prim.Native.Nat.{_<_};
-ghost use Rattle.description_index.specs.Index.{Index};
+ghost use Rattle.descriptions.specs.Index.{Index};
 ghost use Rattle.building.specs.Walk.{State};
 ghost use Rattle.clausification.specs.ClausalForms.{FormsBuilt};
 

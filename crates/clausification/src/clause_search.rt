@@ -1,9 +1,9 @@
 // Whether a term is one of the clauses that are listed in two arrays: literal places, clause after clause, and each clause's end.
 use pool::TermPlace;
+use pool::cell_comparison::same_cells;
 use pool::run::cell;
 use pool::run::operands;
 use pool::run::wide;
-use pool::same_cells;
 ghost use mathlib.Core.Path.{_≡_};
 ghost use Prim.Native.Nat.{_-_};
 ghost use lib.ListN.{take, drop};

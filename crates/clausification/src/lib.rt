@@ -2,3 +2,5 @@
 mod clausal_forms;
 mod clause_search;
 pub mod qnt_cnf;
+mod taken_list;
+mod taken_search;

@@ -1,6 +1,6 @@
 // Descriptions, a header's tag and cells: finding one, the first that repeats another, and cutting a pool back.
-use cell_comparison::is_at;
 use cells::Found;
+use cells::cell_comparison::is_at;
 use cells::run;
 ghost use mathlib.Core.Path.{_≡_};
 ghost use Rattle.descriptions.specs.Description.{find, repeats, firstRepeat, zeroFrom, Cut};

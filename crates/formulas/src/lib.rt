@@ -1,3 +1,3 @@
-// Formulas of a pool's terms: how a term is read. The definitions of formulas, normal forms, clauses and their truth
-// stand in specs/.
+// How the terms of a pool are read: as connectives and quantifiers of a formula, and by the patterns of the rules.
+pub mod matching;
 pub mod view;

@@ -9,7 +9,7 @@ use lib.Dec.{leb, ltb, eqb}
 use Rattle.cells.specs.Bounded.{every}
 use Rattle.cells.specs.Headers.{firstHeader}
 use Rattle.cells.specs.declared.Found.{Found}
-unfoldable pub use Rattle.term_tags.specs.TermTag.{isTermTag, isTerm}
+unfoldable pub use Rattle.cells.specs.TermTag.{isTermTag, isTerm}
 use Rattle.headers.specs.declared.well_formed.Shape.{Shape}
 use Rattle.headers.specs.declared.well_formed.Shape.the-variants.{Unknown, Nullary, Numbered, Named, Sorts, TwoSorts, OneSort, Constant, BitVector, Application, Binder, Let, Operator}
 use Rattle.headers.specs.declared.well_formed.CellKind.{CellKind}

@@ -1,8 +1,8 @@
 // Check 14: the headers of a pool are well formed.
 use cells::Found;
 use cells::run::cell;
-pub use term_tags::is_term;
-pub use term_tags::is_term_tag;
+pub use cells::term_tags::is_term;
+pub use cells::term_tags::is_term_tag;
 ghost use Prim.Native.Nat.{_+_, _≤_, _<_};
 ghost use mathlib.Core.Bool.{cond};
 ghost use mathlib.Core.Path.{_≡_};

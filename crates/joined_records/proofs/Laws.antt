@@ -11,10 +11,10 @@ use native.Mathlib.Omega.{arith}
 use native.Mathlib.Numerals.{add-one}
 use borrow.Author.Tests.{eq-eqb, ne-eqb, le-leb, lt-leb, leb-true, leb-false, not-true, not-false}
 use Rattle.cells.specs.ByPlace.{by-test}
-use Rattle.quantifiers.specs.Binding.{Binding as Pair, same, sameAll}
-use Rattle.quantifiers.specs.BindingAnswer.{pair}
-use Rattle.quantifiers.proofs.binding.Laws.{same-is}
-use Rattle.joining.specs.QntJoin.{afterPair, withoutAdjacent, joined}
+use Rattle.bindings.specs.Binding.{Binding as Pair, same, sameAll}
+use Rattle.bindings.specs.BindingAnswer.{pair}
+use Rattle.bindings.proofs.binding.Laws.{same-is}
+use Rattle.quantifier_rules.specs.QntJoin.{afterPair, withoutAdjacent, joined}
 use Rattle.joined_records.specs.Records.{pairIn, bindingsIn, noBinding, start, isRepeat, next, follow, agrees}
 use Rattle.joined_records.specs.declared.Binding.{Binding}
 use Rattle.joined_records.specs.declared.Along.{Along}

@@ -1,2 +1,2 @@
 pub mod Laws
-mod Values
+pub mod Values

@@ -7,7 +7,7 @@ use mathlib.Core.Bool.{Bool, true, false, not, _&&_, cond}
 use mathlib.Core.List.{List, [], _∷_}
 use lib.ListN.{length, getD}
 use lib.Dec.{eqb, leb}
-use Rattle.quantifiers.specs.Binding.{Binding as Pair, same}
+use Rattle.bindings.specs.Binding.{Binding as Pair, same}
 use Rattle.joined_records.specs.declared.Binding.{Binding}
 use Rattle.joined_records.specs.declared.Along.{Along}
 

@@ -1,9 +1,9 @@
 // The list comparison of `qnt_join` over lent records of name and sort.
-use quantifiers::binding::same_pair;
+use bindings::binding::same_pair;
 ghost use mathlib.Core.Path.{_≡_};
 ghost use lib.ListN.{getD};
-ghost use Rattle.quantifiers.specs.Binding.{sameAll};
-ghost use Rattle.joining.specs.QntJoin.{joined};
+ghost use Rattle.bindings.specs.Binding.{sameAll};
+ghost use Rattle.quantifier_rules.specs.QntJoin.{joined};
 ghost use Rattle.joined_records.specs.Records.{noBinding, bindingsIn, isRepeat, next, follow, agrees};
 
 // A quantifier's variable: its name and its sort.

@@ -14,14 +14,14 @@ use borrow.Author.Tests.{eq-eqb, ne-eqb, eqb-true, eqb-false}
 use Rattle.cells.specs.ByPlace.{by-test}
 use Rattle.answers.specs.Answer.{accepted, badArrays}
 use Rattle.answers.specs.declared.Answer.{Answer}
-use Rattle.pool_checks.specs.Check.{andThen, checkTerm}
+use Rattle.pool.specs.Check.{andThen, checkTerm}
 use Rattle.descriptions.proofs.description.Growth.{Same}
-use Rattle.term_trees.specs.Tree.{tree}
-use Rattle.term_trees.proofs.Passed.{Passed}
+use Rattle.meaning.specs.Tree.{tree}
+use Rattle.meaning.proofs.trees.Passed.{Passed}
 use Rattle.formulas.specs.Clauses.{cnf, emptyOr, literalTotal}
 use Rattle.formulas.specs.Built.{Pool, count}
-use Rattle.formulas.proofs.Operands.{IsTerm}
-use Rattle.formulas.proofs.SameTree.{tree-kept}
+use Rattle.meaning.proofs.places.Operands.{IsTerm}
+use Rattle.meaning.proofs.places.SameTree.{tree-kept}
 use Rattle.clauses.specs.Lists.{emptyOrReached, tooManyClauses, padded, literalPlaces, clauseEnds}
 use Rattle.building.specs.Arrays.{fits}
 use Rattle.building.proofs.build.Laws.{fits-room}

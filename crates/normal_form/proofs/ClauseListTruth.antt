@@ -16,18 +16,18 @@ use lib.ListN.{getD}
 use lib.Seq.{getD-take}
 use native.Mathlib.Omega.{arith}
 use Rattle.headers.specs.WellFormed.{isSortTag, isTermTag}
-use Rattle.term_trees.specs.Term.{Vars, Term}
-use Rattle.term_trees.specs.Tree.{sortTree, tree}
-use Rattle.term_trees.proofs.Passed.{Passed}
+use Rattle.meaning.specs.Term.{Vars, Term}
+use Rattle.meaning.specs.Tree.{sortTree, tree}
+use Rattle.meaning.proofs.trees.Passed.{Passed}
 use Rattle.formulas.specs.Normal.{lit, nmany, nall, nnf, prenex, taken}
 use Rattle.formulas.specs.Clauses.{Clause, cnf}
 use Rattle.formulas.specs.Built.{Pool, count, takenOut, normalAt}
-use Rattle.formulas.specs.Skeleton.{skeleton, build, clauseTermsOf, NoForallReached}
-use Rattle.formulas.specs.Truth.{Reading, eachSomeTrue, Says}
-use Rattle.formulas.proofs.Mapped.{prenex-map, taken-map, cnf-map}
-use Rattle.formulas.proofs.ClauseTruth.{clauses-truth}
-use Rattle.formulas.proofs.FormTree.{varsAt}
-use Rattle.formulas.proofs.SameTree.{sort-kept}
+use Rattle.meaning.specs.Skeleton.{skeleton, build, clauseTermsOf, NoForallReached}
+use Rattle.meaning.specs.Truth.{Reading, eachSomeTrue, Says}
+use Rattle.meaning.proofs.places.Mapped.{prenex-map, taken-map, cnf-map}
+use Rattle.meaning.proofs.truth.ClauseTruth.{clauses-truth}
+use Rattle.meaning.proofs.places.FormTree.{varsAt}
+use Rattle.meaning.proofs.places.SameTree.{sort-kept}
 use Rattle.clauses.specs.Lists.{clausePlaces}
 use Rattle.building.specs.Arrays.{poolOf, normalIn, clausalIn, clausalFormIn}
 use Rattle.building.proofs.Interning.{Good, Grows, grows-trans}

@@ -14,23 +14,23 @@ use Rattle.headers.specs.WellFormed.{shapeOf, countFits, kindAt, pairKind, isSo
 use Rattle.headers.specs.declared.well_formed.Shape.{Shape}
 use Rattle.headers.specs.declared.well_formed.Shape.the-variants.{Binder, Operator}
 use Rattle.headers.specs.declared.well_formed.CellKind.the-variants.{OfSort, OfTerm}
-use Rattle.term_trees.specs.Sort.{Sort, bool}
-use Rattle.term_trees.specs.Term.{Vars, Term, Terms, quant, op, tnil, tcons}
-use Rattle.term_trees.specs.Tree.{sortTree, varsOf, termsOf, termFrom, tree}
-use Rattle.term_trees.proofs.Header.{Each}
-use Rattle.term_trees.proofs.Tags.{shape-op}
-use Rattle.term_trees.proofs.Parts.{not-first}
-use Rattle.term_trees.proofs.Terms.{term-op}
+use Rattle.meaning.specs.Sort.{Sort, bool}
+use Rattle.meaning.specs.Term.{Vars, Term, Terms, quant, op, tnil, tcons}
+use Rattle.meaning.specs.Tree.{sortTree, varsOf, termsOf, termFrom, tree}
+use Rattle.meaning.proofs.trees.Header.{Each}
+use Rattle.meaning.proofs.trees.Tags.{shape-op}
+use Rattle.meaning.proofs.trees.Parts.{not-first}
+use Rattle.meaning.proofs.trees.Terms.{term-op}
 use Rattle.formulas.specs.Formula.{form}
 use Rattle.formulas.specs.Normal.{Normal, Normals, lit, nmany, nall, nnil, ncons, nnf}
 use Rattle.formulas.specs.Built.{Pool, Placed, PlacedAll, count, put, tagOfMany, tagOfQuantifier, intern, interns, normalForm}
 use Rattle.formulas.specs.Mapped.{mapF, mapN, mapNs}
-use Rattle.formulas.specs.Skeleton.{skeleton, build, builds}
-use Rattle.formulas.proofs.Mapped.{nnf-map}
-use Rattle.formulas.proofs.Operands.{IsTerm, AllTerms}
-use Rattle.formulas.proofs.FormTree.{varsAt, onTrees, first-bool, bool-tree, form-tree}
-use Rattle.formulas.proofs.FormFits.{Pairs, FitsN, FitsNs, each-more, nnf-fits, form-fits}
-use Rattle.formulas.proofs.SameTree.{vars-same, value-kept}
+use Rattle.meaning.specs.Skeleton.{skeleton, build, builds}
+use Rattle.meaning.proofs.places.Mapped.{nnf-map}
+use Rattle.meaning.proofs.places.Operands.{IsTerm, AllTerms}
+use Rattle.meaning.proofs.places.FormTree.{varsAt, onTrees, first-bool, bool-tree, form-tree}
+use Rattle.meaning.proofs.places.FormFits.{Pairs, FitsN, FitsNs, each-more, nnf-fits, form-fits}
+use Rattle.meaning.proofs.places.SameTree.{vars-same, value-kept}
 use Rattle.building.proofs.Interning.{Good, Grows, grows-refl, grows-trans}
 use Rattle.normal_form.proofs.TreeGrows.{Sound, Fit, PutTerm, cells-same, sort-grows, tree-grows, put-term}
 

@@ -14,16 +14,16 @@ use Rattle.cells.proofs.Walks.{first-end}
 use Rattle.headers.specs.WellFormed.{isTermTag, headerFits, firstBad}
 use Rattle.descriptions.proofs.description.Fills.{well-formed-fills}
 use Rattle.descriptions.proofs.description.Growth.{Same}
-use Rattle.term_trees.specs.Term.{Term}
-use Rattle.term_trees.specs.Tree.{tree}
-use Rattle.term_trees.proofs.Passed.{Passed}
+use Rattle.meaning.specs.Term.{Term}
+use Rattle.meaning.specs.Tree.{tree}
+use Rattle.meaning.proofs.trees.Passed.{Passed}
 use Rattle.formulas.specs.Normal.{nnf}
 use Rattle.formulas.specs.Built.{count, normalForm}
-use Rattle.formulas.specs.Skeleton.{skeleton, build}
-use Rattle.formulas.specs.Truth.{Reading, True, HasValue}
-use Rattle.formulas.proofs.FormTree.{one-bool}
-use Rattle.formulas.proofs.NormalTruth.{normal-truth}
-use Rattle.formulas.proofs.SameTree.{formed-kept, tree-kept}
+use Rattle.meaning.specs.Skeleton.{skeleton, build}
+use Rattle.meaning.specs.Truth.{Reading, True, HasValue}
+use Rattle.meaning.proofs.places.FormTree.{one-bool}
+use Rattle.meaning.proofs.truth.NormalTruth.{normal-truth}
+use Rattle.meaning.proofs.places.SameTree.{formed-kept, tree-kept}
 use Rattle.building.specs.Arrays.{poolOf}
 use Rattle.normal_form.specs.Calls.{normalPlace}
 use Rattle.building.proofs.build.Laws.{pool-good}

@@ -22,24 +22,24 @@ use Rattle.headers.specs.WellFormed.{shapeOf, countFits, isTermTag, headerFits,
 use Rattle.answers.specs.Answer.{accepted}
 use Rattle.answers.specs.declared.Answer.{Answer}
 use Rattle.descriptions.specs.Description.{firstRepeat}
-use Rattle.sort_rules.specs.Table.{builtIn}
-use Rattle.sort_rules.specs.SortRule.{made, isSort, byRule, computeSort, statesSort}
-use Rattle.pool_checks.specs.Check.{arraysFit, checkCells, checkPool}
-use Rattle.term_trees.specs.Term.{stated}
-use Rattle.term_trees.specs.Tree.{tree}
-use Rattle.term_trees.specs.SortTree.{sortOfTerm}
-use Rattle.term_trees.proofs.Header.{Described, term-tagged}
-use Rattle.term_trees.proofs.Walk.{place-described}
-use Rattle.term_trees.proofs.SortRules.{states-computed}
-use Rattle.term_trees.proofs.WrongSort.{computed-sorted}
-use Rattle.term_trees.proofs.Passed.{Passed, computed-sort}
+use Rattle.sorts.specs.Table.{builtIn}
+use Rattle.sorts.specs.SortRule.{made, isSort, byRule, computeSort, statesSort}
+use Rattle.pool.specs.Check.{arraysFit, checkCells, checkPool}
+use Rattle.meaning.specs.Term.{stated}
+use Rattle.meaning.specs.Tree.{tree}
+use Rattle.meaning.specs.SortTree.{sortOfTerm}
+use Rattle.meaning.proofs.trees.Header.{Described, term-tagged}
+use Rattle.meaning.proofs.trees.Walk.{place-described}
+use Rattle.meaning.proofs.trees.SortRules.{states-computed}
+use Rattle.meaning.proofs.trees.WrongSort.{computed-sorted}
+use Rattle.meaning.proofs.trees.Passed.{Passed, computed-sort}
 use Rattle.formulas.specs.Built.{Pool, count}
-use Rattle.formulas.proofs.FormTree.{first-bool}
-use Rattle.formulas.proofs.SameTree.{formed-kept}
+use Rattle.meaning.proofs.places.FormTree.{first-bool}
+use Rattle.meaning.proofs.places.SameTree.{formed-kept}
 use Rattle.building.specs.Arrays.{poolOf}
 use Rattle.building.proofs.Interning.{Grows}
-use Rattle.building.proofs.Repeats.{repeat-same}
-use Rattle.building.proofs.NewTerms.{BuiltTag, forall-tag, exists-tag, not-tag, and-tag, or-tag, Clean}
+use Rattle.normal_form.proofs.Repeats.{repeat-same}
+use Rattle.normal_form.proofs.NewTerms.{BuiltTag, forall-tag, exists-tag, not-tag, and-tag, or-tag, Clean}
 use Rattle.normal_form.specs.Calls.{NormalForm, ClauseList}
 use Rattle.normal_form.proofs.TreeGrows.{Sound}
 use Rattle.normal_form.proofs.NormalFormTruth.{used-count, normal-form-is}

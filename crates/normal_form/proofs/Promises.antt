@@ -6,8 +6,8 @@ use Prim.Native.Nat.{ℕ}
 use mathlib.Core.Bool.{Bool}
 use mathlib.Core.List.{List}
 use Rattle.answers.specs.declared.Answer.{Answer}
-use Rattle.sort_rules.specs.Table.{builtIn}
-use Rattle.formulas.specs.Numbered.{numbered}
+use Rattle.sorts.specs.Table.{builtIn}
+use Rattle.meaning.specs.Numbered.{numbered}
 use Rattle.normal_form.specs.Calls.{NormalForm, ClauseList}
 use Rattle.normal_form.specs.Promise.{NormalFormPromise, ClauseListPromise}
 use Rattle.normal_form.proofs.Values.{normal-form-value, clause-list-value}

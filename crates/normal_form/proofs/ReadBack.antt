@@ -14,12 +14,12 @@ use mathlib.Core.List.{List, _++_, map, map-append}
 use lib.Dec.{eqb}
 use native.Mathlib.Omega.{arith}
 use Rattle.cells.specs.ByPlace.{by-test}
-use Rattle.term_trees.specs.Term.{Vars, Term, Terms, const, bitVector, var, app, quant, bind, letin, op, noTerm, tnil, tcons}
+use Rattle.meaning.specs.Term.{Vars, Term, Terms, const, bitVector, var, app, quant, bind, letin, op, noTerm, tnil, tcons}
 use Rattle.formulas.specs.Normal.{Normal, Normals, lit, nmany, nall, nnil, ncons, nnf, prenex, prenexes, taken, takens}
 use Rattle.formulas.specs.Clauses.{product, cnf, cnfAnd, cnfOr}
-use Rattle.formulas.specs.Skeleton.{skeleton, IsOpaque, formOf, build, builds}
-use Rattle.formulas.proofs.Leaves.{EachN, EachNs, nnf-each, skeleton-leaves}
-use Rattle.formulas.proofs.Mapped.{product-map}
+use Rattle.meaning.specs.Skeleton.{skeleton, IsOpaque, formOf, build, builds}
+use Rattle.meaning.proofs.truth.Leaves.{EachN, EachNs, nnf-each, skeleton-leaves}
+use Rattle.meaning.proofs.places.Mapped.{product-map}
 
 -- an operator's term t with the tag k, from what is read of its operands
 unfoldable pub readOp : Term → ℕ → Normals Vars Term → Normal Vars Term

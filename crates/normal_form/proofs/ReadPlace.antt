@@ -15,21 +15,21 @@ use Rattle.cells.specs.ByPlace.{byPlace-is}
 use Rattle.cells.specs.Cell.{cellsOf, operandsOf}
 use Rattle.headers.specs.WellFormed.{shapeOf, countFits, kindAt, pairKind, isTermTag}
 use Rattle.headers.specs.declared.well_formed.Shape.the-variants.{Binder, Operator}
-use Rattle.term_trees.specs.Term.{Vars, Term}
-use Rattle.term_trees.specs.Tree.{sortTree, termsOf, termFrom}
-use Rattle.term_trees.proofs.Header.{Each, Described, term-cell, term-tagged}
-use Rattle.term_trees.proofs.Walk.{place-described}
-use Rattle.term_trees.proofs.Tags.{shape-op, by-term-tag}
-use Rattle.term_trees.proofs.Parts.{from-one, from-two}
-use Rattle.term_trees.proofs.Terms.{term-is, term-op, even-rest}
+use Rattle.meaning.specs.Term.{Vars, Term}
+use Rattle.meaning.specs.Tree.{sortTree, termsOf, termFrom}
+use Rattle.meaning.proofs.trees.Header.{Each, Described, term-cell, term-tagged}
+use Rattle.meaning.proofs.trees.Walk.{place-described}
+use Rattle.meaning.proofs.trees.Tags.{shape-op, by-term-tag}
+use Rattle.meaning.proofs.trees.Parts.{from-one, from-two}
+use Rattle.meaning.proofs.trees.Terms.{term-is, term-op, even-rest}
 use Rattle.formulas.specs.declared.view.NormalView.{NormalView}
 use Rattle.formulas.specs.declared.view.NormalView.the-variants.{Literal, Connective, Forall}
 use Rattle.formulas.specs.Formula.{allBefore}
 use Rattle.formulas.specs.Normal.{Normal, Normals, lit, nmany, nall, nnil, ncons, prenex, prenexes}
 use Rattle.formulas.specs.Built.{Pool, count, normalView, normalsOf, normalBy, normalAt}
-use Rattle.formulas.proofs.Operands.{IsTerm, AllTerms, all-terms, all-before}
-use Rattle.formulas.proofs.FormTree.{varsAt}
-use Rattle.formulas.proofs.FormFits.{FitsN, FitsNs, each-more}
+use Rattle.meaning.proofs.places.Operands.{IsTerm, AllTerms, all-terms, all-before}
+use Rattle.meaning.proofs.places.FormTree.{varsAt}
+use Rattle.meaning.proofs.places.FormFits.{FitsN, FitsNs, each-more}
 use Rattle.normal_form.proofs.TreeGrows.{Sound}
 use Rattle.normal_form.proofs.InternTree.{termIn, onPool, onPools}
 use Rattle.normal_form.proofs.ReadBack.{readOp, readTerm, readTerms}

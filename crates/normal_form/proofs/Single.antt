@@ -12,11 +12,11 @@ use native.Mathlib.Omega.{arith}
 use Rattle.cells.specs.declared.Found.the-variants.{Nothing}
 use Rattle.descriptions.specs.Description.{firstRepeat}
 use Rattle.descriptions.proofs.description.Fills.{well-formed-fills}
-use Rattle.term_trees.proofs.Passed.{Passed}
+use Rattle.meaning.proofs.trees.Passed.{Passed}
 use Rattle.formulas.specs.Built.{Pool, count, normalForm, takenOut}
 use Rattle.building.specs.Arrays.{poolOf, normalIn, clausalIn}
-use Rattle.building.proofs.Repeats.{repeat-same}
-use Rattle.building.proofs.NewTerms.{Clean, intern-clean}
+use Rattle.normal_form.proofs.Repeats.{repeat-same}
+use Rattle.normal_form.proofs.NewTerms.{Clean, intern-clean}
 use Rattle.normal_form.proofs.NormalFormTruth.{used-same, used-count, used-sound}
 
 -- "No two headers describe the same thing."

@@ -19,13 +19,13 @@ use Rattle.descriptions.specs.Description.{find}
 use Rattle.headers.specs.WellFormed.{shapeOf, countFits, kindAt, isSortTag, isTermTag, valueFits, cellFits, boolFirst, headerFits, firstBad}
 use Rattle.headers.specs.declared.well_formed.Shape.{Shape}
 use Rattle.descriptions.proofs.description.Growth.{Same}
-use Rattle.term_trees.specs.Tree.{sortTree, termFrom, tree}
-use Rattle.term_trees.proofs.Header.{Each}
-use Rattle.term_trees.proofs.Terms.{term-is}
-use Rattle.term_trees.proofs.Walk.{found-holds}
+use Rattle.meaning.specs.Tree.{sortTree, termFrom, tree}
+use Rattle.meaning.proofs.trees.Header.{Each}
+use Rattle.meaning.proofs.trees.Terms.{term-is}
+use Rattle.cells.proofs.Walks.{found-holds}
 use Rattle.formulas.specs.Built.{Pool, Placed, count, extend, placeAt, put}
-use Rattle.formulas.proofs.Operands.{IsTerm}
-use Rattle.formulas.proofs.SameTree.{at-true, made-same, value-kept, formed-kept, sort-kept, tree-kept}
+use Rattle.meaning.proofs.places.Operands.{IsTerm}
+use Rattle.meaning.proofs.places.SameTree.{at-true, made-same, value-kept, formed-kept, sort-kept, tree-kept}
 use Rattle.building.proofs.Interning.{Good, Grows, PutOn, extend-count, put-on}
 
 -- a pool that passes check 14, filled by its headers

@@ -10,16 +10,16 @@ use mathlib.Core.Bool.{Bool, true}
 use mathlib.Core.List.{List, [], _∷_, map}
 use lib.ListN.{length, replicate}
 use Rattle.answers.specs.declared.Answer.{Answer}
-use Rattle.term_trees.specs.Term.{Vars, Term}
-use Rattle.term_trees.specs.Tree.{tree}
+use Rattle.meaning.specs.Term.{Vars, Term}
+use Rattle.meaning.specs.Tree.{tree}
 use Rattle.formulas.specs.Normal.{Normal, Normals, lit, nmany, nall, nnil, ncons, nnf, prenex}
 use Rattle.formulas.specs.Clauses.{Clause, cnf}
 use Rattle.formulas.specs.Built.{Pool, count}
-use Rattle.formulas.specs.Skeleton.{skeleton, clauseTermsOf, NoForallReached}
-use Rattle.formulas.specs.Truth.{Reading, True, eachSomeTrue, HasValue, Says}
-use Rattle.formulas.proofs.Leaves.{EachN, EachNs, EachC, EachCs, cnf-each}
-use Rattle.formulas.proofs.Operands.{IsTerm}
-use Rattle.formulas.proofs.FormFits.{FitsN, FitsNs}
+use Rattle.meaning.specs.Skeleton.{skeleton, clauseTermsOf, NoForallReached}
+use Rattle.meaning.specs.Truth.{Reading, True, eachSomeTrue, HasValue, Says}
+use Rattle.meaning.proofs.truth.Leaves.{EachN, EachNs, EachC, EachCs, cnf-each}
+use Rattle.meaning.proofs.places.Operands.{IsTerm}
+use Rattle.meaning.proofs.places.FormFits.{FitsN, FitsNs}
 use Rattle.clauses.specs.Lists.{padded, clausePlaces, literalPlaces, clauseEnds, clausesIn}
 use Rattle.clauses.proofs.Lists.{read-back}
 use Rattle.normal_form.specs.Calls.{normalPlace, NormalForm, clausal, clausalForm, ClauseList}

@@ -1,3 +1,2 @@
--- Laws of the public calls.
-pub mod Laws
 pub mod Clauses
+pub mod Laws

@@ -8,7 +8,7 @@ use mathlib.Core.List.{List}
 use lib.ListN.{length, replicate}
 use lib.Dec.{leb, eqb}
 use Rattle.answers.specs.Answer.{accepted, badArrays}
-use Rattle.pool_checks.specs.Check.{andThen, checkTerm}
+use Rattle.pool.specs.Check.{andThen, checkTerm}
 use Rattle.descriptions.specs.Description.{zeroFrom}
 use Rattle.answers.specs.declared.Answer.{Answer}
 use Rattle.formulas.specs.Normal.{Normal}

@@ -5,7 +5,7 @@ use mathlib.Core.Path.{_≡_}
 use mathlib.Core.Bool.{cond}
 use mathlib.Core.List.{List}
 use lib.Dec.{eqb}
-use Rattle.pool_checks.specs.Check.{checkTerm}
+use Rattle.pool.specs.Check.{checkTerm}
 use Rattle.descriptions.specs.Description.{Cut}
 use Rattle.answers.specs.declared.Answer.{Answer}
 use Rattle.building.specs.declared.build.Built.the-variants.{At as BuiltAt}

@@ -1,4 +1,4 @@
 pub mod Calls
-pub mod Promise
 pub mod ClauseCall
+pub mod Promise
 pub mod RoomCases

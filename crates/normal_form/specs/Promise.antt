@@ -14,11 +14,11 @@ use mathlib.Core.Bool.{Bool}
 use mathlib.Core.List.{List, map}
 use Rattle.answers.specs.Answer.{accepted}
 use Rattle.answers.specs.declared.Answer.{Answer}
-use Rattle.pool_checks.specs.Check.{checkPool}
-use Rattle.term_trees.specs.Term.{Term}
-use Rattle.term_trees.specs.Tree.{tree}
-use Rattle.formulas.specs.Skeleton.{NoForallReached}
-use Rattle.formulas.specs.Numbered.{SameValue, ClausesSay}
+use Rattle.pool.specs.Check.{checkPool}
+use Rattle.meaning.specs.Term.{Term}
+use Rattle.meaning.specs.Tree.{tree}
+use Rattle.meaning.specs.Skeleton.{NoForallReached}
+use Rattle.meaning.specs.Numbered.{SameValue, ClausesSay}
 use Rattle.clauses.specs.Lists.{clausesIn}
 use Rattle.normal_form.specs.Calls.{NormalForm, ClauseList}
 

@@ -17,10 +17,10 @@ use Rattle.cells.specs.Cell.{cellsOf, sortOf, operandsOf, sameCells, isAt}
 use Rattle.cells.specs.Headers.{firstIn, firstFrom, firstHeader}
 use Rattle.headers.specs.WellFormed.{shapeOf, countFits, pairKind, kindAt, isSortTag, isTermTag, isTerm, valueFits, cellFits, boolFirst, headerFits, firstBad}
 use Rattle.descriptions.specs.Description.{find, repeats, firstRepeat}
-use Rattle.sort_rules.specs.SortRule.{isSort, byRule, computeSort, statesSort, firstWrongSort}
-use Rattle.sort_rules.specs.Table.{builtIn}
+use Rattle.sorts.specs.SortRule.{isSort, byRule, computeSort, statesSort, firstWrongSort}
+use Rattle.sorts.specs.Table.{builtIn}
 use Rattle.answers.specs.Answer.{accepted}
-use Rattle.pool_checks.specs.Check.{arraysFit, checkCells, checkPool, andThen, checkTerm}
+use Rattle.pool.specs.Check.{arraysFit, checkCells, checkPool, andThen, checkTerm}
 use Rattle.formulas.specs.Formula.{allBefore, connective, quantifier, viewOf, formBy, form}
 use Rattle.formulas.specs.Built.{put, intern, normalForm}
 use Rattle.building.specs.Arrays.{fits}

@@ -1,18 +1,18 @@
 // The public calls: the normal form of a term, and the clause list of a term.
+use crate::negation_normal_form::build_normal_form;
+use crate::prenex_forall::build_taken_out;
 use building::build::Built;
 use clauses::clause_list::list_clauses;
-use negation_normal_form::build_normal_form;
 use pool::Answer;
 use pool::TermPlace;
 use pool::call::index_term;
 use pool::description::cut_back;
-use prenex_forall::build_taken_out;
 ghost use Prim.Native.Nat.{_≤_, _<_};
 ghost use mathlib.Core.Path.{_≡_};
-ghost use Rattle.sort_rules.specs.Table.{builtIn};
+ghost use Rattle.sorts.specs.Table.{builtIn};
 ghost use Rattle.normal_form.specs.Calls.{clausal};
 ghost use Rattle.normal_form.specs.Promise.{NormalFormPromise, ClauseListPromise};
-ghost use Rattle.description_index.specs.Index.{Index};
+ghost use Rattle.descriptions.specs.Index.{Index};
 ghost use Rattle.building.specs.Walk.{State, NormalBuilt};
 ghost use Rattle.normal_form.specs.ClauseCall.{ClausalBuilt, Kept, unlisted};
 

@@ -9,8 +9,8 @@ use lib.ListN.{length, getD}
 use lib.Dec.{leb, eqb}
 use Rattle.answers.specs.Answer.{accepted, badArrays}
 use Rattle.cells.specs.Cell.{sortOf}
-use Rattle.free_vars.specs.Free.{markOf}
-use Rattle.pool_checks.specs.Check.{andThen, checkTerm}
+use Rattle.free_variables.specs.Free.{markOf}
+use Rattle.pool.specs.Check.{andThen, checkTerm}
 use Rattle.answers.specs.declared.Answer.{Answer}
 
 -- the sort of a term: accepted, the sort's place

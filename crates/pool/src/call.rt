@@ -1,17 +1,17 @@
 // The public calls on a pool: the pool check, the sort of a term, the free variables of a term.
+pub use crate::checks::check_pool_by;
+pub use crate::checks::check_term_by;
+use crate::checks::index_pool_by;
 use answers::Answer;
 use cells::TermPlace;
+use cells::marks::clear_marks;
 use cells::run::sort_of;
-use free_vars::mark_free_vars;
+use free_variables::free_vars::mark_free_vars;
 use headers::well_formed::is_term;
-use marks::clear_marks;
-pub use pool_checks::check_pool_by;
-pub use pool_checks::check_term_by;
-use pool_checks::index_pool_by;
-use sort_rules::table::built_in;
+use sorts::table::built_in;
 ghost use mathlib.Core.Path.{_≡_};
-ghost use Rattle.sort_rules.specs.Table.{builtIn};
-ghost use Rattle.pool_checks.specs.Check.{checkPool, Indexed, checkTerm};
+ghost use Rattle.sorts.specs.Table.{builtIn};
+ghost use Rattle.pool.specs.Check.{checkPool, Indexed, checkTerm};
 ghost use Rattle.pool.specs.Calls.{sortAnswer, FreeVars};
 
 // The pool check under the built-in table.

@@ -1,16 +1,24 @@
 // A shared term pool in document 01's packed form: two u32 arrays of one length, tag and value, and a
 // count of used cells. Its checks and its calls on a term; and what the crates above need of cells, by name.
 pub mod call;
+pub mod checks;
 
 pub use answers::Answer;
-pub use cell_comparison::same_cells;
+pub use answers::checked;
+pub use answers::outcome;
+pub use bindings::binding;
+pub use bindings::list_comparison;
+pub use bindings::used_pairs;
 pub use cells::Found;
 pub use cells::SortPlace;
 pub use cells::TermPlace;
+pub use cells::cell_comparison;
+pub use cells::marks;
 pub use cells::run;
-pub use description_index::index;
+pub use cells::term_tags;
 pub use descriptions::description;
-pub use free_vars::is_free;
+pub use descriptions::index;
+pub use free_variables::free_lists;
+pub use free_variables::free_vars;
+pub use free_variables::term_names;
 pub use headers::well_formed;
-pub use term_names::mark_names;
-pub use term_names::may_be_free;

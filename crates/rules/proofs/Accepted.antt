@@ -12,19 +12,19 @@ use native.Mathlib.Omega.{arith}
 use borrow.Author.Tests.{eqb-true, eqb-false}
 use Rattle.cells.specs.ByPlace.{by-test}
 use Rattle.headers.specs.WellFormed.{isTerm}
-use Rattle.pool_checks.specs.Check.{andThen, checkPool}
-use Rattle.term_trees.specs.Tree.{tree}
+use Rattle.pool.specs.Check.{andThen, checkPool}
+use Rattle.meaning.specs.Tree.{tree}
 use Rattle.answers.specs.declared.Answer.{Answer}
-use Rattle.term_trees.proofs.Passed.{Passed, pool-passes, pool-accepts}
-use Rattle.formulas.specs.Numbered.{numbered}
-use Rattle.formulas.specs.Truth.{Assignment, Reading, Local, True}
-use Rattle.quantifiers.specs.Outcome.{pass}
-use Rattle.joining.proofs.sound.QntJoin.{qnt-join-sound}
-use Rattle.removing.proofs.sound.QntRmUnused.{qnt-rm-unused-sound}
-use Rattle.clausification.proofs.sound.QntCnf.{qnt-cnf-sound}
-use Rattle.miniscoping.proofs.sound.MiniscopeDistribute.{miniscope-distribute-sound}
-use Rattle.miniscoping.proofs.sound.MiniscopeSplit.{miniscope-split-sound}
-use Rattle.miniscoping.proofs.sound.MiniscopeIte.{miniscope-ite-sound}
+use Rattle.meaning.proofs.trees.Passed.{Passed, pool-passes, pool-accepts}
+use Rattle.meaning.specs.Numbered.{numbered}
+use Rattle.meaning.specs.Truth.{Assignment, Reading, Local, True}
+use Rattle.answers.specs.Outcome.{pass}
+use Rattle.rules.proofs.sound.QntJoin.{qnt-join-sound}
+use Rattle.rules.proofs.sound.QntRmUnused.{qnt-rm-unused-sound}
+use Rattle.rules.proofs.sound.QntCnf.{qnt-cnf-sound}
+use Rattle.rules.proofs.sound.MiniscopeDistribute.{miniscope-distribute-sound}
+use Rattle.rules.proofs.sound.MiniscopeSplit.{miniscope-split-sound}
+use Rattle.rules.proofs.sound.MiniscopeIte.{miniscope-ite-sound}
 use Rattle.clausification.specs.NoCapture.{NoCapture}
 use Rattle.rules.specs.Step.{isRule, ruleOutcome, stepAnswer, Follows}
 use Rattle.rules.proofs.Codes.{rule-codes, accepted}

@@ -10,16 +10,16 @@ use mathlib.Core.Option.{Option, some, none}
 use lib.Dec.{eqb}
 use native.Mathlib.Omega.{arith}
 use borrow.Author.Tests.{eqb-false}
-use Rattle.quantifiers.specs.Outcome.{Outcome, pass, refuse, _>>=_, _>>_, need, guard, unless, answerOf}
-use Rattle.quantifiers.specs.Binding.{Binding, has}
-use Rattle.forms.specs.Form.{Quantifier}
-use Rattle.joining.specs.QntJoin.{qntJoin}
-use Rattle.removing.specs.QntRmUnused.{removes, unused, bodyOr, qntRmUnused}
+use Rattle.answers.specs.Outcome.{Outcome, pass, refuse, _>>=_, _>>_, need, guard, unless, answerOf}
+use Rattle.bindings.specs.Binding.{Binding, has}
+use Rattle.formulas.specs.Pattern.{Quantifier}
+use Rattle.quantifier_rules.specs.QntJoin.{qntJoin}
+use Rattle.quantifier_rules.specs.QntRmUnused.{removes, unused, bodyOr, qntRmUnused}
 use Rattle.clausification.specs.QntCnf.{clauseFollows, clausified, qntCnf}
-use Rattle.miniscoping.specs.MiniscopeDistribute.{Sides, distributed, distributedAll, miniscopeDistribute}
-use Rattle.used_pairs.specs.Used.{without, useAll}
-use Rattle.miniscoping.specs.MiniscopeSplit.{splitOff, splitOne, splitAll, splitSides, miniscopeSplit}
-use Rattle.miniscoping.specs.MiniscopeIte.{miniscopeIte}
+use Rattle.quantifier_rules.specs.MiniscopeDistribute.{Sides, distributed, distributedAll, miniscopeDistribute}
+use Rattle.bindings.specs.Used.{without, useAll}
+use Rattle.quantifier_rules.specs.MiniscopeSplit.{splitOff, splitOne, splitAll, splitSides, miniscopeSplit}
+use Rattle.quantifier_rules.specs.MiniscopeIte.{miniscopeIte}
 use Rattle.rules.specs.Step.{ruleOutcome}
 
 -- neither 0 nor 30

@@ -3,9 +3,9 @@
 -- Assumes nothing.
 use mathlib.Core.Path.{_≡_, sym, ap, _∙_}
 use mathlib.Core.Bool.{true}
-use Rattle.term_trees.specs.Term.{Term}
-use Rattle.formulas.specs.Truth.{Assignment, Reading, Local, True}
-use Rattle.formulas.proofs.Numbered.{at, read, numbers, N, code, numbers-true, start-read}
+use Rattle.meaning.specs.Term.{Term}
+use Rattle.meaning.specs.Truth.{Assignment, Reading, Local, True}
+use Rattle.meaning.proofs.truth.Numbered.{at, read, numbers, N, code, numbers-true, start-read}
 use Rattle.rules.specs.Premises.{TrueInReadings}
 
 module _ (R : Reading) (start : Assignment (R .Value)) where

@@ -12,18 +12,18 @@ use lib.Dec.{eqb}
 use borrow.Author.Tests.{eqb-true, eqb-false, eq-eqb}
 use Rattle.cells.specs.ByPlace.{by-test}
 use Rattle.headers.specs.WellFormed.{isTerm}
-use Rattle.pool_checks.specs.Check.{andThen, checkPool}
+use Rattle.pool.specs.Check.{andThen, checkPool}
 use Rattle.answers.specs.declared.Answer.{Answer}
-use Rattle.term_trees.specs.Tree.{tree}
-use Rattle.term_trees.proofs.Passed.{Passed, pool-passes, pool-accepts}
-use Rattle.quantifiers.specs.Outcome.{pass, answerOf}
-use Rattle.schema_theorems.specs.RuleSchema.{WithinLimits, RuleSchema, RuleHolds}
-use Rattle.schema_theorems.proofs.Join.{qnt-join-is}
-use Rattle.schema_theorems.proofs.RmUnused.{qnt-rm-unused-is}
-use Rattle.schema_theorems.proofs.Cnf.{qnt-cnf-within}
-use Rattle.schema_theorems.proofs.Distribute.{miniscope-distribute-is}
-use Rattle.schema_theorems.proofs.Split.{miniscope-split-is}
-use Rattle.schema_theorems.proofs.Ite.{miniscope-ite-is}
+use Rattle.meaning.specs.Tree.{tree}
+use Rattle.meaning.proofs.trees.Passed.{Passed, pool-passes, pool-accepts}
+use Rattle.answers.specs.Outcome.{pass, answerOf}
+use Rattle.rules.specs.RuleSchema.{WithinLimits, RuleSchema, RuleHolds}
+use Rattle.rules.proofs.schemas.Join.{qnt-join-is}
+use Rattle.rules.proofs.schemas.RmUnused.{qnt-rm-unused-is}
+use Rattle.rules.proofs.schemas.Cnf.{qnt-cnf-within}
+use Rattle.rules.proofs.schemas.Distribute.{miniscope-distribute-is}
+use Rattle.rules.proofs.schemas.Split.{miniscope-split-is}
+use Rattle.rules.proofs.schemas.Ite.{miniscope-ite-is}
 use Rattle.rules.specs.Step.{ruleOutcome, stepAnswer, StepHolds}
 use Rattle.rules.proofs.Accepted.{step-accepted}
 

@@ -22,20 +22,21 @@ use Rattle.cells.specs.Cell.{cellsOf, sortOf, operandsOf, sameCells, isAt}
 use Rattle.cells.specs.Headers.{firstHeader, firstFrom, firstIn}
 use Rattle.cells.specs.ByPlace.{downTo, byPlace}
 use Rattle.descriptions.specs.Description.{find}
-use Rattle.free_vars.specs.Free.{pairIn, boundBy, anyOf, underPairs, freeStep, isFree}
-use Rattle.term_trees.specs.Sort.{Sort, Sort-discrete, bool}
-use Rattle.term_trees.specs.Term.{Var, Var-discrete, Term, var, quant, op, tnil, tcons, stated}
-use Rattle.term_trees.specs.FreeTree.{isYes, same as sameVar}
-use Rattle.term_trees.specs.Tree.{sortFrom, sortStep, sortTree, varsOf, termsOf, termFrom, termStep, tree}
+use Rattle.free_variables.specs.Free.{pairIn, boundBy, anyOf, underPairs, freeStep, isFree}
+use Rattle.meaning.specs.Sort.{Sort, Sort-discrete, bool}
+use Rattle.meaning.specs.Term.{Var, Var-discrete, Term, var, quant, op, tnil, tcons, stated}
+use Rattle.meaning.specs.FreeTree.{isYes, same as sameVar}
+use Rattle.meaning.specs.Tree.{sortFrom, sortStep, sortTree, varsOf, termsOf, termFrom, termStep, tree}
 use Rattle.formulas.specs.Formula.{allBefore, connective, quantifier as quantifierView, viewOf, formBy, form}
 use Rattle.formulas.specs.Built.{put, intern, interns, normalForm, normalView, normalBy, normalAt, takenOut}
-use Rattle.formulas.specs.Skeleton.{skeleton, leftBool, formOf, notOf}
-use Rattle.formulas.specs.Truth.{Assignment, valueAt, assign, over, True}
-use Rattle.formulas.specs.TruthCases.{twoValues, x}
+use Rattle.meaning.specs.Skeleton.{skeleton, leftBool, formOf, notOf}
+use Rattle.meaning.specs.Truth.{Assignment, valueAt, assign, over, True}
+use Rattle.meaning.specs.TruthCases.{twoValues, x}
 use Rattle.building.specs.Arrays.{fits}
-use Rattle.quantifiers.specs.Outcome.{pass, _>>=_, _>>_, need, guard, unless}
-use Rattle.quantifiers.specs.Binding.{bindingsOf, same, has, firstOf, bindingFree}
-use Rattle.forms.specs.Form.{quantifier, operator}
+use Rattle.answers.specs.Outcome.{pass, _>>=_, _>>_, need, guard, unless}
+use Rattle.bindings.specs.Binding.{bindingsOf, same, has, firstOf}
+use Rattle.free_variables.specs.BindingFree.{bindingFree}
+use Rattle.formulas.specs.Pattern.{quantifier, operator}
 use Rattle.clausification.specs.QntCnf.{implication, withinLimits, isClause, anyClause, takenFrom, clausesFrom, leftAndTaken, clauseFollows, clausified, qntCnf}
 
 abbrev tags : List ℕ

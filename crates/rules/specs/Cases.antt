@@ -23,29 +23,29 @@ use mathlib.Core.Path.{_≡_, refl}
 use Prim.Native.Nat.{ℕ}
 use mathlib.Core.Bool.{true, false}
 use mathlib.Core.List.{List, [], _∷_, _++_}
-use Rattle.term_trees.specs.Sort.{Sort-discrete}
-use Rattle.term_trees.specs.Term.{Vars, Term, stated}
+use Rattle.meaning.specs.Sort.{Sort-discrete}
+use Rattle.meaning.specs.Term.{Vars, Term, stated}
 use Rattle.formulas.specs.Normal.{Normal, lit}
 use Rattle.formulas.specs.Clauses.{Clause, emptyOr}
-use Rattle.formulas.specs.Skeleton.{skeleton, leftBool, formOf, notOf, iteOf, iffOf}
+use Rattle.meaning.specs.Skeleton.{skeleton, leftBool, formOf, notOf, iteOf, iffOf}
 use lib.ListN.{length, replicate}
 use Rattle.cells.specs.Cell.{cellsOf, operandsOf}
-use Rattle.quantifiers.specs.Outcome.{Outcome, pass, refuse, _>>=_, _>>_, need, guard}
-use Rattle.quantifiers.specs.Binding.{bindingsOf, same, sameAll}
-use Rattle.forms.specs.Form.{quantifier, operator, equality as equalityAt}
+use Rattle.answers.specs.Outcome.{Outcome, pass, refuse, _>>=_, _>>_, need, guard}
+use Rattle.bindings.specs.Binding.{bindingsOf, same, sameAll}
+use Rattle.formulas.specs.Pattern.{quantifier, operator, equality as equalityAt}
 use Rattle.schemas.specs.Notation.{variable, not′, and′, or′, equals, ite′}
 use Rattle.schemas.specs.Schemas.{clausal, clausesOf}
-use Rattle.joining.specs.QntJoin.{afterPair, withoutAdjacent, joined, qntJoin}
+use Rattle.quantifier_rules.specs.QntJoin.{afterPair, withoutAdjacent, joined, qntJoin}
 use Rattle.cells.specs.Bounded.{everyIn, every}
 use Rattle.cells.specs.ByPlace.{downTo, byPlace}
 use Rattle.cells.specs.Cell.{sortOf, sameCells, isAt}
 use Rattle.cells.specs.Headers.{firstIn, firstFrom, firstHeader}
 use Rattle.headers.specs.WellFormed.{shapeOf, countFits, pairKind, kindAt, isSortTag, isTermTag, isTerm, valueFits, cellFits, boolFirst, headerFits, firstBad}
 use Rattle.descriptions.specs.Description.{find, repeats, firstRepeat}
-use Rattle.sort_rules.specs.SortRule.{isSort, byRule, computeSort, statesSort, firstWrongSort}
-use Rattle.sort_rules.specs.Table.{builtIn}
+use Rattle.sorts.specs.SortRule.{isSort, byRule, computeSort, statesSort, firstWrongSort}
+use Rattle.sorts.specs.Table.{builtIn}
 use Rattle.answers.specs.Answer.{refused}
-use Rattle.pool_checks.specs.Check.{arraysFit, checkCells, checkPool, andThen, checkTerm}
+use Rattle.pool.specs.Check.{arraysFit, checkCells, checkPool, andThen, checkTerm}
 use Rattle.formulas.specs.Formula.{allBefore, connective, viewOf, formBy, form}
 use Rattle.formulas.specs.Built.{put, intern, interns, normalForm, normalView, normalBy, normalAt, takenOut}
 use Rattle.building.specs.Arrays.{fits}

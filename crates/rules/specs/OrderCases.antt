@@ -13,12 +13,13 @@ use Rattle.cells.specs.ByPlace.{downTo, byPlace}
 use Rattle.cells.specs.Cell.{cellsOf, sortOf, operandsOf, sameCells, isAt}
 use Rattle.cells.specs.Headers.{firstHeader, firstFrom, firstIn}
 use Rattle.descriptions.specs.Description.{find}
-use Rattle.free_vars.specs.Free.{pairIn, boundBy, anyOf, underPairs, freeStep, isFree}
-use Rattle.quantifiers.specs.Outcome.{pass, refuse, _>>=_, _>>_, need, guard, unless}
-use Rattle.quantifiers.specs.Binding.{bindingsOf, same, has, firstOf, bindingFree}
-use Rattle.forms.specs.Form.{quantifier, operator, equality}
-use Rattle.joining.specs.QntJoin.{qntJoin}
-use Rattle.removing.specs.QntRmUnused.{removes, unused, bodyOr, qntRmUnused}
+use Rattle.free_variables.specs.Free.{pairIn, boundBy, anyOf, underPairs, freeStep, isFree}
+use Rattle.answers.specs.Outcome.{pass, refuse, _>>=_, _>>_, need, guard, unless}
+use Rattle.bindings.specs.Binding.{bindingsOf, same, has, firstOf}
+use Rattle.free_variables.specs.BindingFree.{bindingFree}
+use Rattle.formulas.specs.Pattern.{quantifier, operator, equality}
+use Rattle.quantifier_rules.specs.QntJoin.{qntJoin}
+use Rattle.quantifier_rules.specs.QntRmUnused.{removes, unused, bodyOr, qntRmUnused}
 
 -- p at 1, (exists (y) p) at 4, (forall (x) ..) at 9, the equality at 14
 pub right-before-kinds : qntJoin (1 ∷ 21 ∷ 0 ∷ 0 ∷ 24 ∷ 0 ∷ 0 ∷ 0 ∷ 0 ∷ 23 ∷ 0 ∷ 0 ∷ 0 ∷ 0 ∷ 39 ∷ 0 ∷ 0 ∷ 0 ∷ [])

@@ -9,9 +9,9 @@
 -- Rests on term_trees' Term, and on formulas' Truth and Numbered.
 use mathlib.Core.Path.{_≡_}
 use mathlib.Core.Bool.{true}
-use Rattle.term_trees.specs.Term.{Term}
-use Rattle.formulas.specs.Truth.{Assignment, Local, True}
-use Rattle.formulas.specs.Numbered.{Numbers, numbered}
+use Rattle.meaning.specs.Term.{Term}
+use Rattle.meaning.specs.Truth.{Assignment, Local, True}
+use Rattle.meaning.specs.Numbered.{Numbers, numbered}
 
 -- "the conclusion is true in every reading": in all with numbers, and so in every one (proofs/Numbered.antt)
 abbrev pub TrueInReadings : Term → Type 0

@@ -24,19 +24,20 @@ use Rattle.cells.specs.Cell.{cellsOf, sortOf, operandsOf, sameCells, isAt}
 use Rattle.cells.specs.Headers.{firstHeader, firstFrom, firstIn}
 use Rattle.cells.specs.ByPlace.{by-test, downTo, byPlace}
 use Rattle.descriptions.specs.Description.{find}
-use Rattle.free_vars.specs.Free.{pairIn, boundBy, letBinds, anyOf, valuesIn, letValues, underPairs, freeStep, isFree}
-use Rattle.term_trees.specs.Sort.{Sort, Sort-discrete, bool}
-use Rattle.term_trees.specs.Term.{Var, Var-discrete, Term, const, bitVector, var, app, quant, bind, letin, op, noTerm, tnil, tcons, lnil, lcons, stated}
-use Rattle.term_trees.specs.FreeTree.{isYes, same, has, letVars, free}
-use Rattle.term_trees.specs.Lets.{holdsLet}
-use Rattle.term_trees.specs.Tree.{sortFrom, sortStep, sortTree, varsOf, letsOf, termsOf, termFrom, termStep, tree}
-use Rattle.formulas.specs.Skeleton.{skeleton, leftBool, iffOf, formOf}
-use Rattle.formulas.specs.Truth.{Assignment, Reading, Local, valueAt, assign, over, True}
-use Rattle.formulas.specs.TruthCases.{either}
-use Rattle.quantifiers.specs.Outcome.{refuse, _>>=_, _>>_, need, guard, unless}
-use Rattle.quantifiers.specs.Binding.{bindingsOf, same as samePair, has as hasPair, firstOf, bindingFree}
-use Rattle.forms.specs.Form.{quantifier, operator, equality}
-use Rattle.removing.specs.QntRmUnused.{removes, unused, bodyOr, qntRmUnused}
+use Rattle.free_variables.specs.Free.{pairIn, boundBy, letBinds, anyOf, valuesIn, letValues, underPairs, freeStep, isFree}
+use Rattle.meaning.specs.Sort.{Sort, Sort-discrete, bool}
+use Rattle.meaning.specs.Term.{Var, Var-discrete, Term, const, bitVector, var, app, quant, bind, letin, op, noTerm, tnil, tcons, lnil, lcons, stated}
+use Rattle.meaning.specs.FreeTree.{isYes, same, has, letVars, free}
+use Rattle.meaning.specs.Lets.{holdsLet}
+use Rattle.meaning.specs.Tree.{sortFrom, sortStep, sortTree, varsOf, letsOf, termsOf, termFrom, termStep, tree}
+use Rattle.meaning.specs.Skeleton.{skeleton, leftBool, iffOf, formOf}
+use Rattle.meaning.specs.Truth.{Assignment, Reading, Local, valueAt, assign, over, True}
+use Rattle.meaning.specs.TruthCases.{either}
+use Rattle.answers.specs.Outcome.{refuse, _>>=_, _>>_, need, guard, unless}
+use Rattle.bindings.specs.Binding.{bindingsOf, same as samePair, has as hasPair, firstOf}
+use Rattle.free_variables.specs.BindingFree.{bindingFree}
+use Rattle.formulas.specs.Pattern.{quantifier, operator, equality}
+use Rattle.quantifier_rules.specs.QntRmUnused.{removes, unused, bodyOr, qntRmUnused}
 
 abbrev x : Var
 x = record { name = 1; sort = bool }

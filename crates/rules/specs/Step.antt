@@ -11,19 +11,19 @@ use lib.Dec.{leb, eqb}
 use Rattle.headers.specs.WellFormed.{isTerm}
 use Rattle.descriptions.specs.Description.{zeroFrom}
 use Rattle.answers.specs.Answer.{refused, notATerm}
-use Rattle.pool_checks.specs.Check.{andThen, checkPool}
-use Rattle.term_trees.specs.Term.{Term}
-use Rattle.term_trees.specs.Tree.{tree}
+use Rattle.pool.specs.Check.{andThen, checkPool}
+use Rattle.meaning.specs.Term.{Term}
+use Rattle.meaning.specs.Tree.{tree}
 use Rattle.answers.specs.declared.Answer.{Answer}
-use Rattle.quantifiers.specs.Outcome.{Outcome, answerOf}
-use Rattle.joining.specs.QntJoin.{qntJoin}
-use Rattle.removing.specs.QntRmUnused.{qntRmUnused}
+use Rattle.answers.specs.Outcome.{Outcome, answerOf}
+use Rattle.quantifier_rules.specs.QntJoin.{qntJoin}
+use Rattle.quantifier_rules.specs.QntRmUnused.{qntRmUnused}
 use Rattle.clausification.specs.QntCnf.{qntCnf}
-use Rattle.miniscoping.specs.MiniscopeDistribute.{miniscopeDistribute}
-use Rattle.miniscoping.specs.MiniscopeSplit.{miniscopeSplit}
-use Rattle.miniscoping.specs.MiniscopeIte.{miniscopeIte}
+use Rattle.quantifier_rules.specs.MiniscopeDistribute.{miniscopeDistribute}
+use Rattle.quantifier_rules.specs.MiniscopeSplit.{miniscopeSplit}
+use Rattle.quantifier_rules.specs.MiniscopeIte.{miniscopeIte}
 use Rattle.clausification.specs.NoCapture.{NoCapture}
-use Rattle.schema_theorems.specs.RuleSchema.{RuleHolds}
+use Rattle.rules.specs.RuleSchema.{RuleHolds}
 use Rattle.rules.specs.Premises.{TrueInReadings}
 
 -- "The six rules, with codes": 1 to 6

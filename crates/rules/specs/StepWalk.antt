@@ -10,7 +10,7 @@ use Rattle.headers.specs.WellFormed.{isTerm}
 use Rattle.descriptions.specs.Description.{zeroFrom}
 use Rattle.answers.specs.Answer.{accepted, notATerm}
 use Rattle.answers.specs.declared.Answer.{Answer}
-use Rattle.pool_checks.specs.Check.{andThen}
+use Rattle.pool.specs.Check.{andThen}
 use Rattle.rules.specs.Step.{isRule, unknownRule, notOneTerm}
 
 -- the checks before the rule, after the pool check: 18, 1, 17, or an acceptance

@@ -1,21 +1,21 @@
 // The check of a step: 30, 14, 15, 16, 18, 1, 17, and then its rule.
 use clausification::qnt_cnf::qnt_cnf;
-use joining::qnt_join::qnt_join;
-use miniscoping::miniscope_distribute::miniscope_distribute;
-use miniscoping::miniscope_ite::miniscope_ite;
-use miniscoping::miniscope_split::miniscope_split;
 use pool::Answer;
 use pool::TermPlace;
 use pool::call::index_pool;
 use pool::description::cut_back;
 use pool::well_formed::is_term;
-use removing::qnt_rm_unused::qnt_rm_unused;
+use quantifier_rules::miniscope_distribute::miniscope_distribute;
+use quantifier_rules::miniscope_ite::miniscope_ite;
+use quantifier_rules::miniscope_split::miniscope_split;
+use quantifier_rules::qnt_join::qnt_join;
+use quantifier_rules::qnt_rm_unused::qnt_rm_unused;
 ghost use Prim.Native.Nat.{min};
 ghost use mathlib.Core.Path.{_≡_};
-ghost use Rattle.sort_rules.specs.Table.{builtIn};
-ghost use Rattle.description_index.specs.Index.{Index};
-ghost use Rattle.pool_checks.specs.Check.{checkPool, Indexed, checkTerm};
-ghost use Rattle.quantifiers.specs.Outcome.{answerOf};
+ghost use Rattle.sorts.specs.Table.{builtIn};
+ghost use Rattle.descriptions.specs.Index.{Index};
+ghost use Rattle.pool.specs.Check.{checkPool, Indexed, checkTerm};
+ghost use Rattle.answers.specs.Outcome.{answerOf};
 ghost use Rattle.rules.specs.Step.{isRule, ruleOutcome, Step};
 ghost use Rattle.rules.specs.StepWalk.{beforeRule, Judged};
 

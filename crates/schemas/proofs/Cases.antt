@@ -11,14 +11,14 @@ use borrow.Author.Tests.{not-true}
 use mathlib.Core.Path.{_≡_, refl, sym, _∙_}
 use mathlib.Core.Bool.{Bool, true, false, not, _&&_, _||_, false≢true}
 use mathlib.Core.List.{[], _∷_, _++_, List·Memᴰ, List·Memᴰ·head, List·Memᴰ·tail}
-use Rattle.term_trees.specs.Sort.{Sort, Sort-discrete, bool, int, function, snil, scons}
-use Rattle.term_trees.specs.Term.{Var, Vars, Var-discrete, Term, Terms, var, app, op, tnil, tcons, stated}
-use Rattle.term_trees.specs.FreeTree.{isYes, same, has, free}
-use Rattle.term_trees.proofs.Header.{both}
+use Rattle.meaning.specs.Sort.{Sort, Sort-discrete, bool, int, function, snil, scons}
+use Rattle.meaning.specs.Term.{Var, Vars, Var-discrete, Term, Terms, var, app, op, tnil, tcons, stated}
+use Rattle.meaning.specs.FreeTree.{isYes, same, has, free}
+use Rattle.meaning.proofs.trees.Header.{both}
 use Rattle.formulas.specs.Normal.{lit}
 use Rattle.formulas.specs.Built.{tagOfMany}
-use Rattle.formulas.specs.Skeleton.{skeleton, leftBool, formOf, notOf, impliesOf, iteOf, iffOf}
-use Rattle.formulas.proofs.Over.{or-cases, not-both, same-eq}
+use Rattle.meaning.specs.Skeleton.{skeleton, leftBool, formOf, notOf, impliesOf, iteOf, iffOf}
+use Rattle.meaning.proofs.truth.Over.{or-cases, not-both, same-eq}
 use Rattle.schemas.specs.Notation.{variable, operands, not′, implies′, and′, or′, equals, ite′}
 use Rattle.schemas.specs.Schemas.{equal, binder, implies, Among, FreeAmong, NotFree, after, joinedOnce, QntJoin, joins, QntRmUnused, removes, removes-all}
 use Rattle.schemas.specs.Schemas.{withTaken, QntCnf, clausifies, MiniscopeDistribute, distributes, MiniscopeIte, splits-ite}

@@ -2,8 +2,8 @@
 -- Rests on term_trees' Sort and Term.
 use Prim.Native.Nat.{ℕ, suc}
 use mathlib.Core.List.{List, [], _∷_}
-use Rattle.term_trees.specs.Sort.{bool}
-use Rattle.term_trees.specs.Term.{Term, Terms, var, op, tnil, tcons}
+use Rattle.meaning.specs.Sort.{bool}
+use Rattle.meaning.specs.Term.{Term, Terms, var, op, tnil, tcons}
 
 -- a variable of sort Bool
 abbrev pub variable : ℕ → Term

@@ -9,13 +9,13 @@ use mathlib.Core.Path.{_≡_}
 use mathlib.Core.Bool.{Bool, true, false, not, cond}
 use mathlib.Core.List.{List, [], _∷_, _++_, List·Memᴰ}
 use lib.ListN.{length}
-use Rattle.term_trees.specs.Sort.{Sort, bool}
-use Rattle.term_trees.specs.Term.{Var, Vars, Term, Terms, quant, op, tnil, tcons}
-use Rattle.term_trees.specs.FreeTree.{same, has, free}
+use Rattle.meaning.specs.Sort.{Sort, bool}
+use Rattle.meaning.specs.Term.{Var, Vars, Term, Terms, quant, op, tnil, tcons}
+use Rattle.meaning.specs.FreeTree.{same, has, free}
 use Rattle.formulas.specs.Normal.{Normal, nnf, prenex, taken}
 use Rattle.formulas.specs.Clauses.{Clause, cnf, emptyOr, literalTotal}
 use Rattle.formulas.specs.Built.{tagOfMany}
-use Rattle.formulas.specs.Skeleton.{skeleton, build, builds, normals}
+use Rattle.meaning.specs.Skeleton.{skeleton, build, builds, normals}
 
 -- ---- notation
 -- `(= l r)`

@@ -1,20 +1,20 @@
 // Check 16: the sort that `compute_sort` gives a term, and whether the term states it.
+use crate::list_sorts::ListRule;
+use crate::list_sorts::by_list;
+use crate::plain::is_plain;
+use crate::plain::is_single;
+use crate::special::Special;
+use crate::special_sorts::by_special;
 use cells::Found;
 use cells::SortPlace;
 use cells::TermPlace;
 use cells::run;
-use list_sorts::ListRule;
-use list_sorts::by_list;
-use sort_rules::Special;
-use sort_rules::plain::is_plain;
-use sort_rules::plain::is_single;
-use special_sorts::by_special;
 ghost use mathlib.Core.Path.{_≡_};
 ghost use mathlib.Core.Bool.{not, _&&_};
 ghost use Prim.Native.Nat.{_-_, _≤_};
 ghost use lib.ListN.{getD};
 ghost use Rattle.headers.specs.WellFormed.{isTermTag};
-ghost use Rattle.sort_rules.specs.SortRule.{isSort, specialOf, firstSort, byRule, choice, statesSort, firstWrongSort};
+ghost use Rattle.sorts.specs.SortRule.{isSort, specialOf, firstSort, byRule, choice, statesSort, firstWrongSort};
 
 // The special rule of an operator code. 01: "special sort rules are decided by operator code".
 fn special_of(op: u32) -> Special

@@ -6,9 +6,9 @@ use Prim.Native.Nat.{ℕ}
 use mathlib.Core.Path.{_≡_, refl}
 use mathlib.Core.Bool.{true}
 use mathlib.Core.List.{List, [], _∷_}
-use Rattle.sort_rules.specs.Table.{builtIn}
-use Rattle.term_trees.specs.Term.{Term}
-use Rattle.formulas.specs.Truth.{Assignment, Reading, Local, True}
+use Rattle.sorts.specs.Table.{builtIn}
+use Rattle.meaning.specs.Term.{Term}
+use Rattle.meaning.specs.Truth.{Assignment, Reading, Local, True}
 use Rattle.clausification.specs.NoCapture.{NoCapture}
 use Rattle.rules.specs.Step.{conclusionTerm}
 use Rattle.rules.proofs.Accepted.{step-follows}

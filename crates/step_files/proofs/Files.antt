@@ -9,11 +9,11 @@ use lib.Seq.{sets, sets-eq}
 use lib.Dec.{ltb}
 use native.Mathlib.Omega.{arith}
 use borrow.Author.Tests.{lt-ltb, le-ltb, eq-eqb, ne-eqb}
-use Rattle.words.specs.Words.{wordAt}
+use Rattle.step_files.specs.Words.{wordAt}
 use Rattle.answers.specs.Answer.{illFormed, badArrays}
 use Rattle.answers.specs.declared.Answer.{Answer}
 use Rattle.step_files.specs.StepFile.{fileText, lines, written, Answered}
-use Rattle.answer_lines.specs.Text.{line, Put}
+use Rattle.step_files.specs.Text.{line, Put}
 use Rattle.step_files.proofs.Accepted.{file-follows}
 
 module _ (bytes out : List ℕ) where

@@ -11,10 +11,10 @@
 use Prim.Native.Nat.{ℕ}
 use mathlib.Core.Path.{_≡_, refl}
 use mathlib.Core.List.{List, [], _∷_}
-use Rattle.words.specs.Words.{wordAt}
+use Rattle.step_files.specs.Words.{wordAt}
 use Rattle.answers.specs.Answer.{refused}
-use Rattle.answer_lines.specs.Decimal.{decimalIn, decimal}
-use Rattle.answer_lines.specs.Text.{field, line}
+use Rattle.step_files.specs.Decimal.{decimalIn, decimal}
+use Rattle.step_files.specs.Text.{field, line}
 use Rattle.step_files.specs.StepFile.{fileText}
 
 -- `0 14 0 0` and `0 30 0 0` in ASCII, with the newline

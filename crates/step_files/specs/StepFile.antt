@@ -9,12 +9,12 @@ use mathlib.Core.Bool.{_||_, cond}
 use mathlib.Core.List.{List, [], _∷_, _++_}
 use lib.ListN.{length, drop, replicate}
 use lib.Dec.{ltb, eqb}
-use Rattle.words.specs.Words.{wordAt, wordsFrom}
-use Rattle.sort_rules.specs.Table.{builtIn}
+use Rattle.step_files.specs.Words.{wordAt, wordsFrom}
+use Rattle.sorts.specs.Table.{builtIn}
 use Rattle.answers.specs.Answer.{illFormed, badArrays}
 use Rattle.answers.specs.declared.Answer.{Answer}
 use Rattle.rules.specs.Step.{stepAnswer, Follows}
-use Rattle.answer_lines.specs.Text.{line}
+use Rattle.step_files.specs.Text.{line}
 
 -- an array of 8,192 cells: n words of the file from position start on, and zeroes
 unfoldable pub cellsFrom : List ℕ → ℕ → ℕ → List ℕ

@@ -3,8 +3,8 @@
 use Prim.Native.Nat.{ℕ, _≤_}
 use mathlib.Core.Path.{_≡_}
 use mathlib.Core.List.{List}
-use Rattle.sort_rules.specs.Table.{builtIn}
-use Rattle.pool_checks.specs.Check.{checkPool}
+use Rattle.sorts.specs.Table.{builtIn}
+use Rattle.pool.specs.Check.{checkPool}
 use Rattle.answers.specs.declared.Answer.{Answer}
 use Rattle.step_files.specs.StepFile.{cellCount, stepCount, fileTags, fileValues}
 

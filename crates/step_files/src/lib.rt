@@ -1,12 +1,14 @@
 // A step file from its bytes to the lines that answer it.
+pub mod answer_lines;
 mod lines;
+pub mod words;
 
 ghost use Rattle.step_files.specs.StepFile.{Answered};
-use answer_lines::put_line;
+use crate::answer_lines::put_line;
+use crate::words::word;
 use lines::answer_steps;
 use lines::wide;
 use pool::Answer;
-use words::word;
 
 // Writes the text that answers the file to the front of out, and says how many bytes that is. Nothing is written where out
 // has under 11,264 bytes.

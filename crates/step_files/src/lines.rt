@@ -2,17 +2,17 @@
 ghost use Prim.Native.Nat.{_≤_};
 ghost use mathlib.Core.Path.{_≡_};
 ghost use lib.ListN.{length};
-ghost use Rattle.pool_checks.specs.Check.{Indexed};
+ghost use Rattle.pool.specs.Check.{Indexed};
 ghost use Rattle.step_files.specs.StepFile.{cellsFrom, lines};
 ghost use Rattle.step_files.specs.Steps.{Sized, Ready};
-ghost use Rattle.answer_lines.specs.Text.{Put};
-use answer_lines::put_line;
+ghost use Rattle.step_files.specs.Text.{Put};
+use crate::answer_lines::put_line;
+use crate::words::read_words;
+use crate::words::word;
 use pool::Answer;
 use pool::call::index_pool;
 use pool::description::zero_from;
 use rules::check::check_after;
-use words::read_words;
-use words::word;
 
 pub(crate) fn wide(x: u32) -> usize
     ensures { λ r. ⌜ r ≡ x ⌝ }

@@ -3,7 +3,7 @@
 use Prim.Native.Nat.{ℕ}
 use mathlib.Core.Path.{_≡_}
 use mathlib.Core.List.{List}
-use Rattle.description_index.specs.Index.{Index, countAfter}
+use Rattle.descriptions.specs.Index.{Index, countAfter}
 use Rattle.descriptions.specs.declared.description.Added.{Added}
 use Rattle.descriptions.specs.declared.description.Added.the-variants.{There, New}
 use Rattle.building.specs.declared.build.Built.{Built}

@@ -5,7 +5,7 @@ use lib.Seq.{length-take-le}
 use borrow.Author.Needs.{needs}
 use Rattle.calls.proofs.check_step.Statement.{statement}
 use Rattle.calls.proofs.check_step.Tie as tie
-use Rattle.call_files.proofs.conclusion_count.Reads as conclusion-count-reads
+use Rattle.calls.proofs.call_files.conclusion_count.Reads as conclusion-count-reads
 use Rattle.calls.proofs.cells.Reads as cells-reads
 use Rattle.calls.proofs.check_in.Reads as check-in-reads
 

@@ -1,10 +1,10 @@
-use Rattle.call_files.proofs.Laws.{whole-bounded}
+use Rattle.calls.proofs.call_files.Laws.{whole-bounded}
 use borrow.Author.Needs.{needs}
 use Rattle.calls.proofs.run.Statement.{statement}
 use Rattle.calls.proofs.run.Tie as tie
 use Rattle.calls.proofs.bad_file.Reads as bad-file-reads
-use Rattle.call_files.proofs.is_whole.Reads as is-whole-reads
-use Rattle.call_files.proofs.read_head.Reads as read-head-reads
+use Rattle.calls.proofs.call_files.is_whole.Reads as is-whole-reads
+use Rattle.calls.proofs.call_files.read_head.Reads as read-head-reads
 use Rattle.calls.proofs.check_step.Reads as check-step-reads
 use Rattle.calls.proofs.clauses.Reads as clauses-reads
 use Rattle.calls.proofs.free_vars.Reads as free-vars-reads

@@ -23,10 +23,10 @@ use Rattle.formulas.specs.Built.{normalView}
 use Rattle.formulas.specs.Totals.{Totals}
 use Rattle.formulas.proofs.Totals.{totals-are}
 use Rattle.clauses.specs.Lists.{literalPlace, clausePlaces}
-use Rattle.clause_totals.specs.ClauseWalk.{formAt, Memo}
+use Rattle.clauses.specs.ClauseWalk.{formAt, Memo}
 use Rattle.clauses.specs.ClauseList.{runOf, choose, ClauseCounts, Ask, AskRun, Written}
 use Rattle.clauses.proofs.ClauseAt.{append-left, append-right, product-at, clauses-and, clauses-or}
-use Rattle.clause_totals.proofs.Reading.{before-head, before-tail, run-split, read-literal, read-forall, read-connective, run-before, connective-within}
+use Rattle.clauses.proofs.Reading.{before-head, before-tail, run-split, read-literal, read-forall, read-connective, run-before, connective-within}
 
 -- ---- the walk along the operands of an `and`: w is what it finds, from j on, for the number left
 module _ (w : Chosen) (counts run : List ℕ) (j left : ℕ) (inv : w ≡ choose counts (drop j run) left) where

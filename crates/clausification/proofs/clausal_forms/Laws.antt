@@ -7,16 +7,16 @@ use mathlib.Core.List.{List}
 use lib.ListN.{length, getD, take}
 use lib.Seq.{getD-take}
 use native.Mathlib.Omega.{arith}
-use Rattle.description_index.specs.Index.{Reached, Index, Earlier}
+use Rattle.descriptions.specs.Index.{Reached, Index, Earlier}
 use Rattle.descriptions.proofs.description.Growth.{Same}
-use Rattle.description_index.proofs.index.Entries.{reached-same}
-use Rattle.description_index.proofs.index.Kept.{index-kept}
+use Rattle.descriptions.proofs.index.Entries.{reached-same}
+use Rattle.descriptions.proofs.index.Kept.{index-kept}
 use Rattle.formulas.specs.Built.{takenOut}
 use Rattle.building.specs.declared.build.Built.{Built}
 use Rattle.building.specs.declared.build.Built.the-variants as built
 use Rattle.building.specs.Arrays.{poolOf, normalIn, clausalIn}
 use Rattle.building.specs.Walk.{State, Left, Holds, NormalBuilt}
-use Rattle.building.proofs.Clausal.{tags-kept, values-kept, clausal-on, clausal-full, clausal-then}
+use Rattle.normal_form.proofs.Clausal.{tags-kept, values-kept, clausal-on, clausal-full, clausal-then}
 use Rattle.clausification.specs.ClausalForms.{FormsBuilt}
 use Rattle.clausification.specs.declared.clausal_forms.Forms.the-variants.{At, Full}
 

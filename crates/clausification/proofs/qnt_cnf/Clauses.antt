@@ -10,20 +10,20 @@ use lib.Dec.{leb}
 use native.Mathlib.Omega.{arith}
 use borrow.Author.Tests.{eq-eqb}
 use Rattle.cells.specs.ByPlace.{by-test}
-use Rattle.sort_rules.specs.Table.{builtIn}
+use Rattle.sorts.specs.Table.{builtIn}
 use Rattle.descriptions.proofs.description.Growth.{Same}
 use Rattle.answers.specs.declared.Answer.{Answer}
-use Rattle.term_trees.proofs.Passed.{Passed, pool-passes, pool-accepts}
+use Rattle.meaning.proofs.trees.Passed.{Passed, pool-passes, pool-accepts}
 use Rattle.formulas.specs.Normal.{Normal}
 use Rattle.formulas.specs.Clauses.{cnf, emptyOr, literalTotal}
 use Rattle.formulas.specs.Built.{normalAt, takenOut}
-use Rattle.clause_totals.specs.ClauseWalk.{formAt}
+use Rattle.clauses.specs.ClauseWalk.{formAt}
 use Rattle.clauses.specs.ClauseList.{Lent, Answered, countAnswer, listAnswer, held}
 use Rattle.building.specs.declared.build.Built.the-variants as stands
 use Rattle.building.specs.Arrays.{poolOf, fits, normalIn, clausalIn, clausalFormIn}
 use Rattle.building.specs.Walk.{State, Left, Holds, NormalBuilt}
-use Rattle.building.proofs.Clausal.{passed-state, tags-kept, values-kept, taken-on, clausal-on, normal-state, clausal-then}
-use Rattle.quantifiers.specs.Outcome.{Outcome, refuse, _>>_, guard, answerOf}
+use Rattle.normal_form.proofs.Clausal.{passed-state, tags-kept, values-kept, taken-on, clausal-on, normal-state, clausal-then}
+use Rattle.answers.specs.Outcome.{Outcome, refuse, _>>_, guard, answerOf}
 use Rattle.clausification.specs.QntCnf.{withinLimits, clausesFrom, clausified}
 use Rattle.clausification.specs.ClauseSearch.{clausesIn}
 use Rattle.clausification.specs.ClausalForms.{Both, FormsBuilt}

@@ -12,18 +12,19 @@ use Rattle.headers.specs.WellFormed.{firstBad}
 use Rattle.descriptions.proofs.description.Growth.{Same}
 use Rattle.formulas.specs.Normal.{taken}
 use Rattle.formulas.specs.Built.{normalAt}
-use Rattle.clause_totals.specs.ClauseWalk.{formAt}
+use Rattle.clauses.specs.ClauseWalk.{formAt}
 use Rattle.building.specs.Arrays.{normalIn}
-use Rattle.quantifiers.specs.Outcome.{Outcome, pass, refuse, _>>_, guard, unless}
-use Rattle.quantifiers.specs.Binding.{Binding, bindingsOf, has, firstOf, bindingFree}
-use Rattle.quantifiers.specs.BindingAnswer.{nameOf}
-use Rattle.forms.specs.FormAnswer.{pairsOf}
-use Rattle.quantifiers.specs.declared.binding.FirstName.{FirstName}
-use Rattle.quantifiers.specs.declared.binding.FirstName.the-variants.{Name, Nothing}
-use Rattle.quantifiers.proofs.outcome.Laws.{answers, unless-name, unless-none}
+use Rattle.answers.specs.Outcome.{Outcome, pass, refuse, _>>_, guard, unless}
+use Rattle.bindings.specs.Binding.{Binding, bindingsOf, has, firstOf}
+use Rattle.free_variables.specs.BindingFree.{bindingFree}
+use Rattle.bindings.specs.BindingAnswer.{nameOf}
+use Rattle.formulas.specs.PatternAnswer.{pairsOf}
+use Rattle.bindings.specs.declared.binding.FirstName.{FirstName}
+use Rattle.bindings.specs.declared.binding.FirstName.the-variants.{Name, Nothing}
+use Rattle.bindings.proofs.Outcomes.{answers, unless-name, unless-none}
 use Rattle.clausification.specs.QntCnf.{isClause, anyClause, takenFrom, clausesFrom, leftAndTaken, clauseFollows}
-use Rattle.taken_out.specs.TakenSearch.{isSought}
-use Rattle.taken_out.specs.declared.taken_variables.Sought.the-variants.{Missing}
+use Rattle.clausification.specs.TakenSearch.{isSought}
+use Rattle.clausification.specs.declared.taken_search.Sought.the-variants.{Missing}
 use Rattle.clausification.specs.Promises.{forallAt, followsIn}
 use Rattle.clausification.proofs.Kept.{pairs-kept, clause-kept, binding-kept}
 

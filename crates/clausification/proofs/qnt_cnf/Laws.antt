@@ -9,26 +9,26 @@ use lib.Dec.{eqb, ltb}
 use native.Mathlib.Omega.{arith}
 use borrow.Author.Tests.{eqb-true, eqb-false, ltb-true, not-true, not-false}
 use Rattle.cells.specs.ByPlace.{by-test}
-use Rattle.sort_rules.specs.Table.{builtIn}
+use Rattle.sorts.specs.Table.{builtIn}
 use Rattle.headers.specs.WellFormed.{isTerm}
 use Rattle.descriptions.specs.Description.{Cut}
-use Rattle.pool_checks.specs.Check.{checkPool, andThen as checkThen, checkTerm}
+use Rattle.pool.specs.Check.{checkPool, andThen as checkThen, checkTerm}
 use Rattle.answers.specs.declared.Answer.{Answer}
-use Rattle.term_trees.proofs.Header.{both}
-use Rattle.term_trees.proofs.Passed.{Passed, pool-passes, pool-accepts}
-use Rattle.building.proofs.Clausal.{zero-kept}
-use Rattle.quantifiers.specs.Outcome.{Outcome, refuse, _>>=_, _>>_, need, guard, answerOf}
-use Rattle.forms.specs.Form.{quantifier, operator, oneOf, twoOf, andThen}
-use Rattle.forms.specs.FormAnswer.{withList, quantifierIn, oneIn, twoIn}
-use Rattle.forms.specs.declared.Quantified.{Quantified}
-use Rattle.forms.specs.declared.Quantified.the-variants as quantified
-use Rattle.forms.specs.declared.One.{One}
-use Rattle.forms.specs.declared.One.the-variants as one
-use Rattle.forms.specs.declared.Two.{Two}
-use Rattle.forms.specs.declared.Two.the-variants as two
-use Rattle.forms.proofs.Laws.{Reads}
-use Rattle.forms.proofs.Passes.{then-some}
-use Rattle.forms.proofs.Trees.{AllTerms, two-are, quantifier-tree, operator-tree}
+use Rattle.meaning.proofs.trees.Header.{both}
+use Rattle.meaning.proofs.trees.Passed.{Passed, pool-passes, pool-accepts}
+use Rattle.normal_form.proofs.Clausal.{zero-kept}
+use Rattle.answers.specs.Outcome.{Outcome, refuse, _>>=_, _>>_, need, guard, answerOf}
+use Rattle.formulas.specs.Pattern.{quantifier, operator, oneOf, twoOf, andThen}
+use Rattle.formulas.specs.PatternAnswer.{withList, quantifierIn, oneIn, twoIn}
+use Rattle.formulas.specs.declared.matching.Quantified.{Quantified}
+use Rattle.formulas.specs.declared.matching.Quantified.the-variants as quantified
+use Rattle.formulas.specs.declared.matching.One.{One}
+use Rattle.formulas.specs.declared.matching.One.the-variants as one
+use Rattle.formulas.specs.declared.matching.Two.{Two}
+use Rattle.formulas.specs.declared.matching.Two.the-variants as two
+use Rattle.formulas.proofs.matching.Laws.{Reads}
+use Rattle.meaning.proofs.patterns.Passes.{then-some}
+use Rattle.meaning.proofs.patterns.Trees.{AllTerms, two-are, quantifier-tree, operator-tree}
 use Rattle.clausification.specs.QntCnf.{implication, clausified, qntCnf}
 use Rattle.clausification.specs.Promises.{forallAt, Sides, Leaves, Clausified}
 

@@ -39,8 +39,8 @@ use denote.Triple.Table.{entered, cited}
 use denote.Triple.Walked.{says, Stays, stay-none-slice, walkOf, goes-none-slice, Walks, ends-at, walked, walk-meets}
 use denote.Triple.Clauses.{ensured, lasts}
 use denote.Exit.{yes}
-use Rattle.quantifiers.specs.Binding.{sameAll}
-use Rattle.joining.specs.QntJoin.{joined}
+use Rattle.bindings.specs.Binding.{sameAll}
+use Rattle.quantifier_rules.specs.QntJoin.{joined}
 use Rattle.joined_records.specs.Records.{noBinding, bindingsIn, start, follow, agrees}
 use Rattle.joined_records.specs.declared.Binding.{Binding}
 use Rattle.joined_records.specs.declared.Along.{Along}

@@ -12,7 +12,7 @@ use borrow.Author.Tests.{le-leb, lt-leb, eq-eqb, ne-eqb, eqb-true, eqb-false}
 use Rattle.cells.specs.ByPlace.{by-test}
 use Rattle.descriptions.specs.Description.{zeroFrom, Cut}
 use Rattle.answers.specs.Answer.{badArrays}
-use Rattle.pool_checks.specs.Check.{andThen, checkTerm}
+use Rattle.pool.specs.Check.{andThen, checkTerm}
 use Rattle.answers.specs.declared.Answer.{Answer}
 use Rattle.building.specs.declared.build.Built.{Built}
 use Rattle.building.specs.declared.build.Built.the-variants.{At, Full}
@@ -26,11 +26,11 @@ use Rattle.clauses.specs.Lists.{literalPlaces, clauseEnds}
 use Rattle.building.specs.Arrays.{fits}
 use Rattle.normal_form.specs.Calls.{noRoom, clausal, clausalForm, clauseAnswer, listLeft, countLeft, ClauseList}
 use Rattle.building.specs.Walk.{State, Holds, NormalBuilt}
-use Rattle.clause_totals.specs.ClauseWalk.{formAt}
+use Rattle.clauses.specs.ClauseWalk.{formAt}
 use Rattle.clauses.specs.ClauseList.{Lent, Answered, countAnswer, listAnswer, held}
 use Rattle.normal_form.specs.ClauseCall.{Passes, Refuses, ClausalBuilt, unlisted, Kept}
 use Rattle.building.proofs.build.Building.{left-refl}
-use Rattle.building.proofs.Clausal.{zero-kept, tags-kept, values-kept, clausal-on}
+use Rattle.normal_form.proofs.Clausal.{zero-kept, tags-kept, values-kept, clausal-on}
 use Rattle.clauses.proofs.clause_list.Laws.{zero-all}
 use Rattle.normal_form.proofs.call.Laws.{checked-ready, holds-count, holds-tags, holds-values, left-30, left-refused, left-accepted}
 

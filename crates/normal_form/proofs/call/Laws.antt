@@ -12,10 +12,10 @@ use borrow.Author.Tests.{eq-eqb, ne-eqb, ltb-true}
 use Rattle.headers.specs.WellFormed.{isTermTag, isTerm}
 use Rattle.descriptions.specs.Description.{zeroFrom, Cut}
 use Rattle.answers.specs.Answer.{accepted}
-use Rattle.pool_checks.specs.Check.{andThen, checkTerm}
+use Rattle.pool.specs.Check.{andThen, checkTerm}
 use Rattle.answers.specs.declared.Answer.{Answer}
-use Rattle.term_trees.proofs.Header.{both}
-use Rattle.term_trees.proofs.Passed.{Passed, term-accepts, term-passes}
+use Rattle.meaning.proofs.trees.Header.{both}
+use Rattle.meaning.proofs.trees.Passed.{Passed, term-accepts, term-passes}
 use Rattle.building.specs.declared.build.Built.{Built}
 use Rattle.building.specs.declared.build.Built.the-variants.{At, Full}
 use Rattle.formulas.specs.Built.{Pool, Placed, count}
@@ -23,7 +23,7 @@ use Rattle.clauses.specs.Lists.{padded}
 use Rattle.normal_form.specs.Calls.{noRoom, arrayLeft, normalAnswer, normalPlace, NormalForm}
 use Rattle.building.specs.Walk.{State, Holds, NormalBuilt}
 use Rattle.building.proofs.build.Laws.{pool-count}
-use Rattle.building.proofs.Clausal.{passed-state, zero-kept}
+use Rattle.normal_form.proofs.Clausal.{passed-state, zero-kept}
 
 -- ---- a term that passes its checks
 pub record TermPassed (tags values rules : List ℕ) (n t : ℕ) : Type 0 where

@@ -7,9 +7,9 @@ use lib.ListN.{length, replicate, getD-replicate, length-replicate}
 use borrow.Author.Tests.{le-leb, lt-leb, eq-eqb, ne-eqb}
 use Rattle.answers.specs.Answer.{accepted, badArrays}
 use Rattle.cells.specs.Cell.{sortOf}
-use Rattle.free_vars.specs.Free.{Marked}
-use Rattle.pool_checks.specs.Check.{checkPool, checkTerm}
-use Rattle.pool_checks.proofs.Laws.{stop, go-on}
+use Rattle.free_variables.specs.Free.{Marked}
+use Rattle.pool.specs.Check.{checkPool, checkTerm}
+use Rattle.pool.proofs.checks.Laws.{stop, go-on}
 use Rattle.pool.specs.Calls.{sortAnswer, freeAnswer, markLeft, FreeVars}
 use Rattle.answers.specs.declared.Answer.{Answer}
 

@@ -14,20 +14,20 @@ use Rattle.cells.specs.Cell.{cellsOf, operandsOf}
 use Rattle.headers.specs.WellFormed.{isTerm}
 use Rattle.descriptions.specs.Description.{zeroFrom, Cut}
 use Rattle.answers.specs.Answer.{accepted, refused}
-use Rattle.description_index.specs.Index.{Index}
-use Rattle.pool_checks.specs.Check.{Indexed, andThen, checkPool, checkTerm}
+use Rattle.descriptions.specs.Index.{Index}
+use Rattle.pool.specs.Check.{Indexed, andThen, checkPool, checkTerm}
 use Rattle.answers.specs.declared.Answer.{Answer}
-use Rattle.term_trees.proofs.Header.{both, cells-length, term-tagged}
-use Rattle.term_trees.proofs.Passed.{Passed, pool-passes, pool-accepts, header-at}
-use Rattle.quantifiers.specs.Outcome.{answerOf}
-use Rattle.forms.specs.Form.{equality}
-use Rattle.forms.proofs.Trees.{equality-tree}
-use Rattle.joining.specs.QntJoin.{qntJoin}
-use Rattle.removing.specs.QntRmUnused.{qntRmUnused}
-use Rattle.miniscoping.specs.MiniscopeDistribute.{miniscopeDistribute}
-use Rattle.miniscoping.specs.MiniscopeSplit.{miniscopeSplit}
-use Rattle.miniscoping.specs.MiniscopeIte.{miniscopeIte}
-use Rattle.miniscoping.specs.LeftFits.{LeftFits}
+use Rattle.meaning.proofs.trees.Header.{both, cells-length, term-tagged}
+use Rattle.meaning.proofs.trees.Passed.{Passed, pool-passes, pool-accepts, header-at}
+use Rattle.answers.specs.Outcome.{answerOf}
+use Rattle.formulas.specs.Pattern.{equality}
+use Rattle.meaning.proofs.patterns.Trees.{equality-tree}
+use Rattle.quantifier_rules.specs.QntJoin.{qntJoin}
+use Rattle.quantifier_rules.specs.QntRmUnused.{qntRmUnused}
+use Rattle.quantifier_rules.specs.MiniscopeDistribute.{miniscopeDistribute}
+use Rattle.quantifier_rules.specs.MiniscopeSplit.{miniscopeSplit}
+use Rattle.quantifier_rules.specs.MiniscopeIte.{miniscopeIte}
+use Rattle.quantifier_rules.specs.LeftFits.{LeftFits}
 use Rattle.rules.specs.Step.{isRule, ruleOutcome, stepAnswer, cellsLeft, Follows, StepHolds, Step}
 use Rattle.clausification.specs.Promises.{Clausified}
 use Rattle.rules.specs.StepWalk.{beforeRule, Kept, Judged}

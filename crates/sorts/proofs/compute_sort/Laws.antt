@@ -12,9 +12,9 @@ use borrow.Author.Tests.{lt-leb, le-leb, lt-ltb, le-ltb, eq-eqb, ne-eqb, ltb-tru
 use Rattle.cells.specs.ByPlace.{by-test}
 use Rattle.cells.specs.Cell.{sortOf, operandsOf, isAt}
 use Rattle.headers.specs.WellFormed.{isTermTag}
-use Rattle.sort_rules.specs.SortRule.{isSort, specialOf, firstSort, bySpecial, byRule, application, choice, lambda, computeSort, statesSort}
-use Rattle.sort_rules.specs.declared.Special.{Special}
-use Rattle.sort_rules.specs.declared.Special.the-variants.{Arithmetic, BitVectors, BitCount, NoRule}
+use Rattle.sorts.specs.SortRule.{isSort, specialOf, firstSort, bySpecial, byRule, application, choice, lambda, computeSort, statesSort}
+use Rattle.sorts.specs.declared.special.Special.{Special}
+use Rattle.sorts.specs.declared.special.Special.the-variants.{Arithmetic, BitVectors, BitCount, NoRule}
 
 -- ---- a range of codes
 module _ (a b op : ℕ) where

@@ -11,16 +11,16 @@ use native.Mathlib.Omega.{arith}
 use native.Mathlib.Numerals.{add-one}
 use Rattle.cells.specs.ByPlace.{by-test}
 use Rattle.descriptions.specs.Description.{zeroFrom}
-use Rattle.words.specs.Words.{wordAt, wordsFrom}
-use Rattle.words.proofs.Words.{length-words}
-use Rattle.sort_rules.specs.Table.{builtIn}
-use Rattle.pool_checks.specs.Check.{checkPool, Indexed}
+use Rattle.step_files.specs.Words.{wordAt, wordsFrom}
+use Rattle.step_files.proofs.words.Words.{length-words}
+use Rattle.sorts.specs.Table.{builtIn}
+use Rattle.pool.specs.Check.{checkPool, Indexed}
 use Rattle.answers.specs.declared.Answer.{Answer}
 use Rattle.rules.specs.Step.{cellsLeft, Step}
 use Rattle.step_files.specs.StepFile.{cellsFrom, answerTo, lines}
 use Rattle.step_files.specs.Steps.{Sized, Ready}
-use Rattle.answer_lines.specs.Text.{line, Put}
-use Rattle.answer_lines.proofs.Laws.{put-append}
+use Rattle.step_files.specs.Text.{line, Put}
+use Rattle.step_files.proofs.answer_lines.Laws.{put-append}
 
 -- ---- the arrays
 -- the array l, zeroed from n on

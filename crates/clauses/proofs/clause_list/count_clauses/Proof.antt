@@ -1,5 +1,5 @@
 use borrow.Author.Needs.{needs}
-use Rattle.clause_totals.proofs.totals.Laws.{fresh}
+use Rattle.clauses.proofs.totals.Laws.{fresh}
 use Rattle.clauses.proofs.clause_list.Laws.{counted}
 use Rattle.clauses.proofs.clause_list.count_clauses.Statement.{statement}
 use Rattle.clauses.proofs.clause_list.count_clauses.Tie as tie

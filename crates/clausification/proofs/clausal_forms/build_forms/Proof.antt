@@ -1,6 +1,6 @@
 use mathlib.Core.Path.{_∙_}
 use native.Mathlib.Omega.{arith}
-use Rattle.building.proofs.Clausal.{normal-state, normal-below}
+use Rattle.normal_form.proofs.Clausal.{normal-state, normal-below}
 use Rattle.building.proofs.build.Indexing.{index-at}
 use Rattle.clausification.proofs.clausal_forms.Laws.{no-normal-forms, no-normal-ask, no-normal-index, no-taken-forms, no-taken-ask, no-taken-index, both-forms, both-ask, both-index}
 use borrow.Author.Needs.{needs}

@@ -1,5 +1,5 @@
 use mathlib.Core.Path.{_∙_}
-use Rattle.building.proofs.Clausal.{clausals, normal-state, normal-below}
+use Rattle.normal_form.proofs.Clausal.{clausals, normal-state, normal-below}
 use Rattle.building.proofs.build.Indexing.{index-at}
 use borrow.Author.Needs.{needs}
 use Rattle.normal_form.proofs.call.build_clausal.Statement.{statement}

@@ -1,4 +1,4 @@
-use Rattle.pool_checks.proofs.Laws.{terms, indexed-terms}
+use Rattle.pool.proofs.checks.Laws.{terms, indexed-terms}
 use borrow.Author.Needs.{needs}
 use Rattle.pool.proofs.call.index_term.Statement.{statement}
 use Rattle.pool.proofs.call.index_term.Tie as tie

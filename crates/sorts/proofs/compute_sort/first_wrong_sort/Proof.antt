@@ -5,7 +5,7 @@ use mathlib.Core.Bool.{not, _&&_}
 use lib.ListN.{getD}
 use Rattle.cells.specs.Headers.{firstFrom, firstHeader}
 use Rattle.headers.specs.WellFormed.{isTermTag}
-use Rattle.sort_rules.specs.SortRule.{statesSort, firstWrongSort}
+use Rattle.sorts.specs.SortRule.{statesSort, firstWrongSort}
 use Rattle.cells.proofs.Walks.{first-end, first-here, first-next, first-last}
 use Rattle.sorts.proofs.compute_sort.first_wrong_sort.Statement.{statement}
 use Rattle.sorts.proofs.compute_sort.first_wrong_sort.Tie as tie

@@ -1,4 +1,4 @@
-use Rattle.sort_rules.specs.SortRule.{specialOf}
+use Rattle.sorts.specs.SortRule.{specialOf}
 use Rattle.sorts.proofs.compute_sort.Laws.{codes}
 use Rattle.sorts.proofs.compute_sort.special_of.Statement.{statement}
 use Rattle.sorts.proofs.compute_sort.special_of.Tie as tie

@@ -1,5 +1,5 @@
 use Rattle.sorts.proofs.compute_sort.Laws.{term-sorts}
-use Rattle.list_sorts.specs.ListRule.{byList}
+use Rattle.sorts.specs.ListRule.{byList}
 use borrow.Author.Needs.{needs}
 use Rattle.sorts.proofs.compute_sort.states_sort.Statement.{statement}
 use Rattle.sorts.proofs.compute_sort.states_sort.Tie as tie

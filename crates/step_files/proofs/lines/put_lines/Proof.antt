@@ -3,9 +3,9 @@ use native.Mathlib.Omega.{arith}
 use Prim.Native.Nat.{_-_, _*_, _≤_}
 use mathlib.Core.Path.{_≡_, refl}
 use lib.ListN.{length}
-use Rattle.pool_checks.specs.Check.{Indexed}
+use Rattle.pool.specs.Check.{Indexed}
 use Rattle.step_files.specs.StepFile.{lines}
-use Rattle.answer_lines.specs.Text.{Put}
+use Rattle.step_files.specs.Text.{Put}
 use Rattle.step_files.proofs.lines.Laws.{checked-now, indexed-now, indexed-then, answer-is, tags-same, values-same, lines-none, lines-next, lines-all}
 use Rattle.step_files.proofs.lines.put_lines.Statement.{statement}
 use Rattle.step_files.proofs.lines.put_lines.Tie as tie

@@ -1,3 +1,0 @@
-mod Decimals
-mod Sets
-pub mod Laws

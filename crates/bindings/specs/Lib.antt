@@ -1,0 +1,3 @@
+pub mod Binding
+pub mod BindingAnswer
+pub mod Used

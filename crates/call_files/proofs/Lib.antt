@@ -1,2 +1,0 @@
--- The laws of reading a call file.
-pub mod Laws

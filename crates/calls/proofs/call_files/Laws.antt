@@ -1,0 +1,68 @@
+-- Laws of `Format`, one for each way out of the functions that read a call file.
+-- Assumes nothing.
+use Prim.Native.Nat.{ℕ, _+_, _*_, _≤_, _<_}
+use mathlib.Core.Path.{_≡_, refl, sym, _∙_}
+use mathlib.Core.Bool.{Bool, true, false, not, _&&_}
+use mathlib.Core.List.{List}
+use lib.ListN.{length}
+use lib.Dec.{leb, eqb}
+use native.Mathlib.Omega.{arith}
+use borrow.Author.Tests.{lt-leb, le-leb, leb-true, eq-eqb, ne-eqb, not-false}
+use Rattle.step_files.specs.Words.{wordAt}
+use Rattle.calls.specs.Format.{headOf, conclusionCount, isWhole, Bounded}
+use Rattle.calls.specs.declared.call_files.Head.{Head}
+
+-- ---- the lengths
+both : (a b : Bool) → a && b ≡ true → (a ≡ true) × (b ≡ true)
+both true b e = (refl, e)
+both false b e = let z : _≡_ {A = ℕ} 0 1 = cc in absurd (omega arith)
+
+module _ (bytes : List ℕ) (head : Head) where
+  pub whole-tags : 9000 < head .tags → false ≡ isWhole bytes head
+  unfolding isWhole
+  whole-tags h = rw (lt-leb _ _ h)
+
+  module _ (t : head .tags ≤ 9000) where
+    pub whole-values : 9000 < head .values → false ≡ isWhole bytes head
+    unfolding isWhole
+    whole-values h = rw (le-leb _ _ t, lt-leb _ _ h)
+
+    module _ (v : head .values ≤ 9000) (x : ℕ) (is : x ≡ conclusionCount head) where
+      pub whole-places : 9000 < x → false ≡ isWhole bytes head
+      unfolding isWhole
+      whole-places h = rw (le-leb _ _ t, le-leb _ _ v, ← is, lt-leb _ _ h)
+
+      pub whole-size : x ≤ 9000 → eqb (length bytes) (4 * (8 + head .tags + head .values + x)) ≡ isWhole bytes head
+      unfolding isWhole
+      whole-size h = rw (le-leb _ _ t, le-leb _ _ v, ← is, le-leb _ _ h)
+
+  -- what a call may count on
+  pub whole-bounded : (w : Bool) → w ≡ isWhole bytes head → not w ≡ false → Bounded head
+  unfolding isWhole
+  whole-bounded w is e =
+      let (t, rest) = both (leb (head .tags) 9000) _ (sym is ∙ not-false w e) in
+      let (v, rest′) = both (leb (head .values) 9000) _ rest in
+      let (x, _) = both (leb (conclusionCount head) 9000) _ rest′ in
+      record { tags = leb-true _ _ t; values = leb-true _ _ v; conclusion = leb-true _ _ x }
+
+pub count-none : (head : Head) → (head .call ≡ 0 → ⊥) → 0 ≡ conclusionCount head
+unfolding conclusionCount
+count-none head h = rw (ne-eqb _ _ h)
+
+pub count-some : (head : Head) → head .call ≡ 0 → head .lent ≡ conclusionCount head
+unfolding conclusionCount
+count-some head e = rw (eq-eqb _ _ e)
+
+pub ruleset counts = (count-none, count-some)
+
+pub ruleset whole = (whole-tags, whole-values, whole-places, whole-size)
+
+-- ---- the first words
+pub head-read : (bytes : List ℕ) (k t v n p q x y t' v' n' x' y' : ℕ) → k ≡ wordAt bytes 0 → t' ≡ wordAt bytes 1 → v' ≡ wordAt bytes 2
+    → n' ≡ wordAt bytes 3 → p ≡ wordAt bytes 4 → q ≡ wordAt bytes 5 → x' ≡ wordAt bytes 6 → y' ≡ wordAt bytes 7
+    → t ≡ t' → v ≡ v' → n ≡ n' → x ≡ x' → y ≡ y'
+    → _≡_ {A = Head} (record { call = k; tags = t; values = v; n = n; place = p; polarity = q; lent = x; ends = y }) (headOf bytes)
+unfolding headOf
+head-read bytes k t v n p q x y t' v' n' x' y' z a b c d e f g h i j l m = rw (h, i, j, l, m, z, a, b, c, d, e, f, g)
+
+pub ruleset head = head-read

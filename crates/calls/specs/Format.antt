@@ -1,0 +1,40 @@
+-- The layout of a call file, over the list of its bytes: u32 little-endian words, of which the first eight say what follows.
+--     call, T, V, N, rule or place, polarity, X, Y; then T tags and V values, and in a call 0 the X places of the conclusion
+-- Rests on words' Words and the struct `Head`.
+use Prim.Native.Nat.{ℕ, _+_, _*_, _≤_}
+use mathlib.Core.Path.{_≡_}
+use mathlib.Core.Bool.{Bool, _&&_, cond}
+use mathlib.Core.List.{List}
+use lib.ListN.{length}
+use lib.Dec.{leb, eqb}
+use Rattle.step_files.specs.Words.{wordAt}
+use Rattle.calls.specs.declared.call_files.Head.{Head}
+
+unfoldable pub headOf : List ℕ → Head
+headOf bytes =
+    record {
+      call = wordAt bytes 0;
+      tags = wordAt bytes 1;
+      values = wordAt bytes 2;
+      n = wordAt bytes 3;
+      place = wordAt bytes 4;
+      polarity = wordAt bytes 5;
+      lent = wordAt bytes 6;
+      ends = wordAt bytes 7;
+    }
+
+-- the places of the conclusion, in a call 0
+unfoldable pub conclusionCount : Head → ℕ
+conclusionCount head = cond (eqb (head .call) 0) (head .lent) 0
+
+-- each array has at most 9,000 elements, and the file ends with the last of them
+unfoldable pub isWhole : List ℕ → Head → Bool
+isWhole bytes head =
+    leb (head .tags) 9000 && (leb (head .values) 9000 && (leb (conclusionCount head) 9000
+    && eqb (length bytes) (4 * (8 + head .tags + head .values + conclusionCount head))))
+
+-- the arrays' bounds as facts
+pub record Bounded (head : Head) : Type 0 where
+  pub tags : head .tags ≤ 9000
+  pub values : head .values ≤ 9000
+  pub conclusion : conclusionCount head ≤ 9000

@@ -1,0 +1,74 @@
+// The layout of a call file: u32 little-endian words, of which the first eight are call, T, V, N, rule or place,
+// polarity, X and Y. T tags and V values follow, and in a call 0 the X places of the conclusion.
+ghost use mathlib.Core.Path.{_≡_};
+ghost use Rattle.calls.specs.Format.{headOf, conclusionCount, isWhole};
+use step_files::words::word;
+
+// The words that the calls use: X is `lent`, the length of the conclusion, of the marks or of the literals, and Y is `ends`, that
+// of the clause ends.
+pub struct Head {
+    pub call: u32,
+    pub tags: usize,
+    pub values: usize,
+    pub n: usize,
+    pub place: u32,
+    pub polarity: u32,
+    pub lent: usize,
+    pub ends: usize,
+}
+
+fn wide(x: u32) -> usize
+    ensures { λ r. ⌜ r ≡ x ⌝ }
+{
+    x as usize
+}
+
+pub fn read_head(bytes: &[u8]) -> Head
+    ensures { λ r. ⌜ r ≡ headOf (now (bytes .entry)) ⌝ }
+{
+    let call = word(bytes, 0);
+    let tags = wide(word(bytes, 1));
+    let values = wide(word(bytes, 2));
+    let n = wide(word(bytes, 3));
+    let place = word(bytes, 4);
+    let polarity = word(bytes, 5);
+    let lent = wide(word(bytes, 6));
+    let ends = wide(word(bytes, 7));
+    Head {
+        call: call,
+        tags: tags,
+        values: values,
+        n: n,
+        place: place,
+        polarity: polarity,
+        lent: lent,
+        ends: ends,
+    }
+}
+
+// How many places follow the values: the conclusion of a call 0.
+pub fn conclusion_count(head: Head) -> usize
+    ensures { λ r. ⌜ r ≡ conclusionCount head ⌝ }
+{
+    if head.call == 0 {
+        return head.lent;
+    }
+    0
+}
+
+// Whether the arrays have at most 9,000 elements each and fill the file to its end.
+pub fn is_whole(bytes: &[u8], head: Head) -> bool
+    ensures { λ r. ⌜ r ≡ isWhole (now (bytes .entry)) head ⌝ }
+{
+    if 9000 < head.tags {
+        return false;
+    }
+    if 9000 < head.values {
+        return false;
+    }
+    let places = conclusion_count(head);
+    if 9000 < places {
+        return false;
+    }
+    bytes.len() == 4 * (8 + head.tags + head.values + places)
+}

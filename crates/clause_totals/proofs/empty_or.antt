@@ -1,2 +1,0 @@
--- Laws of the empty `or`.
-pub mod Laws

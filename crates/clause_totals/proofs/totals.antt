@@ -1,2 +1,0 @@
--- Laws of the totals.
-pub mod Laws

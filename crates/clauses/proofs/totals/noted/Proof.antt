@@ -1,0 +1,19 @@
+use Rattle.clauses.proofs.totals.Laws.{steps}
+use borrow.Author.Needs.{needs}
+use Rattle.clauses.proofs.totals.noted.Statement.{statement}
+use Rattle.clauses.proofs.totals.noted.Tie as tie
+
+cell-requires : tie.Need-cell-requires
+cell-requires c κs = search needs
+
+cell-requires-2 : tie.Need-cell-requires-2
+cell-requires-2 c κs = search needs
+
+sub-t7 : tie.Need-sub-t7
+sub-t7 c = search needs
+
+returns : tie.Need-returns
+returns c = search steps
+
+pub noted-spec : {M : Type 1} → statement M
+noted-spec = tie.close (tie.spec cell-requires cell-requires-2 sub-t7 returns)

@@ -1,0 +1,63 @@
+// Whether an empty `or` is reached, 01's number 13. A memo, a byte for each place, keeps the places from which none is reached,
+// so that each term that x reaches is visited once however terms are shared. A place past the memo's end is walked anew.
+use formulas::view::NormalView;
+use formulas::view::normal_view;
+use pool::TermPlace;
+use pool::marks::mark_at;
+use pool::marks::note_no;
+use pool::run::operands;
+ghost use Prim.Native.Nat.{_≤_};
+ghost use mathlib.Core.Path.{_≡_};
+ghost use mathlib.Core.Bool.{true};
+ghost use lib.ListN.{length};
+ghost use Rattle.formulas.specs.Formula.{allBefore};
+ghost use Rattle.formulas.specs.Clauses.{emptyOr, emptyOrs};
+ghost use Rattle.formulas.specs.Built.{normalsOf};
+ghost use Rattle.clauses.specs.ClauseWalk.{formAt, NoneReached, Reached};
+
+// Whether an empty `or` is reached from the term at x: the term walker.
+fn from_term(tags: &[u32], values: &[u32], memo: &mut [u8], x: TermPlace) -> bool
+    requires { ⌜ NoneReached (now tags) (now values) (now memo) ⌝ }
+    ensures { λ r. ⌜ Reached (now (tags .entry)) (now (values .entry)) (now (memo .exit)) r (emptyOr (formAt (now (tags .entry)) (now (values .entry)) (x .0))) ⌝ }
+{
+    if mark_at(memo, x.0) == 1 {
+        return false;
+    }
+    let view = normal_view(tags, values, x);
+    match view {
+        NormalView::Literal => note_no(memo, x.0, false),
+        NormalView::Forall(_) => note_no(memo, x.0, false),
+        NormalView::Connective(all) => {
+            let run = operands(tags, values, x);
+            if run.len() == 0 {
+                return !all;
+            }
+            let s = from_run(tags, values, memo, x, run);
+            note_no(memo, x.0, s)
+        }
+    }
+}
+
+// The same of the terms of a run, which stand before x: the run walker.
+fn from_run(tags: &[u32], values: &[u32], memo: &mut [u8], x: TermPlace, run: &[u32]) -> bool
+    requires { ⌜ NoneReached (now tags) (now values) (now memo) × (allBefore (x .0) (now run) ≡ true) ⌝ }
+    ensures { λ r. ⌜ Reached (now (tags .entry)) (now (values .entry)) (now (memo .exit)) r (emptyOrs (normalsOf (formAt (now (tags .entry)) (now (values .entry))) (now (run .entry)))) ⌝ }
+{
+    if run.len() == 0 {
+        return false;
+    }
+    let u = run[0];
+    if from_term(tags, values, memo, TermPlace(u)) {
+        return true;
+    }
+    from_run(tags, values, memo, x, &run[1..])
+}
+
+// Whether an empty `or` is reached from the term at x, through `and` and `or`.
+pub fn empty_or(tags: &[u32], values: &[u32], x: TermPlace) -> bool
+    requires { ⌜ length (now tags) ≤ 8192 ⌝ }
+    ensures { λ r. ⌜ r ≡ emptyOr (formAt (now (tags .entry)) (now (values .entry)) (x .0)) ⌝ }
+{
+    let mut memo = [0u8; 8192];
+    from_term(tags, values, &mut memo, x)
+}

@@ -1,0 +1,177 @@
+// The totals of a clause list, cut at 8,193: more than 01 allows of clauses or literals, so that 32 is told exactly.
+// A memo keeps the totals of the places that are counted, so that each term that x reaches is counted once however terms are
+// shared: the clauses in `counts`, the literals in `sizes`. A size stands there one up: 0 is a place that is not counted.
+use formulas::view::NormalView;
+use formulas::view::normal_view;
+use pool::TermPlace;
+use pool::run::cell;
+use pool::run::operands;
+ghost use Prim.Native.Nat.{_+_, _*_, _≤_, _<_, min};
+ghost use mathlib.Core.Path.{_≡_};
+ghost use lib.ListN.{length, getD};
+ghost use Rattle.formulas.specs.Totals.{oneLiteral, combine, cap, startOf};
+ghost use Rattle.clauses.specs.ClauseWalk.{asTotals, memoAt, runTotals, AllCounted, Memo, TotalsNoted, TermCounted, AskOperands, OperandsCounted};
+
+// The clauses and the literals of a list.
+pub struct Totals {
+    pub clauses: u32,
+    pub literals: u32,
+}
+
+fn capped(n: u64) -> u32
+    ensures { λ r. ⌜ r ≡ min 8193 n ⌝ }
+{
+    if n <= 8192 { n as u32 } else { 8193 }
+}
+
+fn capped_sum(a: u32, b: u32) -> u32
+    ensures { λ r. ⌜ r ≡ min 8193 (a + b) ⌝ }
+{
+    capped(a as u64 + b as u64)
+}
+
+fn wide_product(a: u32, b: u32) -> u64
+    ensures { λ r. ⌜ r ≡ a * b ⌝ }
+{
+    a as u64 * b as u64
+}
+
+// A product with a factor 0 is 0, however large the other: the cut comes after it.
+fn capped_product(a: u32, b: u32) -> u32
+    ensures { λ r. ⌜ r ≡ min 8193 (a * b) ⌝ }
+{
+    capped(wide_product(a, b))
+}
+
+// The totals of no clause for an `and` (`all`), of the empty clause for an `or`.
+fn start(all: bool) -> Totals
+    ensures { λ r. ⌜ asTotals r ≡ cap 8193 (startOf all) ⌝ }
+{
+    if all {
+        return Totals {
+            clauses: 0,
+            literals: 0,
+        };
+    }
+    Totals {
+        clauses: 1,
+        literals: 0,
+    }
+}
+
+// The totals of one clause with one literal.
+fn one_literal() -> Totals
+    ensures { λ r. ⌜ asTotals r ≡ oneLiteral ⌝ }
+{
+    Totals {
+        clauses: 1,
+        literals: 1,
+    }
+}
+
+// The totals of two lists under an `and`, which joins them, or an `or`, which takes their product.
+fn combine(all: bool, t: Totals, u: Totals) -> Totals
+    ensures { λ r. ⌜ asTotals r ≡ cap 8193 (combine all (asTotals t) (asTotals u)) ⌝ }
+{
+    if all {
+        return Totals {
+            clauses: capped_sum(t.clauses, u.clauses),
+            literals: capped_sum(t.literals, u.literals),
+        };
+    }
+    Totals {
+        clauses: capped_product(t.clauses, u.clauses),
+        literals: capped_sum(
+            capped_product(t.literals, u.clauses),
+            capped_product(u.literals, t.clauses),
+        ),
+    }
+}
+
+// The memo's totals of the place u, which is counted.
+fn noted(counts: &[u32], sizes: &[u32], u: u32) -> Totals
+    requires { ⌜ 0 < getD (now sizes) u 0 ⌝ }
+    ensures { λ r. ⌜ asTotals r ≡ memoAt (now (counts .entry)) (now (sizes .entry)) u ⌝ }
+{
+    let at = u as usize;
+    Totals {
+        clauses: cell(counts, at),
+        literals: cell(sizes, at) - 1,
+    }
+}
+
+// Notes the totals t of the term at x, and hands them back. Past the memo's end nothing is noted.
+fn note(counts: &mut [u32], sizes: &mut [u32], x: TermPlace, t: Totals) -> Totals
+    requires { ⌜ (t .literals ≤ 8193) × (length (now counts) ≡ length (now sizes)) ⌝ }
+    ensures { λ r. ⌜ TotalsNoted (now (counts .entry)) (now (sizes .entry)) (x .0) t (now (counts .exit)) (now (sizes .exit)) r ⌝ }
+{
+    let at = x.0 as usize;
+    if at < sizes.len() {
+        counts[at] = t.clauses;
+        sizes[at] = t.literals + 1;
+        return t;
+    }
+    t
+}
+
+// The totals of a run whose places are counted, from the last operand to the first.
+fn run_totals(all: bool, counts: &[u32], sizes: &[u32], run: &[u32]) -> Totals
+    requires { ⌜ AllCounted (now sizes) (now run) ⌝ }
+    ensures { λ r. ⌜ asTotals r ≡ runTotals all (memoAt (now (counts .entry)) (now (sizes .entry))) (now (run .entry)) ⌝ }
+{
+    let mut sum = start(all);
+    let mut i = run.len();
+    while 0 < i {
+        i -= 1;
+        sum = combine(all, noted(counts, sizes, run[i]), sum);
+    }
+    sum
+}
+
+// The totals of the clause list of the term at x, which is then counted: the term walker.
+pub fn list_totals(
+    tags: &[u32],
+    values: &[u32],
+    counts: &mut [u32],
+    sizes: &mut [u32],
+    x: TermPlace,
+) -> Totals
+    requires { ⌜ Memo (now tags) (now values) (now counts) (now sizes) ⌝ }
+    ensures { λ r. ⌜ TermCounted (now (tags .entry)) (now (values .entry)) (x .0) (now (sizes .entry)) (now (counts .exit)) (now (sizes .exit)) r ⌝ }
+{
+    let at = x.0 as usize;
+    if cell(sizes, at) != 0 {
+        return noted(counts, sizes, x.0);
+    }
+    let view = normal_view(tags, values, x);
+    match view {
+        NormalView::Literal => note(counts, sizes, x, one_literal()),
+        NormalView::Forall(_) => note(counts, sizes, x, one_literal()),
+        NormalView::Connective(all) => {
+            let run = operands(tags, values, x);
+            count_operands(tags, values, counts, sizes, x, run);
+            let t = run_totals(all, counts, sizes, run);
+            note(counts, sizes, x, t)
+        }
+    }
+}
+
+// Counts the terms of a run, which stand before x: the run walker.
+fn count_operands(
+    tags: &[u32],
+    values: &[u32],
+    counts: &mut [u32],
+    sizes: &mut [u32],
+    x: TermPlace,
+    run: &[u32],
+)
+    requires { ⌜ AskOperands (now tags) (now values) (now counts) (now sizes) (x .0) (now run) ⌝ }
+    ensures { λ _. ⌜ OperandsCounted (now (tags .entry)) (now (values .entry)) (now (run .entry)) (now (sizes .entry)) (now (counts .exit)) (now (sizes .exit)) ⌝ }
+{
+    if run.len() == 0 {
+        return;
+    }
+    let u = run[0];
+    list_totals(tags, values, counts, sizes, TermPlace(u));
+    count_operands(tags, values, counts, sizes, x, &run[1..])
+}

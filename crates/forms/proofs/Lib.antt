@@ -1,4 +1,0 @@
-pub mod Laws
-pub mod Passes
-pub mod Trees
-pub mod Back

@@ -1,0 +1,27 @@
+use Rattle.formulas.proofs.matching.Laws.{ones}
+use borrow.Author.Needs.{needs}
+use Rattle.formulas.proofs.matching.one_operand.Statement.{statement}
+use Rattle.formulas.proofs.matching.one_operand.Tie as tie
+
+cell-requires : tie.Need-cell-requires
+cell-requires c κs = search needs
+
+returns : tie.Need-returns
+returns c = search ones
+
+operands-requires : tie.Need-operands-requires
+operands-requires c κs = search needs
+
+returns-2 : tie.Need-returns-2
+returns-2 c = search ones
+
+shared-slice-read-t6 : tie.Need-shared-slice-read-t6
+shared-slice-read-t6 c = search needs
+
+returns-3 : tie.Need-returns-3
+returns-3 c = search ones
+
+pub one-operand-spec : {M : Type 1} → statement M
+one-operand-spec =
+    tie.close
+    (tie.spec cell-requires returns operands-requires returns-2 shared-slice-read-t6 returns-3)

@@ -1,0 +1,37 @@
+use Rattle.formulas.proofs.matching.Laws.{twos}
+use borrow.Author.Needs.{needs}
+use Rattle.formulas.proofs.matching.two_operands.Statement.{statement}
+use Rattle.formulas.proofs.matching.two_operands.Tie as tie
+
+cell-requires : tie.Need-cell-requires
+cell-requires c κs = search needs
+
+returns : tie.Need-returns
+returns c = search twos
+
+operands-requires : tie.Need-operands-requires
+operands-requires c κs = search needs
+
+returns-2 : tie.Need-returns-2
+returns-2 c = search twos
+
+shared-slice-read-t6 : tie.Need-shared-slice-read-t6
+shared-slice-read-t6 c = search needs
+
+shared-slice-read-t12 : tie.Need-shared-slice-read-t12
+shared-slice-read-t12 c = search needs
+
+returns-3 : tie.Need-returns-3
+returns-3 c = search twos
+
+pub two-operands-spec : {M : Type 1} → statement M
+two-operands-spec =
+    tie.close
+    (tie.spec
+    cell-requires
+    returns
+    operands-requires
+    returns-2
+    shared-slice-read-t6
+    shared-slice-read-t12
+    returns-3)

@@ -1,2 +1,0 @@
-pub mod Mask
-pub mod MaskWalk

@@ -1,2 +1,0 @@
-pub mod Free
-pub mod FreeMemo

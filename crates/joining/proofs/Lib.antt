@@ -1,2 +1,0 @@
-pub mod QntJoin
-pub mod sound

@@ -1,3 +1,0 @@
-pub mod QntJoin
-pub mod JoinAlong
-pub mod Cases

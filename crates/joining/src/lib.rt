@@ -1,2 +1,0 @@
-// Rule 1: joining of quantifiers.
-pub mod qnt_join;

@@ -1,0 +1,4 @@
+pub mod patterns
+pub mod truth
+pub mod places
+pub mod trees

@@ -1,0 +1,10 @@
+pub mod ClauseCases
+pub mod ClauseTruth
+pub mod Coincide
+pub mod Leaves
+pub mod NormalTruth
+pub mod Numbered
+pub mod OneValue
+pub mod Over
+pub mod Structures
+pub mod TruthAlong

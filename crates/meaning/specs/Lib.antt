@@ -1,0 +1,13 @@
+pub mod ClauseCases
+pub mod Numbered
+pub mod Skeleton
+pub mod Truth
+pub mod TruthCases
+pub mod Values
+pub mod FreeTree
+pub mod FreeWithoutLetValues
+pub mod Lets
+pub mod Sort
+pub mod SortTree
+pub mod Term
+pub mod Tree

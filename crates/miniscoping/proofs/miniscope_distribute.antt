@@ -1,2 +1,0 @@
--- The laws of `miniscope_distribute`.
-pub mod Laws

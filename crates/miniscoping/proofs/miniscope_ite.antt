@@ -1,2 +1,0 @@
--- The laws of `miniscope_ite`.
-pub mod Laws

@@ -1,2 +1,0 @@
--- The laws of `miniscope_split`.
-pub mod Laws

@@ -1,2 +1,0 @@
--- The laws of `sides`.
-pub mod Laws

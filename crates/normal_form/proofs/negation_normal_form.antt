@@ -1,0 +1,4 @@
+pub mod Forms
+pub mod Laws
+pub mod Steps
+pub mod Whole

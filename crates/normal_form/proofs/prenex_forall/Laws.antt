@@ -1,0 +1,94 @@
+-- Laws of the walkers that build the taken-out form: a term by how it is read, and the whole walk.
+-- Assumes nothing.
+use Prim.Native.Nat.{ℕ, _<_}
+use mathlib.Core.Path.{_≡_, refl, sym, _∙_}
+use mathlib.Core.Bool.{Bool, true}
+use mathlib.Core.List.{List, [], _∷_}
+use lib.ListN.{getD, take}
+use lib.Dec.{ltb, eqb}
+use native.Mathlib.Omega.{arith}
+use borrow.Author.Tests.{ltb-true, lt-ltb}
+use Rattle.cells.specs.ByPlace.{by-test}
+use Rattle.cells.specs.Cell.{operandsOf}
+use Rattle.formulas.specs.declared.view.NormalView.{NormalView}
+use Rattle.formulas.specs.declared.view.NormalView.the-variants.{Literal, Connective, Forall}
+use Rattle.building.specs.declared.build.Built.{Built}
+use Rattle.building.specs.declared.build.Built.the-variants.{At, Full}
+use Rattle.formulas.specs.Formula.{allBefore}
+use Rattle.formulas.specs.Normal.{Normal, lit, nmany, prenex, prenexes}
+use Rattle.formulas.specs.Built.{put, tagOfMany, intern, normalsOf, normalView, takenOut}
+use Rattle.building.specs.Arrays.{poolOf}
+use Rattle.building.specs.Walk.{Puts, placesIn, taken-out, formOf, runOf, entryForm, Ready, Formed, Known, operandForms, OperandsKnown, Before, NormalBuilt}
+use Rattle.clauses.proofs.Reading.{before-at, read-literal, read-forall, read-connective, run-before}
+use Rattle.building.proofs.build.Building.{builds-stood}
+use Rattle.building.proofs.build.Walks.{connective-full, connective-put, whole-built}
+
+-- the body of a forall stands before it
+pub body-before : (tags values : List ℕ) (x body : ℕ) → Forall body ≡ normalView tags values x → body < x
+unfolding normalView
+body-before tags values x body e =
+    by-test (eqb (getD tags x 0) 23)
+    (λ q. by-test (ltb (getD (operandsOf tags values x) 0 0) x)
+    (λ l. let z : body ≡ getD (operandsOf tags values x) 0 0 = let y = rw (q, l) at e in cc in rw z (ltb-true _ _ l))
+    (λ l. absurd (other Literal (rw (q, l) at e) refl)))
+    (λ q. by-test (allBefore x (operandsOf tags values x))
+    (λ l. by-test (eqb (getD tags x 0) 36)
+    (λ k. absurd (connected true (rw (q, l, k) at e)))
+    (λ k. by-test (eqb (getD tags x 0) 37)
+    (λ m. absurd (connected _ (rw (q, l, k, m) at e)))
+    (λ m. absurd (other Literal (rw (q, l, k, m) at e) refl))))
+    (λ l. absurd (other Literal (rw (q, l) at e) refl)))
+  where
+    other : (v : NormalView) → Forall body ≡ v → v ≡ Literal → ⊥
+    other v e f = let z : _≡_ {A = ℕ} 0 1 = cc in omega arith
+
+    connected : (b : Bool) → Forall body ≡ Connective b → ⊥
+    connected b e = let z : _≡_ {A = ℕ} 0 1 = cc in omega arith
+
+prenexes-are : (f : ℕ → Normal (List ℕ) ℕ) (us : List ℕ) → prenexes (normalsOf f us) ≡ normalsOf (λ u. prenex (f u)) us
+prenexes-are f [] = refl
+prenexes-are f (u ∷ us) = rw (prenexes-are f us)
+
+-- ---- take_out
+module _ (lim n : ℕ) (tags values memo : List ℕ) (ready : Ready taken-out lim n tags values memo) (x : ℕ) (within : x < lim) (v : NormalView)
+    (is : v ≡ normalView (take lim tags) (take lim values) x) where
+  pub take-literal : v ≡ Literal → Formed taken-out lim n tags values memo (formOf taken-out lim tags values x true) (At x n) tags values memo
+  unfolding formOf intern
+  take-literal e =
+      rw (read-literal (take lim tags) (take lim values) x v is e)
+      (builds-stood (entryForm taken-out lim tags values) lim n tags values memo (ready .state) (ready .right) (lit true x) x
+      (omega (arith, ready .state .source)) refl)
+
+  pub forall-below : (body : ℕ) → v ≡ Forall body → body < x
+  forall-below body e = body-before (take lim tags) (take lim values) x body (sym e ∙ is)
+
+  pub take-forall : (body : ℕ) → v ≡ Forall body → (r : Built) (tags₁ values₁ memo₁ : List ℕ) → Known taken-out lim n tags values memo body true r tags₁ values₁ memo₁
+      → Formed taken-out lim n tags values memo (formOf taken-out lim tags values x true) r tags₁ values₁ memo₁
+  unfolding formOf
+  take-forall body e r tags₁ values₁ memo₁ j =
+      rw (read-forall (take lim tags) (take lim values) x v is body e, lt-ltb body x (forall-below body e)) (j .formed)
+
+  module _ (b : Bool) (e : v ≡ Connective b) where
+    pub connective-before : Before lim tags values x
+    connective-before = record { operand = before-at x (runOf lim tags values x) (run-before (take lim tags) (take lim values) x v is b e) }
+
+    connective-is : formOf taken-out lim tags values x true ≡ nmany b (operandForms taken-out lim tags values x true 0)
+    unfolding formOf
+    connective-is = rw (read-connective (take lim tags) (take lim values) x v is b e, prenexes-are)
+
+    module _ (r₁ : Built) (tags₁ values₁ memo₁ : List ℕ) (j : OperandsKnown taken-out lim n tags values memo x true 0 r₁ tags₁ values₁ memo₁) where
+      pub take-full : r₁ ≡ Full → Formed taken-out lim n tags values memo (formOf taken-out lim tags values x true) Full tags₁ values₁ memo₁
+      take-full = connective-full taken-out lim n tags values memo x true b connective-is r₁ tags₁ values₁ memo₁ j
+
+      pub take-put : (p m : ℕ) → r₁ ≡ At p m → (r₂ : Built) (tags₂ values₂ : List ℕ)
+          → Puts m tags₁ values₁ (put (poolOf tags₁ values₁ m) (tagOfMany b) (0 ∷ placesIn memo₁ true (runOf lim tags₁ values₁ x))) r₂ tags₂ values₂
+          → Formed taken-out lim n tags values memo (formOf taken-out lim tags values x true) r₂ tags₂ values₂ memo₁
+      take-put = connective-put taken-out lim n tags values memo x true b connective-is r₁ tags₁ values₁ memo₁ j
+
+pub ruleset takes = (take-literal, take-forall, take-full, take-put)
+
+-- ---- the whole
+pub taken-built : (n : ℕ) (tags values memo : List ℕ) (x : ℕ) (r : Built) (tags′ values′ memo′ : List ℕ)
+    → Known taken-out n n tags values memo x true r tags′ values′ memo′ → NormalBuilt n tags values (takenOut (poolOf tags values n) x) r tags′ values′
+unfolding takenOut formOf
+taken-built n tags values memo x = whole-built taken-out n tags values memo x true

@@ -1,0 +1,90 @@
+use borrow.Author.Needs.{needs}
+use Rattle.quantifier_rules.proofs.miniscope_distribute.Laws.{distributedFrom, all}
+use mathlib.Core.Path.{_≡_}
+use Prim.Native.Nat.{_-_}
+use lib.ListN.{length}
+use Rattle.quantifier_rules.specs.SidesAnswer.{sidesAt}
+use Rattle.quantifier_rules.specs.MiniscopeDistribute.{distributedAll}
+use Rattle.quantifier_rules.proofs.miniscope_distribute.distributed_all.Statement.{statement}
+use Rattle.quantifier_rules.proofs.miniscope_distribute.distributed_all.Tie as tie
+
+abbrev Inv-loop : tie.InvT-loop
+Inv-loop tags values s from to i₀ i = distributedAll tags values (sidesAt tags values s) from to ≡ distributedFrom tags values (sidesAt tags values s) from to i
+
+abbrev μ-loop : tie.MeasureT-loop
+μ-loop tags values s from to i₀ i = length from - i
+
+loop-holds : tie.Need-loop-holds Inv-loop μ-loop
+loop-holds c = search all
+
+accept-requires : tie.Need-accept-requires Inv-loop μ-loop
+accept-requires c κs = search needs
+
+returns : tie.Need-returns Inv-loop μ-loop
+returns c = search all
+
+mul-distributed : tie.Need-mul-distributed Inv-loop μ-loop
+mul-distributed c = search needs
+
+shared-slice-read-distributed : tie.Need-shared-slice-read-distributed Inv-loop μ-loop
+shared-slice-read-distributed c = search needs
+
+mul-distributed-2 : tie.Need-mul-distributed-2 Inv-loop μ-loop
+mul-distributed-2 c = search needs
+
+shared-slice-read-distributed-2 : tie.Need-shared-slice-read-distributed-2 Inv-loop μ-loop
+shared-slice-read-distributed-2 c = search needs
+
+distributed-requires : tie.Need-distributed-requires Inv-loop μ-loop
+distributed-requires c κs = search needs
+
+enum-known-k : tie.Need-enum-known-k Inv-loop μ-loop
+enum-known-k c = search needs
+
+refuse-requires : tie.Need-refuse-requires Inv-loop μ-loop
+refuse-requires c κs = search needs
+
+returns-2 : tie.Need-returns-2 Inv-loop μ-loop
+returns-2 c = search all
+
+enum-told : tie.Need-enum-told Inv-loop μ-loop
+enum-told c = search needs
+
+add-i : tie.Need-add-i Inv-loop μ-loop
+add-i c = search needs
+
+loop-less : tie.Need-loop-less Inv-loop μ-loop
+loop-less c = search needs
+
+loop-again : tie.Need-loop-again Inv-loop μ-loop
+loop-again c = search all
+
+accept-requires-2 : tie.Need-accept-requires-2 Inv-loop μ-loop
+accept-requires-2 c κs = search needs
+
+returns-3 : tie.Need-returns-3 Inv-loop μ-loop
+returns-3 c = search all
+
+pub distributed-all-spec : {M : Type 1} → statement M
+distributed-all-spec =
+    tie.close
+    (tie.spec
+    Inv-loop
+    μ-loop
+    loop-holds
+    accept-requires
+    returns
+    mul-distributed
+    shared-slice-read-distributed
+    mul-distributed-2
+    shared-slice-read-distributed-2
+    distributed-requires
+    enum-known-k
+    refuse-requires
+    returns-2
+    enum-told
+    add-i
+    loop-less
+    loop-again
+    accept-requires-2
+    returns-3)

@@ -1,0 +1,165 @@
+use Rattle.quantifier_rules.proofs.qnt_join.Laws.{join, join-inner, join-right, join-lists, join-passes}
+use Rattle.bindings.proofs.Outcomes.{answers}
+use borrow.Author.Needs.{needs}
+use Rattle.quantifier_rules.proofs.qnt_join.qnt_join.Statement.{statement}
+use Rattle.quantifier_rules.proofs.qnt_join.qnt_join.Tie as tie
+
+equality-at-requires : tie.Need-equality-at-requires
+equality-at-requires c κs = search needs
+
+enum-known-l : tie.Need-enum-known-l
+enum-known-l c = search needs
+
+enum-told : tie.Need-enum-told
+enum-told c = search needs
+
+refuse-requires : tie.Need-refuse-requires
+refuse-requires c κs = search needs
+
+returns : tie.Need-returns
+returns c = search join
+
+quantified-at-requires : tie.Need-quantified-at-requires
+quantified-at-requires c κs = search needs
+
+enum-known-kind : tie.Need-enum-known-kind
+enum-known-kind c = search needs
+
+enum-told-2 : tie.Need-enum-told-2
+enum-told-2 c = search needs
+
+refuse-requires-2 : tie.Need-refuse-requires-2
+refuse-requires-2 c κs = search needs
+
+returns-2 : tie.Need-returns-2
+returns-2 c = search join
+
+quantified-at-requires-2 : tie.Need-quantified-at-requires-2
+quantified-at-requires-2 c κs = search needs
+
+enum-known-inner-kind : tie.Need-enum-known-inner-kind
+enum-known-inner-kind c = search needs
+
+enum-told-3 : tie.Need-enum-told-3
+enum-told-3 c = search needs
+
+refuse-requires-3 : tie.Need-refuse-requires-3
+refuse-requires-3 c κs = search needs
+
+returns-3 : tie.Need-returns-3
+returns-3 c = search (answers, join-inner)
+
+quantified-at-requires-3 : tie.Need-quantified-at-requires-3
+quantified-at-requires-3 c κs = search needs
+
+enum-known-right-kind : tie.Need-enum-known-right-kind
+enum-known-right-kind c = search needs
+
+enum-told-4 : tie.Need-enum-told-4
+enum-told-4 c = search needs
+
+refuse-requires-4 : tie.Need-refuse-requires-4
+refuse-requires-4 c κs = search needs
+
+returns-4 : tie.Need-returns-4
+returns-4 c =
+    answers _ _ _ (c .refuse4 .ensures) (join-right _ _ _ _ (c .before .before .before .before .before .before .before .before .before .before .before .before .before .before .before .equality-at .ensures) _ _ (c .before .before .before .before .before .before .before .before .before .before .before .before .before .l .given .1) _ (c .before .before .before .before .before .before .before .before .before .before .before .quantified-at .ensures) _ _ (c .before .before .before .before .before .before .before .before .before .kind .given .1) _ (c .before .before .before .before .before .before .before .quantified-at2 .ensures) _ _ (c .before .before .before .before .before .inner-kind .given .1) _ (c .before .before .before .quantified-at3 .ensures) (c .before .enum-told4 .given .1))
+
+tag-of-requires : tie.Need-tag-of-requires
+tag-of-requires c κs = search needs
+
+tag-of-requires-2 : tie.Need-tag-of-requires-2
+tag-of-requires-2 c κs = search needs
+
+refuse-requires-5 : tie.Need-refuse-requires-5
+refuse-requires-5 c κs = search needs
+
+returns-5 : tie.Need-returns-5
+returns-5 c = search join
+
+tag-of-requires-3 : tie.Need-tag-of-requires-3
+tag-of-requires-3 c κs = search needs
+
+tag-of-requires-4 : tie.Need-tag-of-requires-4
+tag-of-requires-4 c κs = search needs
+
+refuse-requires-6 : tie.Need-refuse-requires-6
+refuse-requires-6 c κs = search needs
+
+returns-6 : tie.Need-returns-6
+returns-6 c = search join
+
+refuse-requires-7 : tie.Need-refuse-requires-7
+refuse-requires-7 c κs = search needs
+
+returns-7 : tie.Need-returns-7
+returns-7 c = search join
+
+bindings-requires : tie.Need-bindings-requires
+bindings-requires c κs = search needs
+
+bindings-requires-2 : tie.Need-bindings-requires-2
+bindings-requires-2 c κs = search needs
+
+bindings-requires-3 : tie.Need-bindings-requires-3
+bindings-requires-3 c κs = search needs
+
+same-joined-requires : tie.Need-same-joined-requires
+same-joined-requires c κs = search needs
+
+refuse-requires-8 : tie.Need-refuse-requires-8
+refuse-requires-8 c κs = search needs
+
+returns-8 : tie.Need-returns-8
+returns-8 c =
+    answers _ _ _ (c .refuse8 .ensures) (join-lists _ _ _ _ (c .before .before .before .before .before .before .before .before .before .before .before .before .before .before .before .before .before .before .before .before .before .before .before .before .equality-at .ensures) _ _ (c .before .before .before .before .before .before .before .before .before .before .before .before .before .before .before .before .before .before .before .before .before .before .l .given .1) _ (c .before .before .before .before .before .before .before .before .before .before .before .before .before .before .before .before .before .before .before .before .quantified-at .ensures) _ _ (c .before .before .before .before .before .before .before .before .before .before .before .before .before .before .before .before .before .before .kind .given .1) _ (c .before .before .before .before .before .before .before .before .before .before .before .before .before .before .before .before .quantified-at2 .ensures) _ _ (c .before .before .before .before .before .before .before .before .before .before .before .before .before .before .inner-kind .given .1) _ (c .before .before .before .before .before .before .before .before .before .before .before .before .quantified-at3 .ensures) _ _ (c .before .before .before .before .before .before .before .before .before .before .right-kind .given .1) (c .before .before .before .before .before .before .before .before .if1 .left) (c .before .before .before .before .before .before .before .if2 .left) (c .before .before .before .before .before .before .if3 .left) _ _ _ _ (c .before .before .same-joined .ensures) (c .before .before .before .before .before .bindings .ensures) (c .before .before .before .before .bindings2 .ensures) (c .before .before .before .bindings3 .ensures) (c .before .if4 .taken))
+
+accept-requires : tie.Need-accept-requires
+accept-requires c κs = search needs
+
+returns-9 : tie.Need-returns-9
+returns-9 c =
+    answers _ _ _ (c .accept .ensures) (join-passes _ _ _ _ (c .before .before .before .before .before .before .before .before .before .before .before .before .before .before .before .before .before .before .before .before .before .before .before .before .equality-at .ensures) _ _ (c .before .before .before .before .before .before .before .before .before .before .before .before .before .before .before .before .before .before .before .before .before .before .l .given .1) _ (c .before .before .before .before .before .before .before .before .before .before .before .before .before .before .before .before .before .before .before .before .quantified-at .ensures) _ _ (c .before .before .before .before .before .before .before .before .before .before .before .before .before .before .before .before .before .before .kind .given .1) _ (c .before .before .before .before .before .before .before .before .before .before .before .before .before .before .before .before .quantified-at2 .ensures) _ _ (c .before .before .before .before .before .before .before .before .before .before .before .before .before .before .inner-kind .given .1) _ (c .before .before .before .before .before .before .before .before .before .before .before .before .quantified-at3 .ensures) _ _ (c .before .before .before .before .before .before .before .before .before .before .right-kind .given .1) (c .before .before .before .before .before .before .before .before .if1 .left) (c .before .before .before .before .before .before .before .if2 .left) (c .before .before .before .before .before .before .if3 .left) _ _ _ _ (c .before .before .same-joined .ensures) (c .before .before .before .before .before .bindings .ensures) (c .before .before .before .before .bindings2 .ensures) (c .before .before .before .bindings3 .ensures) (c .before .if4 .left))
+
+pub qnt-join-spec : {M : Type 1} → statement M
+qnt-join-spec =
+    tie.close
+    (tie.spec
+    equality-at-requires
+    enum-known-l
+    enum-told
+    refuse-requires
+    returns
+    quantified-at-requires
+    enum-known-kind
+    enum-told-2
+    refuse-requires-2
+    returns-2
+    quantified-at-requires-2
+    enum-known-inner-kind
+    enum-told-3
+    refuse-requires-3
+    returns-3
+    quantified-at-requires-3
+    enum-known-right-kind
+    enum-told-4
+    refuse-requires-4
+    returns-4
+    tag-of-requires
+    tag-of-requires-2
+    refuse-requires-5
+    returns-5
+    tag-of-requires-3
+    tag-of-requires-4
+    refuse-requires-6
+    returns-6
+    refuse-requires-7
+    returns-7
+    bindings-requires
+    bindings-requires-2
+    bindings-requires-3
+    same-joined-requires
+    refuse-requires-8
+    returns-8
+    accept-requires
+    returns-9)

@@ -1,0 +1,105 @@
+use Rattle.quantifier_rules.proofs.qnt_rm_unused.Laws.{right-side}
+use borrow.Author.Needs.{needs}
+use Rattle.quantifier_rules.proofs.qnt_rm_unused.removes.Statement.{statement}
+use Rattle.quantifier_rules.proofs.qnt_rm_unused.removes.Tie as tie
+
+quantified-at-requires : tie.Need-quantified-at-requires
+quantified-at-requires c κs = search needs
+
+enum-known-right-kind : tie.Need-enum-known-right-kind
+enum-known-right-kind c = search needs
+
+enum-told : tie.Need-enum-told
+enum-told c = search needs
+
+refuse-requires : tie.Need-refuse-requires
+refuse-requires c κs = search needs
+
+returns : tie.Need-returns
+returns c = search right-side
+
+tag-of-requires : tie.Need-tag-of-requires
+tag-of-requires c κs = search needs
+
+tag-of-requires-2 : tie.Need-tag-of-requires-2
+tag-of-requires-2 c κs = search needs
+
+refuse-requires-2 : tie.Need-refuse-requires-2
+refuse-requires-2 c κs = search needs
+
+returns-2 : tie.Need-returns-2
+returns-2 c = search right-side
+
+refuse-requires-3 : tie.Need-refuse-requires-3
+refuse-requires-3 c κs = search needs
+
+returns-3 : tie.Need-returns-3
+returns-3 c = search right-side
+
+bindings-requires : tie.Need-bindings-requires
+bindings-requires c κs = search needs
+
+first-new-requires : tie.Need-first-new-requires
+first-new-requires c κs = search needs
+
+enum-known-name : tie.Need-enum-known-name
+enum-known-name c = search needs
+
+refuse-requires-4 : tie.Need-refuse-requires-4
+refuse-requires-4 c κs = search needs
+
+returns-4 : tie.Need-returns-4
+returns-4 c = search right-side
+
+enum-told-2 : tie.Need-enum-told-2
+enum-told-2 c = search needs
+
+first-missing-requires : tie.Need-first-missing-requires
+first-missing-requires c κs = search needs
+
+enum-known-name-2 : tie.Need-enum-known-name-2
+enum-known-name-2 c = search needs
+
+refuse-requires-5 : tie.Need-refuse-requires-5
+refuse-requires-5 c κs = search needs
+
+returns-5 : tie.Need-returns-5
+returns-5 c = search right-side
+
+enum-told-3 : tie.Need-enum-told-3
+enum-told-3 c = search needs
+
+accept-requires : tie.Need-accept-requires
+accept-requires c κs = search needs
+
+returns-6 : tie.Need-returns-6
+returns-6 c = search right-side
+
+pub removes-spec : {M : Type 1} → statement M
+removes-spec =
+    tie.close
+    (tie.spec
+    quantified-at-requires
+    enum-known-right-kind
+    enum-told
+    refuse-requires
+    returns
+    tag-of-requires
+    tag-of-requires-2
+    refuse-requires-2
+    returns-2
+    refuse-requires-3
+    returns-3
+    bindings-requires
+    first-new-requires
+    enum-known-name
+    refuse-requires-4
+    returns-4
+    enum-told-2
+    first-missing-requires
+    enum-known-name-2
+    refuse-requires-5
+    returns-5
+    enum-told-3
+    accept-requires
+    returns-6)

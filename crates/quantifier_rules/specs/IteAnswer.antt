@@ -1,0 +1,39 @@
+-- What the answers of `miniscope_ite` say. Rests on Form, FormAnswer, MiniscopeDistribute and MiniscopeIte, and on the types of `miniscope_ite`.
+use Prim.Native.Nat.{ℕ}
+use mathlib.Core.Bool.{Bool, true, false}
+use mathlib.Core.List.{List}
+use mathlib.Core.Option.{Option, some, none}
+use lib.Dec.{eqb}
+use Rattle.bindings.specs.Binding.{bindingsOf}
+use Rattle.formulas.specs.Pattern.{Quantifier, quantifier, andThen}
+use Rattle.formulas.specs.PatternAnswer.{pairsOf}
+use Rattle.quantifier_rules.specs.MiniscopeDistribute.{ofKind}
+use Rattle.quantifier_rules.specs.MiniscopeIte.{IteSides}
+use Rattle.quantifier_rules.specs.declared.miniscope_ite.ItePlaces.{ItePlaces}
+use Rattle.quantifier_rules.specs.declared.miniscope_ite.IteMatched.{IteMatched}
+use Rattle.quantifier_rules.specs.declared.miniscope_ite.IteMatched.the-variants.{At, Nothing}
+
+-- a quantifier over the term at t
+abbrev pub isOver : ℕ → Option Quantifier → Bool
+isOver t (some q) = eqb t (q .body)
+isOver t none = false
+
+-- the term at u is a forall over the term at t
+unfoldable pub forallOver : List ℕ → List ℕ → ℕ → ℕ → Bool
+forallOver tags values t u = isOver t (andThen (quantifier tags values u) (ofKind true))
+
+-- the sides at these places
+unfoldable pub iteAt : List ℕ → List ℕ → ItePlaces → IteSides
+iteAt tags values p = record {
+  left = p .left;
+  list = bindingsOf (pairsOf tags values (p .left));
+  test = p .test;
+  yes-place = p .yes;
+  yes-list = bindingsOf (pairsOf tags values (p .yes));
+  no-place = p .no;
+  no-list = bindingsOf (pairsOf tags values (p .no));
+}
+
+unfoldable pub iteIn : List ℕ → List ℕ → IteMatched → Option IteSides
+iteIn tags values (At p) = some (iteAt tags values p)
+iteIn tags values Nothing = none

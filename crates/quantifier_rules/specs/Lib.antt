@@ -1,0 +1,10 @@
+pub mod JoinCases
+pub mod JoinAlong
+pub mod QntJoin
+pub mod IteAnswer
+pub mod LeftFits
+pub mod MiniscopeDistribute
+pub mod MiniscopeIte
+pub mod MiniscopeSplit
+pub mod SidesAnswer
+pub mod QntRmUnused

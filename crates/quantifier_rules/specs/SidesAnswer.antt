@@ -1,0 +1,26 @@
+-- What the answers of `sides` say. Rests on Form, FormAnswer and MiniscopeDistribute, and on the types of `sides`.
+use Prim.Native.Nat.{ℕ}
+use mathlib.Core.List.{List}
+use mathlib.Core.Option.{Option, some, none}
+use Rattle.cells.specs.Cell.{operandsOf}
+use Rattle.bindings.specs.Binding.{bindingsOf}
+use Rattle.formulas.specs.PatternAnswer.{pairsOf}
+use Rattle.quantifier_rules.specs.MiniscopeDistribute.{Sides}
+use Rattle.quantifier_rules.specs.declared.sides.Places.{Places}
+use Rattle.quantifier_rules.specs.declared.sides.Matched.{Matched}
+use Rattle.quantifier_rules.specs.declared.sides.Matched.the-variants.{At, Nothing}
+
+-- the sides at these places
+unfoldable pub sidesAt : List ℕ → List ℕ → Places → Sides
+sidesAt tags values p = record {
+  kind = p .kind;
+  left = p .left;
+  right = p .right;
+  list = bindingsOf (pairsOf tags values (p .left));
+  from = operandsOf tags values (p .body);
+  to = operandsOf tags values (p .right);
+}
+
+unfoldable pub sidesIn : List ℕ → List ℕ → Matched → Option Sides
+sidesIn tags values (At p) = some (sidesAt tags values p)
+sidesIn tags values Nothing = none

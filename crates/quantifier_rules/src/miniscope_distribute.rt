@@ -1,0 +1,71 @@
+// Rule 4, `miniscope_distribute`: 2, 11, then by operand 2, 6, 5.
+use crate::sides::Matched;
+use crate::sides::Places;
+use crate::sides::either_sides;
+use crate::sides::of_kind;
+use crate::sides::operand_count;
+use formulas::matching::Quantified;
+use formulas::matching::bindings;
+use pool::Answer;
+use pool::TermPlace;
+use pool::checked::Checked;
+use pool::list_comparison::same_lists;
+use pool::outcome::accept;
+use pool::outcome::refuse;
+use pool::run::operands;
+ghost use mathlib.Core.Path.{_≡_};
+ghost use Rattle.answers.specs.Outcome.{answerOf};
+ghost use Rattle.answers.specs.Checked.{outcomeOf};
+ghost use Rattle.quantifier_rules.specs.SidesAnswer.{sidesAt};
+ghost use Rattle.quantifier_rules.specs.MiniscopeDistribute.{distributed, distributedAll, miniscopeDistribute};
+
+// Whether the right operand at u is the left quantifier over the left operand at t.
+fn distributed(tags: &[u32], values: &[u32], s: Places, t: u32, u: u32) -> Checked
+    ensures { λ r. ⌜ distributed (now (tags .entry)) (now (values .entry)) (sidesAt (now (tags .entry)) (now (values .entry)) s) t u ≡ outcomeOf r tt ⌝ }
+{
+    let left = s.left;
+    let Quantified::Is(_, body) = of_kind(tags, values, s.kind, u) else {
+        return Checked::Refuses(2, u, 0);
+    };
+    if !same_lists(bindings(tags, values, left), bindings(tags, values, u)) {
+        return Checked::Refuses(6, left, u);
+    }
+    if t != body {
+        return Checked::Refuses(5, t, body);
+    }
+    Checked::Passes
+}
+
+// The operands one after another, as long as both lists go on.
+fn distributed_all(tags: &[u32], values: &[u32], s: Places, from: &[u32], to: &[u32]) -> Answer
+    ensures { λ r. ⌜ r ≡ answerOf (distributedAll (now (tags .entry)) (now (values .entry)) (sidesAt (now (tags .entry)) (now (values .entry)) s) (now (from .entry)) (now (to .entry))) ⌝ }
+{
+    let mut i: usize = 0;
+    while i < from.len() {
+        if to.len() <= i {
+            return accept();
+        }
+        if let Checked::Refuses(k, m, n) = distributed(tags, values, s, from[i], to[i]) {
+            return refuse(k, m, n);
+        }
+        i += 1;
+    }
+    accept()
+}
+
+// Rule 4: the conclusion at x.
+pub fn miniscope_distribute(tags: &[u32], values: &[u32], x: TermPlace) -> Answer
+    ensures { λ r. ⌜ r ≡ answerOf (miniscopeDistribute (now (tags .entry)) (now (values .entry)) (x .0)) ⌝ }
+{
+    let Matched::At(s) = either_sides(tags, values, 36, 37, x.0) else {
+        return refuse(2, x.0, 0);
+    };
+    let from_count = operand_count(tags, values, s.body);
+    let to_count = operand_count(tags, values, s.right);
+    if from_count != to_count {
+        return refuse(11, from_count, to_count);
+    }
+    let from = operands(tags, values, TermPlace(s.body));
+    let to = operands(tags, values, TermPlace(s.right));
+    distributed_all(tags, values, s, from, to)
+}

@@ -1,0 +1,85 @@
+// Rule 2, `qnt_rm_unused`.
+use formulas::matching::Quantified;
+use formulas::matching::Two;
+use formulas::matching::bindings;
+use formulas::matching::equality_at;
+use formulas::matching::quantified_at;
+use formulas::matching::tag_of;
+use pool::Answer;
+use pool::TermPlace;
+use pool::binding::FirstName;
+use pool::binding::first_new;
+use pool::free_lists::first_free;
+use pool::free_lists::first_missing;
+use pool::outcome::accept;
+use pool::outcome::refuse;
+ghost use mathlib.Core.Path.{_≡_};
+ghost use Rattle.answers.specs.Outcome.{answerOf};
+ghost use Rattle.bindings.specs.Binding.{bindingsOf};
+ghost use Rattle.formulas.specs.PatternAnswer.{withList};
+ghost use Rattle.quantifier_rules.specs.QntRmUnused.{removes, bodyOr, qntRmUnused};
+
+// The checks of the right side at x, the left quantifier given by its kind, list and body.
+fn removes(
+    tags: &[u32],
+    values: &[u32],
+    n: usize,
+    kind: bool,
+    left: &[u32],
+    body: u32,
+    x: u32,
+) -> Answer
+    ensures { λ r. ⌜ r ≡ answerOf (removes (now (tags .entry)) (now (values .entry)) n (withList kind (bindingsOf (now (left .entry))) body) x) ⌝ }
+{
+    let Quantified::Is(right_kind, right_body) = quantified_at(tags, values, x) else {
+        return refuse(3, x, 0);
+    };
+    if kind != right_kind {
+        return refuse(4, tag_of(kind), tag_of(right_kind));
+    }
+    if body != right_body {
+        return refuse(5, body, right_body);
+    }
+    let right = bindings(tags, values, x);
+    if let FirstName::Name(name) = first_new(right, left) {
+        return refuse(8, name, 0);
+    }
+    if let FirstName::Name(name) = first_missing(tags, values, n, body, left, right) {
+        return refuse(9, name, 0);
+    }
+    accept()
+}
+
+// Accepts the left body as right side if no left variable is free in it, else checks the right side at x.
+fn body_or(
+    tags: &[u32],
+    values: &[u32],
+    n: usize,
+    kind: bool,
+    left: &[u32],
+    body: u32,
+    x: u32,
+) -> Answer
+    ensures { λ r. ⌜ r ≡ answerOf (bodyOr (now (tags .entry)) (now (values .entry)) n (withList kind (bindingsOf (now (left .entry))) body) x) ⌝ }
+{
+    if body != x {
+        return removes(tags, values, n, kind, left, body, x);
+    }
+    if let FirstName::Name(_) = first_free(tags, values, n, body, left) {
+        return removes(tags, values, n, kind, left, body, x);
+    }
+    accept()
+}
+
+// The checks in 01's order.
+pub fn qnt_rm_unused(tags: &[u32], values: &[u32], n: usize, x: TermPlace) -> Answer
+    ensures { λ r. ⌜ r ≡ answerOf (qntRmUnused (now (tags .entry)) (now (values .entry)) n (x .0)) ⌝ }
+{
+    let Two::Are(l, r) = equality_at(tags, values, x.0) else {
+        return refuse(2, x.0, 0);
+    };
+    let Quantified::Is(kind, body) = quantified_at(tags, values, l) else {
+        return refuse(3, l, 0);
+    };
+    body_or(tags, values, n, kind, bindings(tags, values, l), body, r)
+}

@@ -1,4 +1,0 @@
-pub mod Outcome
-pub mod Binding
-pub mod BindingAnswer
-pub mod Checked

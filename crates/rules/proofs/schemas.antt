@@ -1,0 +1,10 @@
+pub mod Clause
+pub mod Cnf
+pub mod Distribute
+pub mod Ite
+pub mod Join
+pub mod Limits
+pub mod Lists
+pub mod RmUnused
+pub mod Split
+pub mod Taken

@@ -1,0 +1,3 @@
+pub mod ListRule
+pub mod SortRule
+pub mod Table

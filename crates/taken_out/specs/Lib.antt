@@ -1,2 +1,0 @@
-pub mod TakenList
-pub mod TakenSearch

@@ -1,1 +1,0 @@
-// Sorts and terms as trees: definitions and theorems alone.
