@@ -1,4 +1,5 @@
 // Binding lists of quantifiers, as runs of cells: pairs of name and sort. A last cell without its partner is no pair.
+use cells::SortPlace;
 ghost use mathlib.Core.Path.{_≡_};
 ghost use mathlib.Core.Bool.{not};
 ghost use Rattle.bindings.specs.Binding.{bindingsOf, same, has, firstOf};
@@ -11,22 +12,22 @@ pub enum FirstName {
 }
 
 // Whether two pairs are equal.
-pub fn same_pair(a: u32, a_sort: u32, b: u32, b_sort: u32) -> bool
-    ensures { λ r. ⌜ r ≡ same (pair a «a_sort») (pair b «b_sort») ⌝ }
+pub fn same_pair(a: u32, a_sort: SortPlace, b: u32, b_sort: SortPlace) -> bool
+    ensures { λ r. ⌜ r ≡ same (pair a («a_sort» .0)) (pair b («b_sort» .0)) ⌝ }
 {
     if a != b {
         return false;
     }
-    a_sort == b_sort
+    a_sort.0 == b_sort.0
 }
 
 // Whether a list has this pair.
-pub fn has(list: &[u32], name: u32, sort: u32) -> bool
-    ensures { λ r. ⌜ r ≡ has (bindingsOf (now (list .entry))) (pair name sort) ⌝ }
+pub fn has(list: &[u32], name: u32, sort: SortPlace) -> bool
+    ensures { λ r. ⌜ r ≡ has (bindingsOf (now (list .entry))) (pair name (sort .0)) ⌝ }
 {
     let mut i: usize = 0;
     while 2 <= list.len() - i {
-        if same_pair(list[i], list[i + 1], name, sort) {
+        if same_pair(list[i], SortPlace(list[i + 1]), name, sort) {
             return true;
         }
         i += 2;
@@ -35,8 +36,8 @@ pub fn has(list: &[u32], name: u32, sort: u32) -> bool
 }
 
 // Whether a list lacks this pair.
-fn lacks(list: &[u32], name: u32, sort: u32) -> bool
-    ensures { λ r. ⌜ r ≡ not (has (bindingsOf (now (list .entry))) (pair name sort)) ⌝ }
+fn lacks(list: &[u32], name: u32, sort: SortPlace) -> bool
+    ensures { λ r. ⌜ r ≡ not (has (bindingsOf (now (list .entry))) (pair name (sort .0))) ⌝ }
 {
     !has(list, name, sort)
 }
@@ -47,7 +48,7 @@ pub fn first_new(list: &[u32], other: &[u32]) -> FirstName
 {
     let mut i: usize = 0;
     while 2 <= list.len() - i {
-        if lacks(other, list[i], list[i + 1]) {
+        if lacks(other, list[i], SortPlace(list[i + 1])) {
             return FirstName::Name(list[i]);
         }
         i += 2;

@@ -1,5 +1,6 @@
 // Binding lists compared.
 use crate::binding::same_pair;
+use cells::SortPlace;
 ghost use mathlib.Core.Path.{_≡_};
 ghost use Rattle.bindings.specs.Binding.{bindingsOf, sameAll};
 
@@ -12,7 +13,7 @@ pub fn same_lists(a: &[u32], b: &[u32]) -> bool
         if b.len() - i < 2 {
             return false;
         }
-        if !same_pair(a[i], a[i + 1], b[i], b[i + 1]) {
+        if !same_pair(a[i], SortPlace(a[i + 1]), b[i], SortPlace(b[i + 1])) {
             return false;
         }
         i += 2;

@@ -20,7 +20,8 @@ use Rattle.cells.proofs.Walks.{first-here, first-below}
 use Rattle.descriptions.proofs.description.Fills.{Fills, filled, more, orElse, fills-grown}
 use Rattle.descriptions.proofs.description.Growth.{Same, find-grown}
 use Rattle.formulas.specs.Normal.{Normal, Normals, lit, nmany, nall, nnil, ncons}
-use Rattle.formulas.specs.Built.{Pool, Placed, PlacedAll, count, extend, placeAt, put, tagOfMany, tagOfQuantifier, intern, interns}
+use Rattle.formulas.specs.Built.{Pool, Placed, PlacedAll, count, extend, placeAt, put, intern, interns}
+use Rattle.formulas.specs.Formula.{quantifierTag, connectiveTag}
 use Rattle.building.specs.Walk.{Stands, StandAll}
 
 -- a pool whose headers with their cells fill it
@@ -182,9 +183,9 @@ mutual
   intern-becomes (lit true x) q = same
   intern-becomes (lit false x) q = put-becomes q 34 (0 ∷ x ∷ [])
   intern-becomes (nmany b ns) q =
-      becomes-trans q (interns ns q .pool) _ (interns-becomes ns q) (put-becomes (interns ns q .pool) (tagOfMany b) (0 ∷ interns ns q .places))
+      becomes-trans q (interns ns q .pool) _ (interns-becomes ns q) (put-becomes (interns ns q .pool) (connectiveTag b) (0 ∷ interns ns q .places))
   intern-becomes (nall b vs n) q =
-      becomes-trans q (intern n q .pool) _ (intern-becomes n q) (put-becomes (intern n q .pool) (tagOfQuantifier b) (0 ∷ intern n q .place ∷ vs))
+      becomes-trans q (intern n q .pool) _ (intern-becomes n q) (put-becomes (intern n q .pool) (quantifierTag b) (0 ∷ intern n q .place ∷ vs))
 
   pub interns-becomes : (fs : Normals (List ℕ) ℕ) (q : Pool) → Becomes q (interns fs q .pool)
   interns-becomes nnil q = same
@@ -210,10 +211,10 @@ mutual
   intern-goes-on (lit false x) q good = put-goes-on q 34 (0 ∷ x ∷ []) good
   intern-goes-on (nmany b ns) q good =
       let g = interns-goes-on ns q good in
-      goes-on q (interns ns q .pool) _ g (put-goes-on (interns ns q .pool) (tagOfMany b) (0 ∷ interns ns q .places) (g .good))
+      goes-on q (interns ns q .pool) _ g (put-goes-on (interns ns q .pool) (connectiveTag b) (0 ∷ interns ns q .places) (g .good))
   intern-goes-on (nall b vs n) q good =
       let g = intern-goes-on n q good in
-      goes-on q (intern n q .pool) _ g (put-goes-on (intern n q .pool) (tagOfQuantifier b) (0 ∷ intern n q .place ∷ vs) (g .good))
+      goes-on q (intern n q .pool) _ g (put-goes-on (intern n q .pool) (quantifierTag b) (0 ∷ intern n q .place ∷ vs) (g .good))
 
   pub interns-goes-on : (fs : Normals (List ℕ) ℕ) (q : Pool) → Good q → GoesOn q (interns fs q .pool)
   interns-goes-on nnil q good = record { good = good; grows = grows-refl q }
@@ -236,10 +237,10 @@ module _ (q q′ : Pool) (good : Good q) (good′ : Good q′) (g : Grows q q′
     stands-still (lit true x) p e = rw (ap (λ (o : Placed). o .place) e)
     stands-still (lit false x) p e = put-still q 34 (0 ∷ x ∷ []) p same e .1
     stands-still (nmany b ns) p e =
-        let (s, f) = put-still (interns ns q .pool) (tagOfMany b) (0 ∷ interns ns q .places) p (interns-becomes ns q) e in
+        let (s, f) = put-still (interns ns q .pool) (connectiveTag b) (0 ∷ interns ns q .places) p (interns-becomes ns q) e in
         rw (stand-still ns (interns ns q .places) (ap (λ (x : Pool). record { pool = x; places = interns ns q .places }) s)) f
     stands-still (nall b vs n) p e =
-        let (s, f) = put-still (intern n q .pool) (tagOfQuantifier b) (0 ∷ intern n q .place ∷ vs) p (intern-becomes n q) e in
+        let (s, f) = put-still (intern n q .pool) (quantifierTag b) (0 ∷ intern n q .place ∷ vs) p (intern-becomes n q) e in
         rw (stands-still n (intern n q .place) (ap (λ (x : Pool). record { pool = x; place = intern n q .place }) s)) f
 
     pub stand-still : (fs : Normals (List ℕ) ℕ) (ps : List ℕ) → StandAll q fs ps → StandAll q′ fs ps
@@ -264,15 +265,15 @@ mutual
   intern-stands (nmany b ns) q good =
       let r = interns ns q in
       let g = interns-goes-on ns q good in
-      let o = put-on (r .pool) (tagOfMany b) (0 ∷ r .places) (g .good) in
+      let o = put-on (r .pool) (connectiveTag b) (0 ∷ r .places) (g .good) in
       rw (stand-still (r .pool) _ (g .good) (o .good) (o .grows) ns (r .places) (interns-stand ns q good))
-      (put-found _ (tagOfMany b) (0 ∷ r .places) _ (o .found))
+      (put-found _ (connectiveTag b) (0 ∷ r .places) _ (o .found))
   intern-stands (nall b vs n) q good =
       let r = intern n q in
       let g = intern-goes-on n q good in
-      let o = put-on (r .pool) (tagOfQuantifier b) (0 ∷ r .place ∷ vs) (g .good) in
+      let o = put-on (r .pool) (quantifierTag b) (0 ∷ r .place ∷ vs) (g .good) in
       rw (stands-still (r .pool) _ (g .good) (o .good) (o .grows) n (r .place) (intern-stands n q good))
-      (put-found _ (tagOfQuantifier b) (0 ∷ r .place ∷ vs) _ (o .found))
+      (put-found _ (quantifierTag b) (0 ∷ r .place ∷ vs) _ (o .found))
 
   pub interns-stand : (fs : Normals (List ℕ) ℕ) (q : Pool) → Good q → StandAll (interns fs q .pool) fs (interns fs q .places)
   interns-stand nnil q good = refl

@@ -7,6 +7,8 @@ use mathlib.Core.Bool.{Bool, true, false, not, cond}
 use mathlib.Core.List.{List, map}
 use lib.ListN.{length, getD, take, drop}
 use lib.Dec.{ltb}
+use Rattle.cells.specs.Limits.{cellLimit}
+use Rattle.cells.specs.declared.TermPlace.{TermPlace}
 use Rattle.cells.specs.Cell.{operandsOf}
 use Rattle.descriptions.specs.Index.{Index}
 use Rattle.descriptions.proofs.description.Fills.{Fills}
@@ -21,7 +23,7 @@ use Rattle.building.specs.Arrays.{poolOf, fits}
 pub record State (lim n : ℕ) (tags values : List ℕ) : Type 0 where
   pub size : length tags ≡ length values
   pub within : n ≤ length tags
-  pub small : n ≤ 8192
+  pub small : n ≤ cellLimit
   pub fills : Fills values n 0
   pub source : lim ≤ n
 
@@ -42,7 +44,7 @@ pub record Holds (lim : ℕ) (o : Placed) (p m : ℕ) (tags values : List ℕ) :
 
 -- that, or no room for o in arrays of this size
 abbrev pub Outcome : ℕ → ℕ → Placed → Built → List ℕ → List ℕ → Type 0
-Outcome lim size o (At p m) tags values = Holds lim o p m tags values
+Outcome lim size o (At p m) tags values = Holds lim o (p .0) m tags values
 Outcome lim size o Full tags values = fits (o .pool) size ≡ false
 
 -- r is the answer of a call that puts o into tags and values, which leaves tags′ and values′
@@ -64,7 +66,7 @@ pub record Cells (cells : List ℕ) (k : ℕ) (row : List ℕ) : Type 0 where
 -- its index of a term and a polarity: the forms at true polarity come first
 unfoldable pub slotOf : ℕ → Bool → ℕ
 slotOf t true = t
-slotOf t false = 8192 + t
+slotOf t false = cellLimit + t
 
 -- where it has the forms of these terms
 abbrev pub placesIn : List ℕ → Bool → List ℕ → List ℕ
@@ -119,12 +121,12 @@ runOf lim tags values t = operandsOf (take lim tags) (take lim values) t
 
 -- the form of the memo's entry i
 unfoldable pub entryForm : Walk → ℕ → List ℕ → List ℕ → ℕ → Normal (List ℕ) ℕ
-entryForm w lim tags values i = cond (ltb i 8192) (formOf w lim tags values i true) (formOf w lim tags values (i - 8192) false)
+entryForm w lim tags values i = cond (ltb i cellLimit) (formOf w lim tags values i true) (formOf w lim tags values (i - cellLimit) false)
 
 -- how many entries a walk uses: a taken-out form is kept at true polarity alone
 abbrev pub roomFor : Walk → ℕ
-roomFor normal = 16384
-roomFor taken-out = 8192
+roomFor normal = cellLimit + cellLimit
+roomFor taken-out = cellLimit
 
 -- what the walkers start from
 pub record Ready (w : Walk) (lim n : ℕ) (tags values memo : List ℕ) : Type 0 where
@@ -140,7 +142,7 @@ Formed w lim n tags values memo f r tags′ values′ memo′ =
 -- the form of the term at t, which the memo then has
 pub record Known (w : Walk) (lim n : ℕ) (tags values memo : List ℕ) (t : ℕ) (polarity : Bool) (r : Built) (tags′ values′ memo′ : List ℕ) : Type 0 where
   pub formed : Formed w lim n tags values memo (formOf w lim tags values t polarity) r tags′ values′ memo′
-  pub known : (p m : ℕ) → r ≡ At p m → getD memo′ (slotOf t polarity) 0 ≡ suc p
+  pub known : (p : TermPlace) (m : ℕ) → r ≡ At p m → getD memo′ (slotOf t polarity) 0 ≡ suc (p .0)
 
 -- the forms of the operands of the term at t from i on, whose places the memo then has
 abbrev pub operandForms : Walk → ℕ → List ℕ → List ℕ → ℕ → Bool → ℕ → Normals (List ℕ) ℕ
@@ -149,7 +151,7 @@ operandForms w lim tags values t polarity i = normalsOf (λ u. formOf w lim tags
 pub record OperandsKnown (w : Walk) (lim n : ℕ) (tags values memo : List ℕ) (t : ℕ) (polarity : Bool) (i : ℕ) (r : Built) (tags′ values′ memo′ : List ℕ) : Type 0 where
   pub builds : Builds (entryForm w lim tags values) lim tags values memo
       (record { pool = interns (operandForms w lim tags values t polarity i) (poolOf tags values n) .pool; place = 0 }) r tags′ values′ memo′
-  pub places : (p m : ℕ) → r ≡ At p m
+  pub places : (p : TermPlace) (m : ℕ) → r ≡ At p m
       → interns (operandForms w lim tags values t polarity i) (poolOf tags values n) .places ≡ placesIn memo′ polarity (drop i (runOf lim tags values t))
 
 -- every operand of the term at t stands before it
@@ -169,5 +171,5 @@ twoPairs p f a b c q d = pair p (pair (not p) (f a (not p)) (f b p)) (pair (not 
 
 -- the form of a term, o, in arrays whose first n cells are a pool
 abbrev pub NormalBuilt : ℕ → List ℕ → List ℕ → Placed → Built → List ℕ → List ℕ → Type 0
-NormalBuilt n tags values o (At p m) tags′ values′ = Holds n o p m tags′ values′ × (fits (o .pool) (length tags) ≡ true)
+NormalBuilt n tags values o (At p m) tags′ values′ = Holds n o (p .0) m tags′ values′ × (fits (o .pool) (length tags) ≡ true)
 NormalBuilt n tags values o Full tags′ values′ = Left n tags values tags′ values′ × (fits (o .pool) (length tags) ≡ false)

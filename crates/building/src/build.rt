@@ -1,5 +1,7 @@
 // Putting terms into the pool.
+use pool::TermPlace;
 use pool::description::Added;
+use pool::index::INDEX;
 use pool::index::add;
 ghost use Rattle.formulas.specs.Built.{put};
 ghost use Rattle.building.specs.Arrays.{poolOf};
@@ -8,7 +10,7 @@ ghost use Rattle.building.specs.Walk.{State, Indexed, Puts};
 
 // Where a term that was built stands, with the new count; or no room.
 pub enum Built {
-    At(u32, usize),
+    At(TermPlace, usize),
     Full,
 }
 
@@ -16,7 +18,7 @@ pub enum Built {
 pub(crate) fn put(
     tags: &mut [u32],
     values: &mut [u32],
-    index: &mut [u32; 12288],
+    index: &mut [u32; INDEX],
     n: usize,
     tag: u32,
     cells: &[u32],
@@ -28,8 +30,8 @@ pub(crate) fn put(
 {
     let added = add(tags, values, index, n, tag, cells);
     match added {
-        Added::There(p) => Built::At(p as u32, n),
-        Added::New(p, m) => Built::At(p as u32, m),
+        Added::There(p) => Built::At(TermPlace(p as u32), n),
+        Added::New(p, m) => Built::At(TermPlace(p as u32), m),
         Added::Full => Built::Full,
     }
 }

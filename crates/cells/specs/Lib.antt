@@ -4,3 +4,5 @@ pub mod Cell
 pub mod Headers
 pub mod Marks
 pub mod TermTag
+pub mod Place
+pub mod Limits

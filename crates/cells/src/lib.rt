@@ -1,8 +1,9 @@
 // Cells of a shared term pool in document 01's packed form: two u32 arrays of one length, tag and value.
 pub mod cell_comparison;
+pub mod limits;
 pub mod marks;
 pub mod run;
-pub mod term_tags;
+pub mod tags;
 
 // The place of a term: its header's index.
 pub struct TermPlace(pub u32);

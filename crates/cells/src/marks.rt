@@ -1,34 +1,35 @@
-// Marks: a byte for each place. A place past the array's end has the mark 0, and is not marked.
+// Marks of terms: a byte for each place. A place past the array's end has the mark 0, and is not marked.
+use crate::TermPlace;
 ghost use mathlib.Core.Path.{_≡_};
 ghost use lib.ListN.{length, getD, set, replicate};
 ghost use Rattle.cells.specs.Marks.{Noted};
 
 // The mark of a place.
-pub fn mark_at(marks: &[u8], place: u32) -> u8
-    ensures { λ r. ⌜ r ≡ getD (now (marks .entry)) place 0 ⌝ }
+pub fn mark_at(marks: &[u8], t: TermPlace) -> u8
+    ensures { λ r. ⌜ r ≡ getD (now (marks .entry)) (t .0) 0 ⌝ }
 {
-    let i = place as usize;
+    let i = t.0 as usize;
     if i < marks.len() { marks[i] } else { 0 }
 }
 
 // Marks a place with 1.
-pub fn set_mark(marks: &mut [u8], place: u32)
-    ensures { λ _. ⌜ now (marks .exit) ≡ set (now (marks .entry)) place 1 ⌝ }
+pub fn set_mark(marks: &mut [u8], t: TermPlace)
+    ensures { λ _. ⌜ now (marks .exit) ≡ set (now (marks .entry)) (t .0) 1 ⌝ }
 {
-    let i = place as usize;
+    let i = t.0 as usize;
     if i < marks.len() {
         marks[i] = 1;
     }
 }
 
 // Marks a place whose answer is no, and hands the answer back: a walk that ends at a yes notes no other.
-pub fn note_no(marks: &mut [u8], place: u32, answer: bool) -> bool
-    ensures { λ r. ⌜ Noted (now (marks .entry)) place answer (now (marks .exit)) r ⌝ }
+pub fn note_no(marks: &mut [u8], t: TermPlace, answer: bool) -> bool
+    ensures { λ r. ⌜ Noted (now (marks .entry)) (t .0) answer (now (marks .exit)) r ⌝ }
 {
     if answer {
         return true;
     }
-    set_mark(marks, place);
+    set_mark(marks, t);
     false
 }
 

@@ -1,6 +1,7 @@
 // Cells of the lent arrays, and runs of them.
 use crate::SortPlace;
 use crate::TermPlace;
+use crate::tags::APPLICATION;
 ghost use mathlib.Core.Path.{_≡_};
 ghost use lib.ListN.{getD};
 ghost use Rattle.cells.specs.Cell.{cellsOf, sortOf, operandsOf};
@@ -47,7 +48,7 @@ pub fn operands<'a>(tags: &[u32], values: &'a [u32], t: TermPlace) -> &'a [u32]
     ensures { λ r. ⌜ now r ≡ operandsOf (now (tags .entry)) (now (values .entry)) (t .0) ⌝ }
 {
     let at = t.0 as usize;
-    if cell(tags, at) < 22 {
+    if cell(tags, at) < APPLICATION {
         return &values[0..0];
     }
     let run = cells(values, at);

@@ -13,6 +13,7 @@ use lib.Seq.{drop-cons, take-all}
 use lib.Dec.{ltb, leb, eqb}
 use native.Mathlib.Omega.{arith}
 use borrow.Author.Tests.{ltb-true, leb-true, leb-false, lt-ltb}
+use Rattle.cells.specs.declared.TermPlace.{TermPlace}
 use Rattle.cells.specs.Cell.{operandsOf}
 use Rattle.cells.specs.ByPlace.{by-test, byPlace-is}
 use Rattle.formulas.specs.declared.view.NormalView.{NormalView}
@@ -26,7 +27,7 @@ use Rattle.clauses.specs.ClauseWalk.{formAt}
 pub no-literal : (b : Bool) → Connective b ≡ Literal → ⊥
 no-literal b e = let z : _≡_ {A = ℕ} 0 1 = cc in omega arith
 
-pub no-forall : (b : Bool) (body : ℕ) → Connective b ≡ Forall body → ⊥
+pub no-forall : (b : Bool) (body : TermPlace) → Connective b ≡ Forall body → ⊥
 no-forall b body e = let z : _≡_ {A = ℕ} 0 1 = cc in omega arith
 
 false-true : false ≡ true → ⊥
@@ -102,8 +103,8 @@ module _ (tags values : List ℕ) (x : ℕ) where
     unfolding normalBy
     read-literal e = rw (form-is, ← is, e)
 
-    pub read-forall : (body : ℕ) → v ≡ Forall body
-        → formAt tags values x ≡ nall true (drop 1 (operandsOf tags values x)) (cond (ltb body x) (formAt tags values body) (lit true 0))
+    pub read-forall : (body : TermPlace) → v ≡ Forall body
+        → formAt tags values x ≡ nall true (drop 1 (operandsOf tags values x)) (cond (ltb (body .0) x) (formAt tags values (body .0)) (lit true 0))
     unfolding normalBy
     read-forall body e = rw (form-is, ← is, e)
 

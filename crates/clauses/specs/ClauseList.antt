@@ -8,6 +8,8 @@ use mathlib.Core.List.{List, [], _∷_}
 use lib.ListN.{length, getD, replicate}
 use lib.Seq.{sets}
 use lib.Dec.{ltb, leb, eqb}
+use Rattle.cells.specs.Limits.{cellLimit, clauseLimit, literalLimit}
+use Rattle.cells.specs.Place.{termAt}
 use Rattle.answers.specs.Answer.{accepted}
 use Rattle.answers.specs.declared.Answer.{Answer}
 use Rattle.formulas.specs.Formula.{allBefore}
@@ -28,8 +30,8 @@ runOf tags values run = normalsOf (formAt tags values) run
 
 -- the operand of an `and` that has its clause of number i, and that clause's number there, by the operands' counts
 unfoldable pub choose : List ℕ → List ℕ → ℕ → Chosen
-choose counts [] i = record { place = 0; index = 0 }
-choose counts (u ∷ us) i = cond (ltb i (getD counts u 0)) (record { place = u; index = i }) (choose counts us (i - getD counts u 0))
+choose counts [] i = record { place = termAt 0; index = 0 }
+choose counts (u ∷ us) i = cond (ltb i (getD counts u 0)) (record { place = termAt u; index = i }) (choose counts us (i - getD counts u 0))
 
 -- the counts of a right memo, in which every place of the run is counted that the pool has
 pub record ClauseCounts (tags values counts run : List ℕ) : Type 0 where
@@ -46,7 +48,7 @@ pub record Apart (total here i : ℕ) (d : Digits) : Type 0 where
 -- the clause of number i of a short list is to be written to out, from at on; the places of the run are counted
 pub record Ask (tags values counts run : List ℕ) (cs : List (List (Normal (List ℕ) ℕ))) (i : ℕ) (out : List ℕ) (at : ℕ) : Type 0 where
   pub counted : ClauseCounts tags values counts run
-  pub small : length cs ≤ 2048
+  pub small : length cs ≤ clauseLimit
   pub index : i < length cs
   pub room : at + length (getD cs i []) ≤ length out
 
@@ -65,9 +67,9 @@ pub record Written (c : List (Normal (List ℕ) ℕ)) (out : List ℕ) (at : ℕ
 -- ---- a list is to be written after the first i ends and the first `at` literals; the places of the run are counted
 pub record AskMore (tags values counts run : List ℕ) (cs : List (List (Normal (List ℕ) ℕ))) (literals ends : List ℕ) (i at : ℕ) : Type 0 where
   pub counted : ClauseCounts tags values counts run
-  pub clauses : length cs ≤ 2048
+  pub clauses : length cs ≤ clauseLimit
   pub clauses-room : i + length cs ≤ length ends
-  pub literals-small : at + literalTotal cs ≤ 8192
+  pub literals-small : at + literalTotal cs ≤ literalLimit
   pub literals-room : at + literalTotal cs ≤ length literals
 
 -- the same of the joined lists of the run's places, which stand before x
@@ -91,7 +93,7 @@ pub record Listed (cs : List (List (Normal (List ℕ) ℕ))) (k m : ℕ) (litera
 -- ---- 01's numbers: 13, then 32, or the two totals
 unfoldable pub countAnswer : List (List (Normal (List ℕ) ℕ)) → Answer
 countAnswer cs =
-    cond (leb (length cs) 2048 && leb (literalTotal cs) 8192)
+    cond (leb (length cs) clauseLimit && leb (literalTotal cs) literalLimit)
     (accepted (length cs) (literalTotal cs))
     tooManyClauses
 
@@ -110,9 +112,9 @@ pub record Answered (defined : Answer) (cs : List (List (Normal (List ℕ) ℕ))
 
 -- a pool of n places, at most 8,192, and arrays of k and m cells, long enough for any list that is accepted
 pub record Lent (n k m : ℕ) : Type 0 where
-  pub small : n ≤ 8192
-  pub literals : 8192 ≤ k
-  pub ends : 2048 ≤ m
+  pub small : n ≤ cellLimit
+  pub literals : literalLimit ≤ k
+  pub ends : clauseLimit ≤ m
 
 -- the same with zeroes in the arrays
 pub record Ready (tags literals ends : List ℕ) : Type 0 where

@@ -1,4 +1,5 @@
 // The whole clause list of a term, as two arrays: the literal places, clause after clause, and each clause's end.
+ghost use Rattle.cells.specs.Limits.{cellLimit};
 use crate::conjunctive_normal_form::count_at;
 use crate::conjunctive_normal_form::write_clause;
 use crate::empty_or::empty_or;
@@ -9,6 +10,9 @@ use formulas::view::normal_view;
 use pool::Answer;
 use pool::TermPlace;
 use pool::description::cut_back;
+use pool::limits::CELLS;
+use pool::limits::MAX_CLAUSES;
+use pool::limits::MAX_LITERALS;
 use pool::run::operands;
 ghost use mathlib.Core.Path.{_≡_};
 ghost use mathlib.Core.List.{[], _∷_};
@@ -67,7 +71,7 @@ fn write_list(
         NormalView::Literal => write_clauses(tags, values, counts, x, 1, literals, ends, from),
         NormalView::Forall(_) => write_clauses(tags, values, counts, x, 1, literals, ends, from),
         NormalView::Connective(all) => {
-            let total = count_at(counts, x.0);
+            let total = count_at(counts, x);
             if total == 0 {
                 return from;
             }
@@ -104,11 +108,11 @@ fn write_lists(
 
 // The totals of the clause list of the term at x. The counts are then right of the terms that it reaches.
 fn count_clauses(tags: &[u32], values: &[u32], counts: &mut [u32], x: TermPlace) -> Totals
-    requires { ⌜ length (now tags) ≤ 8192 ⌝ }
-    requires { ⌜ length (now counts) ≡ 8192 ⌝ }
+    requires { ⌜ length (now tags) ≤ cellLimit ⌝ }
+    requires { ⌜ length (now counts) ≡ cellLimit ⌝ }
     ensures { λ r. ⌜ Counted (now (tags .entry)) (now (values .entry)) (x .0) (now (counts .exit)) r ⌝ }
 {
-    let mut sizes = [0u32; 8192];
+    let mut sizes = [0u32; CELLS];
     list_totals(tags, values, counts, &mut sizes, x)
 }
 
@@ -123,14 +127,14 @@ fn list_counted(
     requires { ⌜ Ready (now tags) (now literals) (now ends) ⌝ }
     ensures { λ r. ⌜ Answered (countAnswer (cnf (formAt (now (tags .entry)) (now (values .entry)) (x .0)))) (cnf (formAt (now (tags .entry)) (now (values .entry)) (x .0))) (length (now (literals .entry))) (length (now (ends .entry))) r (now (literals .exit)) (now (ends .exit)) ⌝ }
 {
-    let mut counts = [0u32; 8192];
+    let mut counts = [0u32; CELLS];
     let t = count_clauses(tags, values, &mut counts, x);
     let clauses = t.clauses;
     let size = t.literals;
-    if 2048 < clauses {
+    if MAX_CLAUSES < clauses {
         return Answer::refused(32, 0, 0);
     }
-    if 8192 < size {
+    if MAX_LITERALS < size {
         return Answer::refused(32, 0, 0);
     }
     write_list(tags, values, &counts, x, literals, ends, Filled(0, 0));

@@ -15,15 +15,15 @@ ghost use Rattle.clauses.specs.ClauseList.{runOf, choose, Apart, Ask, As
 
 // A clause of an `and`: the operand that has it, and its number there.
 pub struct Chosen {
-    pub place: u32,
+    pub place: TermPlace,
     pub index: u32,
 }
 
 // The number of clauses of the place u.
-pub(crate) fn count_at(counts: &[u32], u: u32) -> u32
-    ensures { λ r. ⌜ r ≡ getD (now (counts .entry)) u 0 ⌝ }
+pub(crate) fn count_at(counts: &[u32], u: TermPlace) -> u32
+    ensures { λ r. ⌜ r ≡ getD (now (counts .entry)) (u .0) 0 ⌝ }
 {
-    let at = u as usize;
+    let at = u.0 as usize;
     cell(counts, at)
 }
 
@@ -34,7 +34,7 @@ fn choose(counts: &[u32], run: &[u32], i: u32) -> Chosen
     let mut left = i;
     let mut j: usize = 0;
     while j < run.len() {
-        let u = run[j];
+        let u = TermPlace(run[j]);
         let here = count_at(counts, u);
         if left < here {
             return Chosen {
@@ -45,7 +45,10 @@ fn choose(counts: &[u32], run: &[u32], i: u32) -> Chosen
         left -= here;
         j += 1;
     }
-    Chosen { place: 0, index: 0 }
+    Chosen {
+        place: TermPlace(0),
+        index: 0,
+    }
 }
 
 // The number of a clause in a product, taken apart: how many clauses the rest has, the number in the first list, and the
@@ -62,11 +65,11 @@ fn take_apart(total: u32, here: u32, i: u32) -> Digits
 }
 
 // Writes a literal's place, and gives the place after it.
-fn put(out: &mut [u32], at: usize, place: u32) -> usize
+fn put(out: &mut [u32], at: usize, place: TermPlace) -> usize
     requires { ⌜ at < length (now out) ⌝ }
-    ensures { λ r. ⌜ (r ≡ at + 1) × (now (out .exit) ≡ set (now (out .entry)) at place) ⌝ }
+    ensures { λ r. ⌜ (r ≡ at + 1) × (now (out .exit) ≡ set (now (out .entry)) at (place .0)) ⌝ }
 {
-    out[at] = place;
+    out[at] = place.0;
     at + 1
 }
 
@@ -85,15 +88,15 @@ pub(crate) fn write_clause(
 {
     let view = normal_view(tags, values, x);
     match view {
-        NormalView::Literal => put(out, at, x.0),
-        NormalView::Forall(_) => put(out, at, 0),
+        NormalView::Literal => put(out, at, x),
+        NormalView::Forall(_) => put(out, at, TermPlace(0)),
         NormalView::Connective(all) => {
             let run = operands(tags, values, x);
             if all {
                 let c = choose(counts, run, i);
-                return write_clause(tags, values, counts, TermPlace(c.place), c.index, out, at);
+                return write_clause(tags, values, counts, c.place, c.index, out, at);
             }
-            let total = count_at(counts, x.0);
+            let total = count_at(counts, x);
             write_run(tags, values, counts, x, run, total, i, out, at)
         }
     }
@@ -117,9 +120,9 @@ fn write_run(
     if run.len() == 0 {
         return at;
     }
-    let u = run[0];
+    let u = TermPlace(run[0]);
     let here = count_at(counts, u);
     let d = take_apart(total, here, i);
-    let next = write_clause(tags, values, counts, TermPlace(u), d.1, out, at);
+    let next = write_clause(tags, values, counts, u, d.1, out, at);
     write_run(tags, values, counts, x, &run[1..], d.0, d.2, out, next)
 }

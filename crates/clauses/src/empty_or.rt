@@ -3,6 +3,7 @@
 use formulas::view::NormalView;
 use formulas::view::normal_view;
 use pool::TermPlace;
+use pool::limits::CELLS;
 use pool::marks::mark_at;
 use pool::marks::note_no;
 use pool::run::operands;
@@ -20,20 +21,20 @@ fn from_term(tags: &[u32], values: &[u32], memo: &mut [u8], x: TermPlace) -> boo
     requires { ⌜ NoneReached (now tags) (now values) (now memo) ⌝ }
     ensures { λ r. ⌜ Reached (now (tags .entry)) (now (values .entry)) (now (memo .exit)) r (emptyOr (formAt (now (tags .entry)) (now (values .entry)) (x .0))) ⌝ }
 {
-    if mark_at(memo, x.0) == 1 {
+    if mark_at(memo, x) == 1 {
         return false;
     }
     let view = normal_view(tags, values, x);
     match view {
-        NormalView::Literal => note_no(memo, x.0, false),
-        NormalView::Forall(_) => note_no(memo, x.0, false),
+        NormalView::Literal => note_no(memo, x, false),
+        NormalView::Forall(_) => note_no(memo, x, false),
         NormalView::Connective(all) => {
             let run = operands(tags, values, x);
             if run.len() == 0 {
                 return !all;
             }
             let s = from_run(tags, values, memo, x, run);
-            note_no(memo, x.0, s)
+            note_no(memo, x, s)
         }
     }
 }
@@ -46,8 +47,7 @@ fn from_run(tags: &[u32], values: &[u32], memo: &mut [u8], x: TermPlace, run: &[
     if run.len() == 0 {
         return false;
     }
-    let u = run[0];
-    if from_term(tags, values, memo, TermPlace(u)) {
+    if from_term(tags, values, memo, TermPlace(run[0])) {
         return true;
     }
     from_run(tags, values, memo, x, &run[1..])
@@ -55,9 +55,8 @@ fn from_run(tags: &[u32], values: &[u32], memo: &mut [u8], x: TermPlace, run: &[
 
 // Whether an empty `or` is reached from the term at x, through `and` and `or`.
 pub fn empty_or(tags: &[u32], values: &[u32], x: TermPlace) -> bool
-    requires { ⌜ length (now tags) ≤ 8192 ⌝ }
     ensures { λ r. ⌜ r ≡ emptyOr (formAt (now (tags .entry)) (now (values .entry)) (x .0)) ⌝ }
 {
-    let mut memo = [0u8; 8192];
+    let mut memo = [0u8; CELLS];
     from_term(tags, values, &mut memo, x)
 }

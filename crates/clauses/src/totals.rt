@@ -89,11 +89,11 @@ fn combine(all: bool, t: Totals, u: Totals) -> Totals
 }
 
 // The memo's totals of the place u, which is counted.
-fn noted(counts: &[u32], sizes: &[u32], u: u32) -> Totals
-    requires { ⌜ 0 < getD (now sizes) u 0 ⌝ }
-    ensures { λ r. ⌜ asTotals r ≡ memoAt (now (counts .entry)) (now (sizes .entry)) u ⌝ }
+fn noted(counts: &[u32], sizes: &[u32], u: TermPlace) -> Totals
+    requires { ⌜ 0 < getD (now sizes) (u .0) 0 ⌝ }
+    ensures { λ r. ⌜ asTotals r ≡ memoAt (now (counts .entry)) (now (sizes .entry)) (u .0) ⌝ }
 {
-    let at = u as usize;
+    let at = u.0 as usize;
     Totals {
         clauses: cell(counts, at),
         literals: cell(sizes, at) - 1,
@@ -123,7 +123,7 @@ fn run_totals(all: bool, counts: &[u32], sizes: &[u32], run: &[u32]) -> Totals
     let mut i = run.len();
     while 0 < i {
         i -= 1;
-        sum = combine(all, noted(counts, sizes, run[i]), sum);
+        sum = combine(all, noted(counts, sizes, TermPlace(run[i])), sum);
     }
     sum
 }
@@ -141,7 +141,7 @@ pub fn list_totals(
 {
     let at = x.0 as usize;
     if cell(sizes, at) != 0 {
-        return noted(counts, sizes, x.0);
+        return noted(counts, sizes, x);
     }
     let view = normal_view(tags, values, x);
     match view {
@@ -171,7 +171,6 @@ fn count_operands(
     if run.len() == 0 {
         return;
     }
-    let u = run[0];
-    list_totals(tags, values, counts, sizes, TermPlace(u));
+    list_totals(tags, values, counts, sizes, TermPlace(run[0]));
     count_operands(tags, values, counts, sizes, x, &run[1..])
 }

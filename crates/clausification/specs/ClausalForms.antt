@@ -5,6 +5,7 @@ use mathlib.Core.Path.{_≡_}
 use mathlib.Core.Bool.{true}
 use mathlib.Core.List.{List}
 use lib.ListN.{length}
+use Rattle.cells.specs.declared.TermPlace.{TermPlace}
 use Rattle.formulas.specs.Built.{takenOut}
 use Rattle.building.specs.declared.build.Built.the-variants as built
 use Rattle.building.specs.Arrays.{poolOf, normalIn, clausalIn}
@@ -14,11 +15,11 @@ use Rattle.clausification.specs.declared.clausal_forms.Forms.the-variant
 
 -- the forms of the term at t: the normal form at x, with m cells in use, is built first, and leaves tags₁ and values₁; the other one at
 -- y, with k cells in use
-pub record Both (n t : ℕ) (tags values : List ℕ) (x m y k : ℕ) (tags′ values′ : List ℕ) : Type 0 where
+pub record Both (n t : ℕ) (tags values : List ℕ) (x : TermPlace) (m : ℕ) (y : TermPlace) (k : ℕ) (tags′ values′ : List ℕ) : Type 0 where
   pub tags₁ : List ℕ
   pub values₁ : List ℕ
   pub normal : NormalBuilt n tags values (normalIn tags values n t true) (built.At x m) tags₁ values₁
-  pub taken : NormalBuilt m tags₁ values₁ (takenOut (poolOf tags₁ values₁ m) x) (built.At y k) tags′ values′
+  pub taken : NormalBuilt m tags₁ values₁ (takenOut (poolOf tags₁ values₁ m) (x .0)) (built.At y k) tags′ values′
   pub first-tags : length tags₁ ≡ length tags
   pub first-values : length values₁ ≡ length values
   pub tags-size : length tags′ ≡ length tags

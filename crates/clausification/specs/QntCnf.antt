@@ -17,7 +17,8 @@ use Rattle.building.specs.Arrays.{fits, normalIn, clausalIn, clausalFormIn}
 use Rattle.answers.specs.Outcome.{Outcome, _>>=_, _>>_, need, guard, unless}
 use Rattle.bindings.specs.Binding.{Binding, bindingsOf, has, firstOf}
 use Rattle.free_variables.specs.BindingFree.{bindingFree}
-use Rattle.formulas.specs.Pattern.{Quantifier, quantifier, tagOf, operator, oneOf, twoOf, andThen}
+use Rattle.formulas.specs.Pattern.{Quantifier, quantifier, operator, oneOf, twoOf, andThen}
+use Rattle.formulas.specs.Formula.{quantifierTag}
 
 -- `(or (not l) r)`: l and r
 unfoldable pub implication : List ℕ → List ℕ → ℕ → Option (ℕ × ℕ)
@@ -75,6 +76,6 @@ module _ (tags values : List ℕ) (n : ℕ) where
     sides ← need 2 x 0 (implication tags values x)
     left ← need 3 (sides .0) 0 (quantifier tags values (sides .0))
     right ← need 3 (sides .1) 0 (quantifier tags values (sides .1))
-    guard 4 23 (tagOf (left .kind)) (left .kind)
-    guard 4 23 (tagOf (right .kind)) (right .kind)
+    guard 4 23 (quantifierTag (left .kind)) (left .kind)
+    guard 4 23 (quantifierTag (right .kind)) (right .kind)
     clausified left right

@@ -24,13 +24,13 @@ use Rattle.clausification.specs.declared.taken_search.Step.the-variants 
 
 -- a pair is the one sought; or the right list lacks it, and its variable is free in the term at t
 unfoldable pub isSought : List ℕ → List ℕ → ℕ → List Binding → Sought → Binding → Bool
-isSought tags values n right (Pair a s) b = same b (pair a s)
-isSought tags values n right (Missing t) b = not (has right b) && bindingFree tags values n t b
+isSought tags values n right (Pair a s) b = same b (pair a (s .0))
+isSought tags values n right (Missing t) b = not (has right b) && bindingFree tags values n (t .0) b
 
 -- the table has the names of the term where a missing variable is to be free
 abbrev pub Tabled : List ℕ → List ℕ → List ℕ → Sought → Type 0
 Tabled tags values names (Pair a s) = Unit {0}
-Tabled tags values names (Missing t) = Listed tags values names (freeIn tags values t)
+Tabled tags values names (Missing t) = Listed tags values names (freeIn tags values (t .0))
 
 module _ (tags values : List ℕ) (test : Binding → Bool) where
   -- the first of the variables that are taken out of the term at x
@@ -45,7 +45,7 @@ module _ (tags values : List ℕ) (test : Binding → Bool) where
 abbrev pub Means : List ℕ → List ℕ → (Binding → Bool) → ℕ → Step → Type 0
 Means tags values test x (step.Found a) = first.Name a ≡ foundAt tags values test x
 Means tags values test x step.Nothing = first.Nothing ≡ foundAt tags values test x
-Means tags values test x (step.Body u) = (u < x) × (foundAt tags values test u ≡ foundAt tags values test x)
+Means tags values test x (step.Body u) = (u .0 < x) × (foundAt tags values test (u .0) ≡ foundAt tags values test x)
 Means tags values test x step.Run =
     (allBefore x (operandsOf tags values x) ≡ true) × (foundIn tags values test (operandsOf tags values x) ≡ foundAt tags values test x)
 

@@ -4,6 +4,7 @@ use normal_form::build::Built;
 use normal_form::negation_normal_form::build_normal_form;
 use normal_form::prenex_forall::build_taken_out;
 use pool::TermPlace;
+use pool::index::INDEX;
 use pool::index::forget;
 use pool::index::index_headers;
 ghost use Prim.Native.Nat.{_<_};
@@ -13,7 +14,7 @@ ghost use Rattle.clausification.specs.ClausalForms.{FormsBuilt};
 
 // Where the normal form stands, with the count after it, and the same of the taken-out form; or no room.
 pub enum Forms {
-    At(u32, usize, u32, usize),
+    At(TermPlace, usize, TermPlace, usize),
     Full,
 }
 
@@ -21,7 +22,7 @@ pub enum Forms {
 pub(crate) fn build_forms(
     tags: &mut [u32],
     values: &mut [u32],
-    index: &mut [u32; 12288],
+    index: &mut [u32; INDEX],
     n: usize,
     t: TermPlace,
 ) -> Forms

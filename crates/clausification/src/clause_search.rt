@@ -4,6 +4,7 @@ use pool::cell_comparison::same_cells;
 use pool::run::cell;
 use pool::run::operands;
 use pool::run::wide;
+use pool::tags::OR;
 ghost use mathlib.Core.Path.{_≡_};
 ghost use Prim.Native.Nat.{_-_};
 ghost use lib.ListN.{take, drop};
@@ -11,16 +12,17 @@ ghost use Rattle.clausification.specs.QntCnf.{isClause, anyClause};
 ghost use Rattle.clausification.specs.ClauseSearch.{clausesIn};
 
 // Whether the term at x is the clause of these literal places.
-fn is_clause(tags: &[u32], values: &[u32], x: u32, clause: &[u32]) -> bool
-    ensures { λ r. ⌜ r ≡ isClause (now (tags .entry)) (now (values .entry)) x (now (clause .entry)) ⌝ }
+fn is_clause(tags: &[u32], values: &[u32], x: TermPlace, clause: &[u32]) -> bool
+    ensures { λ r. ⌜ r ≡ isClause (now (tags .entry)) (now (values .entry)) (x .0) (now (clause .entry)) ⌝ }
 {
     if clause.len() == 1 {
-        return clause[0] == x;
+        return clause[0] == x.0;
     }
-    if cell(tags, x as usize) != 37 {
+    let at = x.0 as usize;
+    if cell(tags, at) != OR {
         return false;
     }
-    same_cells(operands(tags, values, TermPlace(x)), clause)
+    same_cells(operands(tags, values, x), clause)
 }
 
 // The cells from start on and before end, as far as there are any.
@@ -43,12 +45,12 @@ fn part(a: &[u32], start: usize, end: usize) -> &[u32]
 pub(crate) fn any_clause(
     tags: &[u32],
     values: &[u32],
-    x: u32,
+    x: TermPlace,
     literals: &[u32],
     ends: &[u32],
     count: usize,
 ) -> bool
-    ensures { λ r. ⌜ r ≡ anyClause (isClause (now (tags .entry)) (now (values .entry)) x) (clausesIn (now (literals .entry)) (now (ends .entry)) 0 count) ⌝ }
+    ensures { λ r. ⌜ r ≡ anyClause (isClause (now (tags .entry)) (now (values .entry)) (x .0)) (clausesIn (now (literals .entry)) (now (ends .entry)) 0 count) ⌝ }
 {
     let mut i: usize = 0;
     let mut start: usize = 0;

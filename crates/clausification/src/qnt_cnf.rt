@@ -14,15 +14,20 @@ use formulas::matching::one_operand;
 use formulas::matching::quantified_at;
 use formulas::matching::two_operands;
 use normal_form::clause_list::list_clauses;
-use normal_form::negation_normal_form::build_normal_form;
-use normal_form::prenex_forall::build_taken_out;
 use pool::Answer;
 use pool::TermPlace;
 use pool::binding::FirstName;
 use pool::description::cut_back;
 use pool::free_lists::first_missing;
+use pool::index::INDEX;
+use pool::limits::CLAUSE_ENDS;
+use pool::limits::LITERALS;
 use pool::outcome::accept;
 use pool::outcome::refuse;
+use pool::tags::EXISTS;
+use pool::tags::FORALL;
+use pool::tags::NOT;
+use pool::tags::OR;
 ghost use mathlib.Core.Path.{_≡_};
 ghost use Rattle.descriptions.specs.Index.{Index};
 ghost use Rattle.sorts.specs.Table.{builtIn};
@@ -35,18 +40,18 @@ ghost use Rattle.clausification.specs.Promises.{forallAt, followsIn, Sid
 
 // The place of a forall, and its body's.
 struct Forall {
-    place: u32,
-    body: u32,
+    place: TermPlace,
+    body: TermPlace,
 }
 
 // The two sides of `(or (not l) r)` at x.
-fn implication_at(tags: &[u32], values: &[u32], x: u32) -> Two
-    ensures { λ t. ⌜ implication (now (tags .entry)) (now (values .entry)) x ≡ twoIn t ⌝ }
+fn implication_at(tags: &[u32], values: &[u32], x: TermPlace) -> Two
+    ensures { λ t. ⌜ implication (now (tags .entry)) (now (values .entry)) (x .0) ≡ twoIn t ⌝ }
 {
-    let Two::Are(negation, r) = two_operands(tags, values, 37, x) else {
+    let Two::Are(negation, r) = two_operands(tags, values, OR, x) else {
         return Two::Not;
     };
-    let One::Is(l) = one_operand(tags, values, 34, negation) else {
+    let One::Is(l) = one_operand(tags, values, NOT, negation) else {
         return Two::Not;
     };
     Two::Are(l, r)
@@ -57,14 +62,14 @@ fn clause_follows(
     tags: &[u32],
     values: &[u32],
     n: usize,
-    x: u32,
-    l: u32,
+    x: TermPlace,
+    l: TermPlace,
     right: Forall,
     literals: &[u32],
     ends: &[u32],
     count: usize,
 ) -> Answer
-    ensures { λ a. ⌜ a ≡ answerOf (followsIn (now (tags .entry)) (now (values .entry)) n x l (right .place) (right .body) (clausesIn (now (literals .entry)) (now (ends .entry)) 0 count)) ⌝ }
+    ensures { λ a. ⌜ a ≡ answerOf (followsIn (now (tags .entry)) (now (values .entry)) n (x .0) (l .0) (right .place .0) (right .body .0) (clausesIn (now (literals .entry)) (now (ends .entry)) 0 count)) ⌝ }
 {
     let left = bindings(tags, values, l);
     let bound = bindings(tags, values, right.place);
@@ -73,7 +78,7 @@ fn clause_follows(
         return refuse(8, name, 0);
     }
     if !any_clause(tags, values, body, literals, ends, count) {
-        return refuse(10, body, 0);
+        return refuse(10, body.0, 0);
     }
     if let FirstName::Name(name) = first_missing(tags, values, n, body, left, bound) {
         return refuse(9, name, 0);
@@ -89,28 +94,22 @@ fn clause_follows(
 fn clausified(
     tags: &mut [u32],
     values: &mut [u32],
-    index: &mut [u32; 12288],
+    index: &mut [u32; INDEX],
     n: usize,
     left: Forall,
     right: Forall,
 ) -> Answer
     requires { ⌜ Index (now tags) (now values) n (now index) ⌝ }
-    requires { ⌜ Sides (now tags) (now values) n (left .place) (left .body) (right .place) (right .body) ⌝ }
-    ensures { λ a. ⌜ Leaves n (now (tags .entry)) (now (values .entry)) (clausified (now (tags .entry)) (now (values .entry)) n (forallAt (now (tags .entry)) (now (values .entry)) (left .place) (left .body)) (forallAt (now (tags .entry)) (now (values .entry)) (right .place) (right .body))) a (now (tags .exit)) (now (values .exit)) ⌝ }
+    requires { ⌜ Sides (now tags) (now values) n (left .place .0) (left .body .0) (right .place .0) (right .body .0) ⌝ }
+    ensures { λ a. ⌜ Leaves n (now (tags .entry)) (now (values .entry)) (clausified (now (tags .entry)) (now (values .entry)) n (forallAt (now (tags .entry)) (now (values .entry)) (left .place .0) (left .body .0)) (forallAt (now (tags .entry)) (now (values .entry)) (right .place .0) (right .body .0))) a (now (tags .exit)) (now (values .exit)) ⌝ }
     ensures { λ _. ⌜ Index (now (tags .entry)) (now (values .entry)) n (now (index .exit)) ⌝ }
 {
-    let Forms::At(x, m, y, k) = build_forms(tags, values, index, n, TermPlace(left.body)) else {
+    let Forms::At(x, m, y, k) = build_forms(tags, values, index, n, left.body) else {
         return refuse(31, 0, 0);
     };
-    let mut literals = [0u32; 8192];
-    let mut ends = [0u32; 2048];
-    let listed = list_clauses(
-        &tags[..k],
-        &values[..k],
-        TermPlace(y),
-        &mut literals,
-        &mut ends,
-    );
+    let mut literals = [0u32; LITERALS];
+    let mut ends = [0u32; CLAUSE_ENDS];
+    let listed = list_clauses(&tags[..k], &values[..k], y, &mut literals, &mut ends);
     if listed.code != 0 {
         return listed;
     }
@@ -133,7 +132,7 @@ fn clausified(
 fn checks(
     tags: &mut [u32],
     values: &mut [u32],
-    index: &mut [u32; 12288],
+    index: &mut [u32; INDEX],
     n: usize,
     x: TermPlace,
 ) -> Answer
@@ -142,20 +141,20 @@ fn checks(
     ensures { λ a. ⌜ Leaves n (now (tags .entry)) (now (values .entry)) (qntCnf (now (tags .entry)) (now (values .entry)) n (x .0)) a (now (tags .exit)) (now (values .exit)) ⌝ }
     ensures { λ _. ⌜ Index (now (tags .entry)) (now (values .entry)) n (now (index .exit)) ⌝ }
 {
-    let Two::Are(l, r) = implication_at(tags, values, x.0) else {
+    let Two::Are(l, r) = implication_at(tags, values, x) else {
         return refuse(2, x.0, 0);
     };
     let Quantified::Is(left_kind, left_body) = quantified_at(tags, values, l) else {
-        return refuse(3, l, 0);
+        return refuse(3, l.0, 0);
     };
     let Quantified::Is(right_kind, right_body) = quantified_at(tags, values, r) else {
-        return refuse(3, r, 0);
+        return refuse(3, r.0, 0);
     };
     if !left_kind {
-        return refuse(4, 23, 24);
+        return refuse(4, FORALL, EXISTS);
     }
     if !right_kind {
-        return refuse(4, 23, 24);
+        return refuse(4, FORALL, EXISTS);
     }
     let left = Forall {
         place: l,
@@ -172,7 +171,7 @@ fn checks(
 pub fn qnt_cnf(
     tags: &mut [u32],
     values: &mut [u32],
-    index: &mut [u32; 12288],
+    index: &mut [u32; INDEX],
     n: usize,
     x: TermPlace,
 ) -> Answer

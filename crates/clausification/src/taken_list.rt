@@ -5,9 +5,11 @@ use crate::taken_search::first_unbound_by_walks;
 use formulas::matching::bindings;
 use normal_form::view::NormalView;
 use normal_form::view::normal_view;
+use pool::SortPlace;
 use pool::TermPlace;
 use pool::binding::FirstName;
 use pool::binding::has;
+use pool::limits::CELLS;
 use pool::marks::mark_at;
 use pool::marks::set_mark;
 use pool::run::operands;
@@ -55,19 +57,19 @@ fn collect_term(
     seen: &mut [u8],
     cells: &mut [u32],
     k: usize,
-    x: u32,
+    x: TermPlace,
 ) -> Collected
     requires { ⌜ Right (now tags) (now values) (now seen) (pairsFrom (now cells) k) × (k ≤ length (now cells)) ⌝ }
-    ensures { λ r. ⌜ Walked (now (tags .entry)) (now (values .entry)) (now (cells .entry)) k (now (seen .exit)) (now (cells .exit)) (takenAt (now (tags .entry)) (now (values .entry)) x) r ⌝ }
+    ensures { λ r. ⌜ Walked (now (tags .entry)) (now (values .entry)) (now (cells .entry)) k (now (seen .exit)) (now (cells .exit)) (takenAt (now (tags .entry)) (now (values .entry)) (x .0)) r ⌝ }
 {
     if mark_at(seen, x) == 1 {
         return Collected::From(k);
     }
-    let view = normal_view(tags, values, TermPlace(x));
+    let view = normal_view(tags, values, x);
     match view {
         NormalView::Literal => Collected::From(k),
         NormalView::Connective(_) => {
-            let run = operands(tags, values, TermPlace(x));
+            let run = operands(tags, values, x);
             let r = collect_run(tags, values, seen, cells, k, x, run);
             set_mark(seen, x);
             r
@@ -91,16 +93,16 @@ fn collect_run(
     seen: &mut [u8],
     cells: &mut [u32],
     k: usize,
-    x: u32,
+    x: TermPlace,
     run: &[u32],
 ) -> Collected
-    requires { ⌜ Right (now tags) (now values) (now seen) (pairsFrom (now cells) k) × (k ≤ length (now cells)) × (allBefore x (now run) ≡ true) ⌝ }
+    requires { ⌜ Right (now tags) (now values) (now seen) (pairsFrom (now cells) k) × (k ≤ length (now cells)) × (allBefore (x .0) (now run) ≡ true) ⌝ }
     ensures { λ r. ⌜ Walked (now (tags .entry)) (now (values .entry)) (now (cells .entry)) k (now (seen .exit)) (now (cells .exit)) (takenIn (now (tags .entry)) (now (values .entry)) (now (run .entry))) r ⌝ }
 {
     if run.len() == 0 {
         return Collected::From(k);
     }
-    let first = collect_term(tags, values, seen, cells, k, run[0]);
+    let first = collect_term(tags, values, seen, cells, k, TermPlace(run[0]));
     let Collected::From(j) = first else {
         return Collected::Full;
     };
@@ -108,8 +110,8 @@ fn collect_run(
 }
 
 // Whether neither list has this pair.
-fn is_in_neither(left: &[u32], taken: &[u32], name: u32, sort: u32) -> bool
-    ensures { λ r. ⌜ r ≡ not (has (bindingsOf (now (left .entry)) ++ bindingsOf (now (taken .entry))) (pair name sort)) ⌝ }
+fn is_in_neither(left: &[u32], taken: &[u32], name: u32, sort: SortPlace) -> bool
+    ensures { λ r. ⌜ r ≡ not (has (bindingsOf (now (left .entry)) ++ bindingsOf (now (taken .entry))) (pair name (sort .0))) ⌝ }
 {
     if has(left, name, sort) {
         return false;
@@ -123,7 +125,7 @@ fn first_in_neither(left: &[u32], taken: &[u32], right: &[u32]) -> FirstName
 {
     let mut i: usize = 0;
     while 2 <= right.len() - i {
-        if is_in_neither(left, taken, right[i], right[i + 1]) {
+        if is_in_neither(left, taken, right[i], SortPlace(right[i + 1])) {
             return FirstName::Name(right[i]);
         }
         i += 2;
@@ -132,12 +134,18 @@ fn first_in_neither(left: &[u32], taken: &[u32], right: &[u32]) -> FirstName
 }
 
 // The first pair of the right list that is neither in the left list nor among the variables taken out of the term at x.
-pub fn first_unbound(tags: &[u32], values: &[u32], x: u32, left: &[u32], right: &[u32]) -> FirstName
-    ensures { λ r. ⌜ r ≡ nameOf (firstOf (λ a. not (has (bindingsOf (now (left .entry)) ++ taken bindingsOf (formAt (now (tags .entry)) (now (values .entry)) x)) a)) (bindingsOf (now (right .entry)))) ⌝ }
+pub fn first_unbound(
+    tags: &[u32],
+    values: &[u32],
+    x: TermPlace,
+    left: &[u32],
+    right: &[u32],
+) -> FirstName
+    ensures { λ r. ⌜ r ≡ nameOf (firstOf (λ a. not (has (bindingsOf (now (left .entry)) ++ taken bindingsOf (formAt (now (tags .entry)) (now (values .entry)) (x .0))) a)) (bindingsOf (now (right .entry)))) ⌝ }
 {
-    let mut seen = [0u8; 8192];
-    let mut cells = [0u32; 8192];
-    let collected = collect_term(tags, values, &mut seen, &mut cells, 8192, x);
+    let mut seen = [0u8; CELLS];
+    let mut cells = [0u32; CELLS];
+    let collected = collect_term(tags, values, &mut seen, &mut cells, CELLS, x);
     let Collected::From(k) = collected else {
         return first_unbound_by_walks(tags, values, x, left, right);
     };

@@ -4,10 +4,12 @@
 use formulas::matching::bindings;
 use normal_form::view::NormalView;
 use normal_form::view::normal_view;
+use pool::SortPlace;
 use pool::TermPlace;
 use pool::binding::FirstName;
 use pool::binding::has;
 use pool::free_lists::first_missing_by;
+use pool::limits::CELLS;
 use pool::marks::mark_at;
 use pool::run::operands;
 use pool::term_names::mark_names;
@@ -23,15 +25,15 @@ ghost use Rattle.clausification.specs.TakenSearch.{isSought, Tabled, fou
 
 // What is sought: a pair of name and sort; or a variable that the right list lacks and that is free in the term at this place.
 pub enum Sought {
-    Pair(u32, u32),
-    Missing(u32),
+    Pair(u32, SortPlace),
+    Missing(TermPlace),
 }
 
 // What the walk finds at a term: the answer, or that it is the body's, or that of the operand run.
 pub enum Step {
     Found(u32),
     Nothing,
-    Body(u32),
+    Body(TermPlace),
     Run,
 }
 
@@ -68,15 +70,15 @@ fn look(
     sought: Sought,
     names: &[u8],
     seen: &[u8],
-    x: u32,
+    x: TermPlace,
 ) -> Step
     requires { ⌜ Tabled (now tags) (now values) (now names) sought × Right (now tags) (now values) (isSought (now tags) (now values) n (bindingsOf (now right)) sought) (now seen) ⌝ }
-    ensures { λ r. ⌜ Means (now (tags .entry)) (now (values .entry)) (isSought (now (tags .entry)) (now (values .entry)) n (bindingsOf (now (right .entry))) sought) x r ⌝ }
+    ensures { λ r. ⌜ Means (now (tags .entry)) (now (values .entry)) (isSought (now (tags .entry)) (now (values .entry)) n (bindingsOf (now (right .entry))) sought) (x .0) r ⌝ }
 {
     if mark_at(seen, x) == 1 {
         return Step::Nothing;
     }
-    let view = normal_view(tags, values, TermPlace(x));
+    let view = normal_view(tags, values, x);
     match view {
         NormalView::Literal => Step::Nothing,
         NormalView::Connective(_) => Step::Run,
@@ -99,10 +101,10 @@ fn look(
 }
 
 // Notes the answer f for the term at x, and hands it back. A find ends the whole walk, so that only a `Nothing` is noted.
-fn note(seen: &mut [u8], x: u32, f: FirstName) -> FirstName
-    ensures { λ r. ⌜ Noted (now (seen .entry)) x f (now (seen .exit)) r ⌝ }
+fn note(seen: &mut [u8], x: TermPlace, f: FirstName) -> FirstName
+    ensures { λ r. ⌜ Noted (now (seen .entry)) (x .0) f (now (seen .exit)) r ⌝ }
 {
-    let at = x as usize;
+    let at = x.0 as usize;
     match f {
         FirstName::Name(a) => FirstName::Name(a),
         FirstName::Nothing => {
@@ -124,10 +126,10 @@ fn from_term(
     sought: Sought,
     names: &[u8],
     seen: &mut [u8],
-    x: u32,
+    x: TermPlace,
 ) -> FirstName
     requires { ⌜ Tabled (now tags) (now values) (now names) sought × Right (now tags) (now values) (isSought (now tags) (now values) n (bindingsOf (now right)) sought) (now seen) ⌝ }
-    ensures { λ r. ⌜ Answered (now (tags .entry)) (now (values .entry)) (isSought (now (tags .entry)) (now (values .entry)) n (bindingsOf (now (right .entry))) sought) (now (seen .exit)) r (foundAt (now (tags .entry)) (now (values .entry)) (isSought (now (tags .entry)) (now (values .entry)) n (bindingsOf (now (right .entry))) sought) x) ⌝ }
+    ensures { λ r. ⌜ Answered (now (tags .entry)) (now (values .entry)) (isSought (now (tags .entry)) (now (values .entry)) n (bindingsOf (now (right .entry))) sought) (now (seen .exit)) r (foundAt (now (tags .entry)) (now (values .entry)) (isSought (now (tags .entry)) (now (values .entry)) n (bindingsOf (now (right .entry))) sought) (x .0)) ⌝ }
 {
     let step = look(tags, values, n, right, sought, names, seen, x);
     match step {
@@ -138,7 +140,7 @@ fn from_term(
             note(seen, x, f)
         }
         Step::Run => {
-            let run = operands(tags, values, TermPlace(x));
+            let run = operands(tags, values, x);
             let f = from_run(tags, values, n, right, sought, names, seen, x, run);
             note(seen, x, f)
         }
@@ -154,16 +156,25 @@ fn from_run(
     sought: Sought,
     names: &[u8],
     seen: &mut [u8],
-    x: u32,
+    x: TermPlace,
     run: &[u32],
 ) -> FirstName
-    requires { ⌜ Tabled (now tags) (now values) (now names) sought × Right (now tags) (now values) (isSought (now tags) (now values) n (bindingsOf (now right)) sought) (now seen) × (allBefore x (now run) ≡ true) ⌝ }
+    requires { ⌜ Tabled (now tags) (now values) (now names) sought × Right (now tags) (now values) (isSought (now tags) (now values) n (bindingsOf (now right)) sought) (now seen) × (allBefore (x .0) (now run) ≡ true) ⌝ }
     ensures { λ r. ⌜ Answered (now (tags .entry)) (now (values .entry)) (isSought (now (tags .entry)) (now (values .entry)) n (bindingsOf (now (right .entry))) sought) (now (seen .exit)) r (foundIn (now (tags .entry)) (now (values .entry)) (isSought (now (tags .entry)) (now (values .entry)) n (bindingsOf (now (right .entry))) sought) (now (run .entry))) ⌝ }
 {
     if run.len() == 0 {
         return FirstName::Nothing;
     }
-    let f = from_term(tags, values, n, right, sought, names, seen, run[0]);
+    let f = from_term(
+        tags,
+        values,
+        n,
+        right,
+        sought,
+        names,
+        seen,
+        TermPlace(run[0]),
+    );
     match f {
         FirstName::Name(a) => FirstName::Name(a),
         FirstName::Nothing => from_run(tags, values, n, right, sought, names, seen, x, &run[1..]),
@@ -176,7 +187,7 @@ fn mark_sought(tags: &[u32], values: &[u32], sought: Sought, names: &mut [u8])
 {
     match sought {
         Sought::Pair(_, _) => {}
-        Sought::Missing(t) => mark_names(tags, values, TermPlace(t), names),
+        Sought::Missing(t) => mark_names(tags, values, t, names),
     }
 }
 
@@ -185,21 +196,28 @@ pub fn first_taken(
     tags: &[u32],
     values: &[u32],
     n: usize,
-    x: u32,
+    x: TermPlace,
     right: &[u32],
     sought: Sought,
 ) -> FirstName
-    ensures { λ r. ⌜ r ≡ nameOf (firstOf (isSought (now (tags .entry)) (now (values .entry)) n (bindingsOf (now (right .entry))) sought) (taken bindingsOf (formAt (now (tags .entry)) (now (values .entry)) x))) ⌝ }
+    ensures { λ r. ⌜ r ≡ nameOf (firstOf (isSought (now (tags .entry)) (now (values .entry)) n (bindingsOf (now (right .entry))) sought) (taken bindingsOf (formAt (now (tags .entry)) (now (values .entry)) (x .0)))) ⌝ }
 {
-    let mut names = [0u8; 8192];
+    let mut names = [0u8; CELLS];
     mark_sought(tags, values, sought, &mut names);
-    let mut seen = [0u8; 8192];
+    let mut seen = [0u8; CELLS];
     from_term(tags, values, n, right, sought, &names, &mut seen, x)
 }
 
 // Whether neither the left list nor the variables taken out of the term at x have this pair.
-fn is_unbound(tags: &[u32], values: &[u32], x: u32, left: &[u32], name: u32, sort: u32) -> bool
-    ensures { λ r. ⌜ r ≡ not (has (bindingsOf (now (left .entry)) ++ taken bindingsOf (formAt (now (tags .entry)) (now (values .entry)) x)) (pair name sort)) ⌝ }
+fn is_unbound(
+    tags: &[u32],
+    values: &[u32],
+    x: TermPlace,
+    left: &[u32],
+    name: u32,
+    sort: SortPlace,
+) -> bool
+    ensures { λ r. ⌜ r ≡ not (has (bindingsOf (now (left .entry)) ++ taken bindingsOf (formAt (now (tags .entry)) (now (values .entry)) (x .0))) (pair name (sort .0))) ⌝ }
 {
     if has(left, name, sort) {
         return false;
@@ -216,15 +234,15 @@ fn is_unbound(tags: &[u32], values: &[u32], x: u32, left: &[u32], name: u32, sor
 pub(crate) fn first_unbound_by_walks(
     tags: &[u32],
     values: &[u32],
-    x: u32,
+    x: TermPlace,
     left: &[u32],
     right: &[u32],
 ) -> FirstName
-    ensures { λ r. ⌜ r ≡ nameOf (firstOf (λ a. not (has (bindingsOf (now (left .entry)) ++ taken bindingsOf (formAt (now (tags .entry)) (now (values .entry)) x)) a)) (bindingsOf (now (right .entry)))) ⌝ }
+    ensures { λ r. ⌜ r ≡ nameOf (firstOf (λ a. not (has (bindingsOf (now (left .entry)) ++ taken bindingsOf (formAt (now (tags .entry)) (now (values .entry)) (x .0))) a)) (bindingsOf (now (right .entry)))) ⌝ }
 {
     let mut i: usize = 0;
     while 2 <= right.len() - i {
-        if is_unbound(tags, values, x, left, right[i], right[i + 1]) {
+        if is_unbound(tags, values, x, left, right[i], SortPlace(right[i + 1])) {
             return FirstName::Name(right[i]);
         }
         i += 2;

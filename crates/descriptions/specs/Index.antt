@@ -8,6 +8,7 @@ use mathlib.Core.Bool.{Bool, cond}
 use mathlib.Core.List.{List, [], _∷_}
 use lib.ListN.{length, getD, set}
 use lib.Dec.{eqb}
+use Rattle.cells.specs.Limits.{cellLimit}
 use Rattle.cells.specs.Cell.{cellsOf, isAt}
 use Rattle.descriptions.specs.Description.{find, firstRepeat}
 use Rattle.headers.specs.WellFormed.{firstBad}
@@ -16,17 +17,21 @@ use Rattle.cells.specs.declared.Found.the-variants.{At, Nothing}
 use Rattle.descriptions.specs.declared.description.Added.{Added}
 use Rattle.descriptions.specs.declared.description.Added.the-variants.{There, New, Full}
 
+-- the number of buckets
+abbrev pub bucketCount : ℕ
+bucketCount = 4093
+
 -- the bucket of a description
 unfoldable pub hashFrom : ℕ → List ℕ → ℕ
 hashFrom h [] = h
-hashFrom h (x ∷ xs) = hashFrom ((h * 1021 + x % 4093) % 4093) xs
+hashFrom h (x ∷ xs) = hashFrom ((h * 1021 + x % bucketCount) % bucketCount) xs
 
 unfoldable pub bucketOf : ℕ → List ℕ → ℕ
-bucketOf tag cells = hashFrom (tag % 4093) cells
+bucketOf tag cells = hashFrom (tag % bucketCount) cells
 
 -- 1 + the last header in a bucket
 abbrev pub headOf : List ℕ → ℕ → ℕ
-headOf index b = getD index (8192 + b) 0
+headOf index b = getD index (cellLimit + b) 0
 
 -- 1 + the first header on the chain from c where the test holds, and `last` where it holds at none, among at most f headers
 unfoldable pub chainIn : List ℕ → (ℕ → Bool) → ℕ → ℕ → ℕ → ℕ
@@ -72,21 +77,21 @@ pub record Linked (tags values : List ℕ) (p i q : ℕ) : Type 0 where
 
 -- the index of the headers below p: it has of every description what the scan of them finds
 pub record Index (tags values : List ℕ) (p : ℕ) (index : List ℕ) : Type 0 where
-  pub size : length index ≡ 12288
+  pub size : length index ≡ (cellLimit + 4096)
   pub reached : Reached values p
   pub links-back : PointsBack index
   pub entry : (i q : ℕ) → getD index i 0 ≡ suc q → Within values p q
-  pub link : (i q : ℕ) → i < 8192 → getD index i 0 ≡ suc q → Linked tags values p i q
+  pub link : (i q : ℕ) → i < cellLimit → getD index i 0 ≡ suc q → Linked tags values p i q
   pub head : (b q : ℕ) → headOf index b ≡ suc q → bucketAt tags values q ≡ b
   pub holds : (tag : ℕ) (cells : List ℕ) → lookUp tags values index tag cells ≡ find tags values p tag cells
 
 -- the index with the header at p in front of the chain of bucket b
 unfoldable pub entered : List ℕ → ℕ → ℕ → List ℕ
-entered index p b = set (set index p (headOf index b)) (8192 + b) (p + 1)
+entered index p b = set (set index p (headOf index b)) (cellLimit + b) (p + 1)
 
 -- the index with the chain of bucket b without its first header, if that is p
 unfoldable pub unlinked : List ℕ → ℕ → ℕ → List ℕ
-unlinked index p b = cond (eqb (headOf index b) (p + 1)) (set index (8192 + b) (getD index p 0)) index
+unlinked index p b = cond (eqb (headOf index b) (p + 1)) (set index (cellLimit + b) (getD index p 0)) index
 
 -- the index without the header at p, which is the last one, of bucket b
 unfoldable pub without : List ℕ → ℕ → ℕ → List ℕ
@@ -96,11 +101,11 @@ without index p b = set (unlinked index p b) p 0
 pub record Earlier (values : List ℕ) (p m : ℕ) : Type 0 where
   pub reached : Reached values p
   pub before : p ≤ m
-  pub small : m ≤ 8192
+  pub small : m ≤ cellLimit
 
 -- after check 15: a well-formed pool without repeats is in the index
 pub record Indexes (tags values : List ℕ) (n : ℕ) (index : List ℕ) : Type 0 where
-  pub whole : n ≤ 8192 → firstBad tags values n ≡ Nothing → firstRepeat tags values n ≡ Nothing → Index tags values n index
+  pub whole : n ≤ cellLimit → firstBad tags values n ≡ Nothing → firstRepeat tags values n ≡ Nothing → Index tags values n index
 
 -- the count after adding to n cells
 abbrev pub countAfter : ℕ → Added → ℕ

@@ -1,10 +1,12 @@
 // An index of descriptions: the headers of each bucket in a chain, the last one first. It finds what a scan of the headers finds.
+ghost use Rattle.cells.specs.Limits.{cellLimit};
 use crate::adding::is_full;
 use crate::adding::put;
 use crate::description::Added;
 use crate::description::zero_from;
 use cells::Found;
 use cells::cell_comparison::is_at;
+use cells::limits::CELLS;
 use cells::run;
 ghost use mathlib.Core.Path.{_≡_};
 ghost use mathlib.Core.Bool.{cond};
@@ -12,17 +14,25 @@ ghost use Prim.Native.Nat.{_+_, _≤_, _<_};
 ghost use lib.ListN.{getD};
 ghost use Rattle.cells.specs.Cell.{isAt};
 ghost use Rattle.descriptions.specs.Description.{repeats, firstRepeat, Added-is};
-ghost use Rattle.descriptions.specs.Index.{bucketOf, headOf, onChain, asFound, PointsBack, Index, entered, without, Earlier, Indexes, countAfter};
+ghost use Rattle.descriptions.specs.Index.{bucketCount, bucketOf, headOf, onChain, asFound, PointsBack, Index, entered, without, Earlier, Indexes, countAfter};
+
+// The index: for each cell one more than the header before it in its chain, or 0; then the last header of each bucket, one more than it.
+pub const INDEX: usize = 12288;
+
+const HEADS: usize = CELLS;
+
+// A prime below 4,096.
+const BUCKETS: usize = 4093;
 
 // The bucket of a description.
 fn bucket(tag: u32, cells: &[u32]) -> usize
     ensures { λ r. ⌜ r ≡ bucketOf tag (now (cells .entry)) ⌝ }
-    ensures { λ r. ⌜ r < 4093 ⌝ }
+    ensures { λ r. ⌜ r < bucketCount ⌝ }
 {
-    let mut h = run::wide(tag) % 4093;
+    let mut h = run::wide(tag) % BUCKETS;
     let mut i: usize = 0;
     while i < cells.len() {
-        h = (h * 1021 + run::wide(cells[i]) % 4093) % 4093;
+        h = (h * 1021 + run::wide(cells[i]) % BUCKETS) % BUCKETS;
         i += 1;
     }
     h
@@ -40,7 +50,7 @@ fn latest(is_sought: bool, met: u32, last: u32) -> u32
 fn on_chain(
     tags: &[u32],
     values: &[u32],
-    index: &[u32; 12288],
+    index: &[u32; INDEX],
     head: u32,
     tag: u32,
     cells: &[u32],
@@ -62,16 +72,16 @@ fn on_chain(
 fn first_in(
     tags: &[u32],
     values: &[u32],
-    index: &[u32; 12288],
+    index: &[u32; INDEX],
     b: usize,
     tag: u32,
     cells: &[u32],
 ) -> Found
     requires { ⌜ PointsBack (now index) ⌝ }
-    requires { ⌜ b < 4093 ⌝ }
+    requires { ⌜ b < bucketCount ⌝ }
     ensures { λ r. ⌜ r ≡ asFound (onChain (now (index .entry)) (λ q. isAt (now (tags .entry)) (now (values .entry)) q tag (now (cells .entry))) (headOf (now (index .entry)) b) 0) ⌝ }
 {
-    let last = on_chain(tags, values, index, index[8192 + b], tag, cells);
+    let last = on_chain(tags, values, index, index[HEADS + b], tag, cells);
     if last == 0 {
         return Found::Nothing;
     }
@@ -79,20 +89,20 @@ fn first_in(
 }
 
 // Puts the header at p in front of the chain of bucket b.
-fn enter(index: &mut [u32; 12288], p: usize, b: usize)
-    requires { ⌜ p < 8192 ⌝ }
-    requires { ⌜ b < 4093 ⌝ }
+fn enter(index: &mut [u32; INDEX], p: usize, b: usize)
+    requires { ⌜ p < cellLimit ⌝ }
+    requires { ⌜ b < bucketCount ⌝ }
     ensures { λ _. ⌜ now (index .exit) ≡ entered (now (index .entry)) p b ⌝ }
 {
-    let last = index[8192 + b];
+    let last = index[HEADS + b];
     index[p] = last;
-    index[8192 + b] = (p as u32) + 1;
+    index[HEADS + b] = (p as u32) + 1;
 }
 
 // Whether the header at p repeats one below it; p goes into the index.
-fn enter_header(tags: &[u32], values: &[u32], p: usize, index: &mut [u32; 12288]) -> bool
+fn enter_header(tags: &[u32], values: &[u32], p: usize, index: &mut [u32; INDEX]) -> bool
     requires { ⌜ Index (now tags) (now values) p (now index) ⌝ }
-    requires { ⌜ p < 8192 ⌝ }
+    requires { ⌜ p < cellLimit ⌝ }
     ensures { λ r. ⌜ r ≡ repeats (now (tags .entry)) (now (values .entry)) p ⌝ }
     ensures { λ _. ⌜ Index (now (tags .entry)) (now (values .entry)) (p + (1 + getD (now (values .entry)) p 0)) (now (index .exit)) ⌝ }
 {
@@ -112,10 +122,10 @@ pub(crate) fn first_repeat(
     tags: &[u32],
     values: &[u32],
     n: usize,
-    index: &mut [u32; 12288],
+    index: &mut [u32; INDEX],
 ) -> Found
     requires { ⌜ Index (now tags) (now values) 0 (now index) ⌝ }
-    requires { ⌜ n ≤ 8192 ⌝ }
+    requires { ⌜ n ≤ cellLimit ⌝ }
     ensures { λ r. ⌜ r ≡ firstRepeat (now (tags .entry)) (now (values .entry)) n ⌝ }
     ensures { λ _. ⌜ Indexes (now (tags .entry)) (now (values .entry)) n (now (index .exit)) ⌝ }
 {
@@ -134,7 +144,7 @@ pub(crate) fn first_repeat(
 }
 
 // Makes the index of the headers below n anew.
-pub fn index_headers(tags: &[u32], values: &[u32], n: usize, index: &mut [u32; 12288])
+pub fn index_headers(tags: &[u32], values: &[u32], n: usize, index: &mut [u32; INDEX])
     requires { ⌜ Earlier (now values) n n ⌝ }
     ensures { λ _. ⌜ Index (now (tags .entry)) (now (values .entry)) n (now (index .exit)) ⌝ }
 {
@@ -148,22 +158,22 @@ pub fn index_headers(tags: &[u32], values: &[u32], n: usize, index: &mut [u32; 1
 }
 
 // Takes the header at p, the last one, of bucket b, out of the index.
-fn leave(index: &mut [u32; 12288], p: usize, b: usize)
-    requires { ⌜ p < 8192 ⌝ }
-    requires { ⌜ b < 4093 ⌝ }
+fn leave(index: &mut [u32; INDEX], p: usize, b: usize)
+    requires { ⌜ p < cellLimit ⌝ }
+    requires { ⌜ b < bucketCount ⌝ }
     ensures { λ _. ⌜ now (index .exit) ≡ without (now (index .entry)) p b ⌝ }
 {
-    if run::wide(index[8192 + b]) != p + 1 {
+    if run::wide(index[HEADS + b]) != p + 1 {
         index[p] = 0;
         return;
     }
     let last = index[p];
-    index[8192 + b] = last;
+    index[HEADS + b] = last;
     index[p] = 0;
 }
 
 // Takes the headers from p on out of an index of those below m, the last one first.
-pub fn forget(tags: &[u32], values: &[u32], index: &mut [u32; 12288], p: usize, m: usize)
+pub fn forget(tags: &[u32], values: &[u32], index: &mut [u32; INDEX], p: usize, m: usize)
     requires { ⌜ Index (now tags) (now values) m (now index) ⌝ }
     requires { ⌜ Earlier (now values) p m ⌝ }
     ensures { λ _. ⌜ Index (now (tags .entry)) (now (values .entry)) p (now (index .exit)) ⌝ }
@@ -177,18 +187,18 @@ pub fn forget(tags: &[u32], values: &[u32], index: &mut [u32; 12288], p: usize, 
     leave(index, p, b);
 }
 
-// Adds a description to the n cells in use, at most 8,192 of them, whose headers the index has: where it stands already,
+// Adds a description to the n cells in use, at most `CELLS` of them, whose headers the index has: where it stands already,
 // nothing changes.
 pub fn add(
     tags: &mut [u32],
     values: &mut [u32],
-    index: &mut [u32; 12288],
+    index: &mut [u32; INDEX],
     n: usize,
     tag: u32,
     cells: &[u32],
 ) -> Added
     requires { ⌜ Index (now tags) (now values) n (now index) ⌝ }
-    ensures { λ r. ⌜ Added-is (now (tags .entry)) (now (values .entry)) 8192 n tag (now (cells .entry)) r (now (tags .exit)) (now (values .exit)) ⌝ }
+    ensures { λ r. ⌜ Added-is (now (tags .entry)) (now (values .entry)) cellLimit n tag (now (cells .entry)) r (now (tags .exit)) (now (values .exit)) ⌝ }
     ensures { λ r. ⌜ Index (now (tags .exit)) (now (values .exit)) (countAfter n r) (now (index .exit)) ⌝ }
 {
     let b = bucket(tag, cells);
@@ -196,7 +206,7 @@ pub fn add(
     match there {
         Found::At(p) => Added::There(p),
         Found::Nothing => {
-            if is_full(tags, values, 8192, n, cells.len()) {
+            if is_full(tags, values, CELLS, n, cells.len()) {
                 return Added::Full;
             }
             let end = put(tags, values, n, tag, cells);

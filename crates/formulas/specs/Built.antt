@@ -9,12 +9,13 @@ use lib.ListN.{length, getD, drop, replicate}
 use lib.Dec.{eqb, ltb}
 use Rattle.cells.specs.Cell.{operandsOf}
 use Rattle.cells.specs.ByPlace.{byPlace}
+use Rattle.cells.specs.Place.{termAt}
 use Rattle.descriptions.specs.Description.{find}
 use Rattle.cells.specs.declared.Found.{Found}
 use Rattle.cells.specs.declared.Found.the-variants.{At, Nothing}
 use Rattle.formulas.specs.declared.view.NormalView.{NormalView}
 use Rattle.formulas.specs.declared.view.NormalView.the-variants.{Literal, Connective, Forall}
-use Rattle.formulas.specs.Formula.{form, allBefore}
+use Rattle.formulas.specs.Formula.{connectiveTag, quantifierTag, form, allBefore}
 use Rattle.formulas.specs.Normal.{Normal, Normals, lit, nmany, nall, nnil, ncons, nnf, prenex, taken}
 use Rattle.formulas.specs.Clauses.{cnf}
 
@@ -46,22 +47,13 @@ placeAt q tag cells Nothing = record { pool = extend q tag cells; place = count 
 unfoldable pub put : Pool → ℕ → List ℕ → Placed
 put q tag cells = placeAt q tag cells (find (q .tags) (q .values) (count q) tag cells)
 
--- the tags of `and` and `or`, of forall and exists
-abbrev pub tagOfMany : Bool → ℕ
-tagOfMany true = 36
-tagOfMany false = 37
-
-abbrev pub tagOfQuantifier : Bool → ℕ
-tagOfQuantifier true = 23
-tagOfQuantifier false = 24
-
 -- a form over places is put into a pool, its operands first, left to right; the first cell 0 is the sort Bool
 unfoldable mutual
   pub intern : Normal (List ℕ) ℕ → Pool → Placed
   intern (lit true x) q = record { pool = q; place = x }
   intern (lit false x) q = put q 34 (0 ∷ x ∷ [])
-  intern (nmany b ns) q = let r = interns ns q in put (r .pool) (tagOfMany b) (0 ∷ r .places)
-  intern (nall b vs n) q = let r = intern n q in put (r .pool) (tagOfQuantifier b) (0 ∷ r .place ∷ vs)
+  intern (nmany b ns) q = let r = interns ns q in put (r .pool) (connectiveTag b) (0 ∷ r .places)
+  intern (nall b vs n) q = let r = intern n q in put (r .pool) (quantifierTag b) (0 ∷ r .place ∷ vs)
 
   pub interns : Normals (List ℕ) ℕ → Pool → PlacedAll
   interns nnil q = record { pool = q; places = [] }
@@ -78,7 +70,7 @@ normalForm q t polarity = intern (nnf (form (q .tags) (q .values) t) polarity) q
 unfoldable pub normalView : List ℕ → List ℕ → ℕ → NormalView
 normalView tags values x =
     cond (eqb (getD tags x 0) 23)
-    (cond (ltb (getD (operandsOf tags values x) 0 0) x) (Forall (getD (operandsOf tags values x) 0 0)) Literal)
+    (cond (ltb (getD (operandsOf tags values x) 0 0) x) (Forall (termAt (getD (operandsOf tags values x) 0 0))) Literal)
     (cond (allBefore x (operandsOf tags values x))
     (cond (eqb (getD tags x 0) 36) (Connective true) (cond (eqb (getD tags x 0) 37) (Connective false) Literal))
     Literal)
@@ -90,7 +82,7 @@ normalsOf f (u ∷ us) = ncons (f u) (normalsOf f us)
 unfoldable pub normalBy : NormalView → ℕ → List ℕ → (ℕ → Normal (List ℕ) ℕ) → Normal (List ℕ) ℕ
 normalBy Literal x run rec = lit true x
 normalBy (Connective b) x run rec = nmany b (normalsOf rec run)
-normalBy (Forall body) x run rec = nall true (drop 1 run) (rec body)
+normalBy (Forall body) x run rec = nall true (drop 1 run) (rec (body .0))
 
 unfoldable pub normalAt : Pool → ℕ → Normal (List ℕ) ℕ
 normalAt q x =

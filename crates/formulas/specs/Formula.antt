@@ -9,8 +9,9 @@ use lib.ListN.{length, getD, drop}
 use lib.Dec.{ltb, eqb}
 use Rattle.cells.specs.Cell.{sortOf, operandsOf}
 use Rattle.cells.specs.ByPlace.{byPlace}
+use Rattle.cells.specs.Place.{termAt}
 use Rattle.formulas.specs.declared.view.View.{View}
-use Rattle.formulas.specs.declared.view.View.the-variants.{Opaque, Not, Many, Implies, Ite, Iff, Quantifier}
+use Rattle.formulas.specs.declared.view.View.the-variants.{Opaque, Not, AndOr, Implies, Ite, Iff, Quantifier}
 
 -- over leaves L, the opaque terms, and binding lists B: places and cells of a pool, or trees and variables
 mutual
@@ -27,6 +28,15 @@ mutual
     fnil : Forms B L
     fcons : Form B L → Forms B L → Forms B L
 
+-- the tags of `and` (true) and `or`, of forall (true) and exists
+abbrev pub connectiveTag : Bool → ℕ
+connectiveTag true = 36
+connectiveTag false = 37
+
+abbrev pub quantifierTag : Bool → ℕ
+quantifierTag true = 23
+quantifierTag false = 24
+
 -- every operand stands before t, as it does in a checked pool
 unfoldable pub allBefore : ℕ → List ℕ → Bool
 allBefore t [] = true
@@ -36,23 +46,23 @@ allBefore t (u ∷ us) = ltb u t && allBefore t us
 unfoldable pub equality : List ℕ → List ℕ → View
 equality values os =
     cond (eqb (length os) 2)
-    (cond (eqb (sortOf values (getD os 0 0)) 0) (Iff (getD os 0 0) (getD os 1 0)) Opaque)
+    (cond (eqb (sortOf values (getD os 0 0)) 0) (Iff (termAt (getD os 0 0)) (termAt (getD os 1 0))) Opaque)
     Opaque
 
 -- an operator's term, by its tag and its operands; values gives the operands' sorts
 unfoldable pub connective : List ℕ → ℕ → List ℕ → View
 connective values tag os =
-    cond (eqb tag 36) (Many true)
-    (cond (eqb tag 37) (Many false)
+    cond (eqb tag 36) (AndOr true)
+    (cond (eqb tag 37) (AndOr false)
     (cond (eqb tag 39) (equality values os)
-    (cond (eqb tag 34) (cond (eqb (length os) 1) (Not (getD os 0 0)) Opaque)
-    (cond (eqb tag 35) (cond (eqb (length os) 2) (Implies (getD os 0 0) (getD os 1 0)) Opaque)
-    (cond (eqb tag 41) (cond (eqb (length os) 3) (Ite (getD os 0 0) (getD os 1 0) (getD os 2 0)) Opaque)
+    (cond (eqb tag 34) (cond (eqb (length os) 1) (Not (termAt (getD os 0 0))) Opaque)
+    (cond (eqb tag 35) (cond (eqb (length os) 2) (Implies (termAt (getD os 0 0)) (termAt (getD os 1 0))) Opaque)
+    (cond (eqb tag 41) (cond (eqb (length os) 3) (Ite (termAt (getD os 0 0)) (termAt (getD os 1 0)) (termAt (getD os 2 0))) Opaque)
     Opaque)))))
 
 -- a quantifier's term, by its tag and its body
 unfoldable pub quantifier : ℕ → ℕ → View
-quantifier tag body = cond (eqb tag 23) (Quantifier true body) (cond (eqb tag 24) (Quantifier false body) Opaque)
+quantifier tag body = cond (eqb tag 23) (Quantifier true (termAt body)) (cond (eqb tag 24) (Quantifier false (termAt body)) Opaque)
 
 -- how the term at t is read
 unfoldable pub viewOf : List ℕ → List ℕ → ℕ → View
@@ -68,12 +78,12 @@ formsOf f (u ∷ us) = fcons (f u) (formsOf f us)
 -- a term's formula from how it is read, its operand run and the formulas of the terms before it; bindings are a quantifier's cells
 unfoldable pub formBy : View → ℕ → List ℕ → (ℕ → Form (List ℕ) ℕ) → Form (List ℕ) ℕ
 formBy Opaque t run rec = opaque t
-formBy (Not a) t run rec = neg (rec a)
-formBy (Many b) t run rec = many b (formsOf rec run)
-formBy (Implies a b) t run rec = imp (rec a) (rec b)
-formBy (Ite a b c) t run rec = ite (rec a) (rec b) (rec c)
-formBy (Iff a b) t run rec = iff (rec a) (rec b)
-formBy (Quantifier b body) t run rec = all b (drop 1 run) (rec body)
+formBy (Not a) t run rec = neg (rec (a .0))
+formBy (AndOr b) t run rec = many b (formsOf rec run)
+formBy (Implies a b) t run rec = imp (rec (a .0)) (rec (b .0))
+formBy (Ite a b c) t run rec = ite (rec (a .0)) (rec (b .0)) (rec (c .0))
+formBy (Iff a b) t run rec = iff (rec (a .0)) (rec (b .0))
+formBy (Quantifier b body) t run rec = all b (drop 1 run) (rec (body .0))
 
 -- the formula of the term at t, over places and cells
 unfoldable pub form : List ℕ → List ℕ → ℕ → Form (List ℕ) ℕ

@@ -25,11 +25,6 @@ quantifier tags values x =
     (cond (eqb (getD tags x 0) 24) (some (quantifierOf false (operandsOf tags values x)))
     none)
 
--- the quantifiers' tags
-abbrev pub tagOf : Bool → ℕ
-tagOf true = 23
-tagOf false = 24
-
 -- the operands of a term with this tag
 unfoldable pub operator : List ℕ → List ℕ → ℕ → ℕ → Option (List ℕ)
 operator tags values tag x = cond (eqb (getD tags x 0) tag) (some (operandsOf tags values x)) none

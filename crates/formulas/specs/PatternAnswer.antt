@@ -1,4 +1,4 @@
--- What the answers of `form` say: each enum's value as the form that it stands for.
+-- What the answers of `matching` say: each enum's value as the pattern that it stands for.
 -- Rests on Binding and Form, and on the enums of `form`.
 use Prim.Native.Nat.{ℕ}
 use mathlib.Core.Bool.{Bool}
@@ -25,17 +25,17 @@ abbrev pub withList : Bool → List Binding → ℕ → Quantifier
 withList kind list body = record { kind = kind; list = list; body = body }
 
 unfoldable pub quantifierIn : List Binding → Quantified → Option Quantifier
-quantifierIn list (quantified.Is kind body) = some (withList kind list body)
+quantifierIn list (quantified.Is kind body) = some (withList kind list (body .0))
 quantifierIn list quantified.Not = none
 
 unfoldable pub oneIn : One → Option ℕ
-oneIn (one.Is a) = some a
+oneIn (one.Is a) = some (a .0)
 oneIn one.Not = none
 
 unfoldable pub twoIn : Two → Option (ℕ × ℕ)
-twoIn (two.Are a b) = some (a, b)
+twoIn (two.Are a b) = some (a .0, b .0)
 twoIn two.Not = none
 
 unfoldable pub threeIn : Three → Option (ℕ × ℕ × ℕ)
-threeIn (three.Are a b c) = some (a, b, c)
+threeIn (three.Are a b c) = some (a .0, b .0, c .0)
 threeIn three.Not = none

@@ -3,35 +3,64 @@ use pool::TermPlace;
 use pool::run::cell;
 use pool::run::operands;
 use pool::run::sort_of;
+use pool::tags::AND;
+use pool::tags::EQUALS;
+use pool::tags::EXISTS;
+use pool::tags::FORALL;
+use pool::tags::IMPLIES;
+use pool::tags::ITE;
+use pool::tags::NOT;
+use pool::tags::OR;
+use pool::tags::TRUE;
 ghost use mathlib.Core.Path.{_≡_};
-ghost use Rattle.formulas.specs.Formula.{allBefore, equality, connective, quantifier, viewOf};
+ghost use Rattle.formulas.specs.Formula.{connectiveTag, quantifierTag, allBefore, equality, connective, quantifier, viewOf};
 ghost use Rattle.formulas.specs.Built.{normalView};
 
-// A term of a formula. Its operands stand before it.
+// A term of a formula: `and` (true) or `or`, forall (true) or exists. Its operands stand before it.
 pub enum View {
     Opaque,
-    Not(u32),
-    Many(bool),
-    Implies(u32, u32),
-    Ite(u32, u32, u32),
-    Iff(u32, u32),
-    Quantifier(bool, u32),
+    Not(TermPlace),
+    AndOr(bool),
+    Implies(TermPlace, TermPlace),
+    Ite(TermPlace, TermPlace, TermPlace),
+    Iff(TermPlace, TermPlace),
+    Quantifier(bool, TermPlace),
 }
 
 // A term in negation normal form, as the taken-out form and the clauses read it.
 pub enum NormalView {
     Literal,
     Connective(bool),
-    Forall(u32),
+    Forall(TermPlace),
+}
+
+// The tag of `and` (true) or `or`.
+pub fn connective_tag(b: bool) -> u32
+    ensures { λ r. ⌜ r ≡ connectiveTag b ⌝ }
+{
+    if b {
+        return AND;
+    }
+    OR
+}
+
+// The tag of forall (true) or exists.
+pub fn quantifier_tag(b: bool) -> u32
+    ensures { λ r. ⌜ r ≡ quantifierTag b ⌝ }
+{
+    if b {
+        return FORALL;
+    }
+    EXISTS
 }
 
 // Whether every operand of the run stands before t.
-fn all_before(t: u32, os: &[u32]) -> bool
-    ensures { λ r. ⌜ r ≡ allBefore t (now (os .entry)) ⌝ }
+fn all_before(t: TermPlace, os: &[u32]) -> bool
+    ensures { λ r. ⌜ r ≡ allBefore (t .0) (now (os .entry)) ⌝ }
 {
     let mut i: usize = 0;
     while i < os.len() {
-        if t <= os[i] {
+        if t.0 <= os[i] {
             return false;
         }
         i += 1;
@@ -46,55 +75,55 @@ fn equality(values: &[u32], os: &[u32]) -> View
     if os.len() != 2 {
         return View::Opaque;
     }
-    let left = os[0];
-    let sort = sort_of(values, TermPlace(left));
+    let left = TermPlace(os[0]);
+    let sort = sort_of(values, left);
     if sort.0 != 0 {
         return View::Opaque;
     }
-    View::Iff(left, os[1])
+    View::Iff(left, TermPlace(os[1]))
 }
 
 // An operator's term, by its tag and its operands.
 fn connective(values: &[u32], tag: u32, os: &[u32]) -> View
     ensures { λ r. ⌜ r ≡ connective (now (values .entry)) tag (now (os .entry)) ⌝ }
 {
-    if tag == 36 {
-        return View::Many(true);
+    if tag == AND {
+        return View::AndOr(true);
     }
-    if tag == 37 {
-        return View::Many(false);
+    if tag == OR {
+        return View::AndOr(false);
     }
-    if tag == 39 {
+    if tag == EQUALS {
         return equality(values, os);
     }
-    if tag == 34 {
+    if tag == NOT {
         if os.len() != 1 {
             return View::Opaque;
         }
-        return View::Not(os[0]);
+        return View::Not(TermPlace(os[0]));
     }
-    if tag == 35 {
+    if tag == IMPLIES {
         if os.len() != 2 {
             return View::Opaque;
         }
-        return View::Implies(os[0], os[1]);
+        return View::Implies(TermPlace(os[0]), TermPlace(os[1]));
     }
-    if tag == 41 {
+    if tag == ITE {
         if os.len() != 3 {
             return View::Opaque;
         }
-        return View::Ite(os[0], os[1], os[2]);
+        return View::Ite(TermPlace(os[0]), TermPlace(os[1]), TermPlace(os[2]));
     }
     View::Opaque
 }
 
 // A quantifier's term, by its tag and its body.
-fn quantifier(tag: u32, body: u32) -> View
-    ensures { λ r. ⌜ r ≡ quantifier tag body ⌝ }
+fn quantifier(tag: u32, body: TermPlace) -> View
+    ensures { λ r. ⌜ r ≡ quantifier tag (body .0) ⌝ }
 {
     match tag {
-        23 => View::Quantifier(true, body),
-        24 => View::Quantifier(false, body),
+        FORALL => View::Quantifier(true, body),
+        EXISTS => View::Quantifier(false, body),
         _ => View::Opaque,
     }
 }
@@ -106,14 +135,14 @@ pub fn view_of(tags: &[u32], values: &[u32], t: TermPlace) -> View
     let at = t.0 as usize;
     let tag = cell(tags, at);
     let run = operands(tags, values, t);
-    if tag < 32 {
-        let body = cell(run, 0);
-        if t.0 <= body {
+    if tag < TRUE {
+        let body = TermPlace(cell(run, 0));
+        if t.0 <= body.0 {
             return View::Opaque;
         }
         return quantifier(tag, body);
     }
-    if !all_before(t.0, run) {
+    if !all_before(t, run) {
         return View::Opaque;
     }
     connective(values, tag, run)
@@ -126,20 +155,20 @@ pub fn normal_view(tags: &[u32], values: &[u32], x: TermPlace) -> NormalView
     let at = x.0 as usize;
     let tag = cell(tags, at);
     let run = operands(tags, values, x);
-    if tag == 23 {
-        let body = cell(run, 0);
-        if x.0 <= body {
+    if tag == FORALL {
+        let body = TermPlace(cell(run, 0));
+        if x.0 <= body.0 {
             return NormalView::Literal;
         }
         return NormalView::Forall(body);
     }
-    if !all_before(x.0, run) {
+    if !all_before(x, run) {
         return NormalView::Literal;
     }
-    if tag == 36 {
+    if tag == AND {
         return NormalView::Connective(true);
     }
-    if tag == 37 {
+    if tag == OR {
         return NormalView::Connective(false);
     }
     NormalView::Literal

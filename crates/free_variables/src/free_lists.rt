@@ -6,7 +6,9 @@ use crate::term_names::mark_names;
 use crate::term_names::may_be_free;
 use bindings::binding::FirstName;
 use bindings::binding::has;
+use cells::SortPlace;
 use cells::TermPlace;
+use cells::limits::CELLS;
 ghost use mathlib.Core.Path.{_≡_};
 ghost use mathlib.Core.Bool.{not, _&&_};
 ghost use lib.ListN.{take};
@@ -17,8 +19,8 @@ ghost use Rattle.bindings.specs.BindingAnswer.{pair, nameOf};
 ghost use Rattle.free_variables.specs.FreeLists.{isMarked, firstMarked, isMissing};
 
 // Whether the mask's lowest bit is set and a list lacks this pair.
-fn is_marked(mask: u32, other: &[u32], name: u32, sort: u32) -> bool
-    ensures { λ r. ⌜ r ≡ isMarked (bindingsOf (now (other .entry))) mask (pair name sort) ⌝ }
+fn is_marked(mask: u32, other: &[u32], name: u32, sort: SortPlace) -> bool
+    ensures { λ r. ⌜ r ≡ isMarked (bindingsOf (now (other .entry))) mask (pair name (sort .0)) ⌝ }
 {
     if mask % 2 == 0 {
         return false;
@@ -33,7 +35,7 @@ fn first_marked(list: &[u32], mask: u32, other: &[u32]) -> FirstName
     let mut i: usize = 0;
     let mut m = mask;
     while 2 <= list.len() - i {
-        if is_marked(m, other, list[i], list[i + 1]) {
+        if is_marked(m, other, list[i], SortPlace(list[i + 1])) {
             return FirstName::Name(list[i]);
         }
         m = m / 2;
@@ -47,19 +49,19 @@ fn first_in_group(
     tags: &[u32],
     values: &[u32],
     n: usize,
-    t: u32,
+    t: TermPlace,
     list: &[u32],
     other: &[u32],
 ) -> FirstName
-    ensures { λ r. ⌜ r ≡ nameOf (firstOf (isMissing (now (tags .entry)) (now (values .entry)) n t (bindingsOf (now (other .entry)))) (bindingsOf (take 62 (now (list .entry))))) ⌝ }
+    ensures { λ r. ⌜ r ≡ nameOf (firstOf (isMissing (now (tags .entry)) (now (values .entry)) n (t .0) (bindingsOf (now (other .entry)))) (bindingsOf (take 62 (now (list .entry))))) ⌝ }
 {
-    let mask = free_mask(tags, values, n, TermPlace(t), list);
+    let mask = free_mask(tags, values, n, t, list);
     first_marked(group(list), mask, other)
 }
 
 // Whether a list lacks this pair and, by the table of the term's names, its variable may be free.
-fn may_be_missing(names: &[u8], other: &[u32], name: u32, sort: u32) -> bool
-    ensures { λ r. ⌜ r ≡ (not (has (bindingsOf (now (other .entry))) (pair name sort)) && mayBeFree (now (names .entry)) name sort) ⌝ }
+fn may_be_missing(names: &[u8], other: &[u32], name: u32, sort: SortPlace) -> bool
+    ensures { λ r. ⌜ r ≡ (not (has (bindingsOf (now (other .entry))) (pair name (sort .0))) && mayBeFree (now (names .entry)) name (sort .0)) ⌝ }
 {
     if !may_be_free(names, name, sort) {
         return false;
@@ -73,16 +75,16 @@ pub fn first_missing_by(
     values: &[u32],
     n: usize,
     names: &[u8],
-    t: u32,
+    t: TermPlace,
     list: &[u32],
     other: &[u32],
 ) -> FirstName
-    requires { ⌜ Listed (now tags) (now values) (now names) (freeIn (now tags) (now values) t) ⌝ }
-    ensures { λ r. ⌜ r ≡ nameOf (firstOf (isMissing (now (tags .entry)) (now (values .entry)) n t (bindingsOf (now (other .entry)))) (bindingsOf (now (list .entry)))) ⌝ }
+    requires { ⌜ Listed (now tags) (now values) (now names) (freeIn (now tags) (now values) (t .0)) ⌝ }
+    ensures { λ r. ⌜ r ≡ nameOf (firstOf (isMissing (now (tags .entry)) (now (values .entry)) n (t .0) (bindingsOf (now (other .entry)))) (bindingsOf (now (list .entry)))) ⌝ }
 {
     let mut i: usize = 0;
     while 2 <= list.len() - i {
-        if may_be_missing(names, other, list[i], list[i + 1]) {
+        if may_be_missing(names, other, list[i], SortPlace(list[i + 1])) {
             let rest = &list[i..];
             let found = first_in_group(tags, values, n, t, rest, other);
             if let FirstName::Name(name) = found {
@@ -101,20 +103,20 @@ pub fn first_missing(
     tags: &[u32],
     values: &[u32],
     n: usize,
-    t: u32,
+    t: TermPlace,
     list: &[u32],
     other: &[u32],
 ) -> FirstName
-    ensures { λ r. ⌜ r ≡ nameOf (firstOf (λ a. not (has (bindingsOf (now (other .entry))) a) && bindingFree (now (tags .entry)) (now (values .entry)) n t a) (bindingsOf (now (list .entry)))) ⌝ }
+    ensures { λ r. ⌜ r ≡ nameOf (firstOf (λ a. not (has (bindingsOf (now (other .entry))) a) && bindingFree (now (tags .entry)) (now (values .entry)) n (t .0) a) (bindingsOf (now (list .entry)))) ⌝ }
 {
-    let mut names = [0u8; 8192];
-    mark_names(tags, values, TermPlace(t), &mut names);
+    let mut names = [0u8; CELLS];
+    mark_names(tags, values, t, &mut names);
     first_missing_by(tags, values, n, &names, t, list, other)
 }
 
 // The first pair of a list whose variable is free in the term at t.
-pub fn first_free(tags: &[u32], values: &[u32], n: usize, t: u32, list: &[u32]) -> FirstName
-    ensures { λ r. ⌜ r ≡ nameOf (firstOf (bindingFree (now (tags .entry)) (now (values .entry)) n t) (bindingsOf (now (list .entry)))) ⌝ }
+pub fn first_free(tags: &[u32], values: &[u32], n: usize, t: TermPlace, list: &[u32]) -> FirstName
+    ensures { λ r. ⌜ r ≡ nameOf (firstOf (bindingFree (now (tags .entry)) (now (values .entry)) n (t .0)) (bindingsOf (now (list .entry)))) ⌝ }
 {
     first_missing(tags, values, n, t, list, &list[..0])
 }

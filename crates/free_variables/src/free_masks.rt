@@ -6,10 +6,14 @@ use crate::term_names::Below;
 use crate::term_names::below_at;
 use bindings::binding::same_pair;
 use cells::Found;
+use cells::SortPlace;
 use cells::TermPlace;
+use cells::limits::CELLS;
 use cells::run::cell;
 use cells::run::operands;
 use cells::run::sort_of;
+use cells::tags::LET;
+use cells::tags::VARIABLE;
 use descriptions::description::find;
 ghost use mathlib.Core.Path.{_≡_};
 ghost use mathlib.Core.Bool.{true, false};
@@ -22,16 +26,19 @@ ghost use Rattle.free_variables.specs.Free.{letValues};
 ghost use Rattle.free_variables.specs.Mask.{maskOf, without, boundIn};
 ghost use Rattle.free_variables.specs.MaskWalk.{maskAmong, Right, Walked, Noted};
 
+// The cells of 31 pairs: a mask plus 1 fits u32.
+const GROUP: usize = 62;
+
 // The pairs of a list that are this name with this sort.
-fn equal_pairs(list: &[u32], name: u32, sort: u32) -> u32
+fn equal_pairs(list: &[u32], name: u32, sort: SortPlace) -> u32
     requires { ⌜ length (now list) ≤ 62 ⌝ }
-    ensures { λ r. ⌜ r ≡ maskOf (same (pair name sort)) (bindingsOf (now (list .entry))) ⌝ }
+    ensures { λ r. ⌜ r ≡ maskOf (same (pair name (sort .0))) (bindingsOf (now (list .entry))) ⌝ }
 {
     if list.len() < 2 {
         return 0;
     }
     let rest = equal_pairs(&list[2..], name, sort);
-    if same_pair(name, sort, list[0], list[1]) {
+    if same_pair(name, sort, list[0], SortPlace(list[1])) {
         return rest * 2 + 1;
     }
     rest * 2
@@ -45,13 +52,13 @@ fn variable_mask(tags: &[u32], values: &[u32], n: usize, list: &[u32], t: TermPl
 {
     let at = t.0 as usize;
     let name = cell(values, at + 2);
-    let sort = sort_of(values, t).0;
+    let sort = sort_of(values, t);
     let mask = equal_pairs(list, name, sort);
     if mask == 0 {
         return 0;
     }
-    let cells = [sort, name];
-    let Found::At(v) = find(tags, values, n, 21, &cells) else {
+    let cells = [sort.0, name];
+    let Found::At(v) = find(tags, values, n, VARIABLE, &cells) else {
         return 0;
     };
     if v == at {
@@ -71,7 +78,7 @@ fn unbound_pairs(values: &[u32], lets: bool, run: &[u32], list: &[u32], mask: u3
     if mask % 2 == 0 {
         return rest * 2;
     }
-    if has_pair(values, lets, list[0], list[1], run) {
+    if has_pair(values, lets, list[0], SortPlace(list[1]), run) {
         return rest * 2;
     }
     rest * 2 + 1
@@ -115,7 +122,7 @@ fn mask_of_term(
         Below::Body(u) => {
             let inside = mask_of_term(tags, values, n, list, memo, u);
             let run = operands(tags, values, t);
-            let lets = cell(tags, at) == 27;
+            let lets = cell(tags, at) == LET;
             note_mask(memo, t, unbound_pairs(values, lets, run, list, inside))
         }
         Below::Run => {
@@ -132,7 +139,7 @@ fn mask_of_term(
             let run = operands(tags, values, t);
             let among = mask_of_values(tags, values, n, list, memo, t, run);
             let inside = mask_of_term(tags, values, n, list, memo, u);
-            let lets = cell(tags, at) == 27;
+            let lets = cell(tags, at) == LET;
             let rest = unbound_pairs(values, lets, run, list, inside);
             note_mask(memo, t, among | rest)
         }
@@ -196,16 +203,16 @@ fn mask_of_values(
 pub fn group(list: &[u32]) -> &[u32]
     ensures { λ r. ⌜ now r ≡ take 62 (now (list .entry)) ⌝ }
 {
-    if list.len() < 62 {
+    if list.len() < GROUP {
         return list;
     }
-    &list[..62]
+    &list[..GROUP]
 }
 
 // The pairs among the first 31 of a list that are free in the term at t.
 pub fn free_mask(tags: &[u32], values: &[u32], n: usize, t: TermPlace, list: &[u32]) -> u32
     ensures { λ r. ⌜ r ≡ maskOf (bindingFree (now (tags .entry)) (now (values .entry)) n (t .0)) (bindingsOf (take 62 (now (list .entry)))) ⌝ }
 {
-    let mut memo = [0u32; 8192];
+    let mut memo = [0u32; CELLS];
     mask_of_term(tags, values, n, group(list), &mut memo, t)
 }

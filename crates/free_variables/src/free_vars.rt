@@ -1,32 +1,39 @@
 // Free variables, after `compute_free_vars`, but that a let's values count. A memo, a byte for each place, keeps the answers for
 // one variable, so that its walk takes time linear in the pool however terms are shared. A place past the memo's end is walked anew.
+use cells::SortPlace;
 use cells::TermPlace;
+use cells::limits::CELLS;
 use cells::marks::mark_at;
 use cells::marks::note_no;
 use cells::run::cell;
 use cells::run::operands;
 use cells::run::sort_of;
+use cells::tags::APPLICATION;
+use cells::tags::BINDERS_END;
+use cells::tags::FORALL;
+use cells::tags::LET;
+use cells::tags::VARIABLE;
 ghost use mathlib.Core.Path.{_≡_};
 ghost use lib.ListN.{length, drop};
 ghost use Rattle.free_variables.specs.Free.{pairIn, anyOf, letValues, isFree, markOf, Marked};
 ghost use Rattle.free_variables.specs.FreeMemo.{pairSort, isPair, pairsBind, freeBelow, Means, Right, Answered};
 
 // Whether the pair a, b is this name with this sort. A let's pair (`lets`) holds a value of that sort, a binder's the sort.
-fn is_pair(values: &[u32], lets: bool, name: u32, sort: u32, a: u32, b: u32) -> bool
-    ensures { λ r. ⌜ r ≡ isPair (now (values .entry)) lets name sort a b ⌝ }
+fn is_pair(values: &[u32], lets: bool, name: u32, sort: SortPlace, a: u32, b: u32) -> bool
+    ensures { λ r. ⌜ r ≡ isPair (now (values .entry)) lets name (sort .0) a b ⌝ }
 {
     if a != name {
         return false;
     }
     if lets {
-        return sort_of(values, TermPlace(b)).0 == sort;
+        return sort_of(values, TermPlace(b)).0 == sort.0;
     }
-    b == sort
+    b == sort.0
 }
 
 // Whether the pairs of a run, after its body, have this name with this sort.
-pub fn has_pair(values: &[u32], lets: bool, name: u32, sort: u32, run: &[u32]) -> bool
-    ensures { λ r. ⌜ r ≡ pairIn (pairSort (now (values .entry)) lets) name sort (drop 1 (now (run .entry))) ⌝ }
+pub fn has_pair(values: &[u32], lets: bool, name: u32, sort: SortPlace, run: &[u32]) -> bool
+    ensures { λ r. ⌜ r ≡ pairIn (pairSort (now (values .entry)) lets) name (sort .0) (drop 1 (now (run .entry))) ⌝ }
 {
     let mut i: usize = 1;
     while i < run.len() {
@@ -46,13 +53,7 @@ fn pairs_bind(values: &[u32], lets: bool, v: TermPlace, run: &[u32]) -> bool
     ensures { λ r. ⌜ r ≡ pairsBind (now (values .entry)) lets (v .0) (now (run .entry)) ⌝ }
 {
     let at = v.0 as usize;
-    has_pair(
-        values,
-        lets,
-        cell(values, at + 2),
-        sort_of(values, v).0,
-        run,
-    )
+    has_pair(values, lets, cell(values, at + 2), sort_of(values, v), run)
 }
 
 // What the walk finds at a term: the answer, or that it is the body's, or that of a term of the operand run, or that of a
@@ -72,24 +73,24 @@ fn look(tags: &[u32], values: &[u32], memo: &[u8], v: TermPlace, t: TermPlace) -
     ensures { λ r. ⌜ Means (now (tags .entry)) (now (values .entry)) (v .0) (t .0) r ⌝ }
 {
     let at = t.0 as usize;
-    if mark_at(memo, t.0) == 1 {
+    if mark_at(memo, t) == 1 {
         return Step::No;
     }
     if t.0 == v.0 {
         return Step::Yes;
     }
     let tag = cell(tags, at);
-    if tag < 22 {
+    if tag < APPLICATION {
         return Step::No;
     }
-    if tag < 23 {
+    if tag < FORALL {
         return Step::Run;
     }
-    if 28 <= tag {
+    if BINDERS_END <= tag {
         return Step::Run;
     }
     let run = operands(tags, values, t);
-    let lets = tag == 27;
+    let lets = tag == LET;
     let bound = pairs_bind(values, lets, v, run);
     let body = cell(run, 0);
     if lets {
@@ -124,25 +125,25 @@ fn compute_free_vars(
     let step = look(tags, values, memo, v, t);
     match step {
         Step::Yes => true,
-        Step::No => note_no(memo, t.0, false),
+        Step::No => note_no(memo, t, false),
         Step::Body(u) => {
             let s = compute_free_vars(tags, values, memo, v, u);
-            note_no(memo, t.0, s)
+            note_no(memo, t, s)
         }
         Step::Run => {
             let s = run_free_vars(tags, values, memo, v, t, operands(tags, values, t));
-            note_no(memo, t.0, s)
+            note_no(memo, t, s)
         }
         Step::Values => {
             let s = values_free_vars(tags, values, memo, v, t, operands(tags, values, t));
-            note_no(memo, t.0, s)
+            note_no(memo, t, s)
         }
         Step::Let(u) => {
             if values_free_vars(tags, values, memo, v, t, operands(tags, values, t)) {
                 return true;
             }
             let s = compute_free_vars(tags, values, memo, v, u);
-            note_no(memo, t.0, s)
+            note_no(memo, t, s)
         }
     }
 }
@@ -202,7 +203,7 @@ fn values_free_vars(
 pub fn is_free(tags: &[u32], values: &[u32], v: TermPlace, t: TermPlace) -> bool
     ensures { λ r. ⌜ r ≡ isFree (now (tags .entry)) (now (values .entry)) (v .0) (t .0) ⌝ }
 {
-    let mut memo = [0u8; 8192];
+    let mut memo = [0u8; CELLS];
     compute_free_vars(tags, values, &mut memo, v, t)
 }
 
@@ -213,7 +214,7 @@ fn mark_of(tags: &[u32], values: &[u32], n: usize, t: TermPlace, v: usize) -> u8
     if n <= v {
         return 0;
     }
-    if cell(tags, v) != 21 {
+    if cell(tags, v) != VARIABLE {
         return 0;
     }
     // A term reaches only places before its own: a variable after t is not free in it. Up to t, v fits u32.

@@ -1,13 +1,20 @@
 // A table of the names that a term has, made in one walk: a filter before the walks for single variables. A name with a sort has
 // a bucket, by a hash. Binders take no name out of the table. A memo, a byte for each place, keeps the places whose names
 // are in it; a place past the memo's end is walked anew.
+use cells::SortPlace;
 use cells::TermPlace;
+use cells::limits::CELLS;
 use cells::marks::mark_at;
 use cells::marks::set_mark;
 use cells::run::cell;
 use cells::run::operands;
 use cells::run::sort_of;
 use cells::run::wide;
+use cells::tags::APPLICATION;
+use cells::tags::BINDERS_END;
+use cells::tags::FORALL;
+use cells::tags::LET;
+use cells::tags::VARIABLE;
 ghost use mathlib.Core.Path.{_≡_};
 ghost use Prim.Native.Nat.{_+_};
 ghost use lib.ListN.{getD, set};
@@ -16,16 +23,19 @@ ghost use Rattle.free_variables.specs.Free.{letValues};
 ghost use Rattle.free_variables.specs.Names.{bucketOf, mayBeFree, freeIn, Listed};
 ghost use Rattle.free_variables.specs.NamesWalk.{freeAmong, Means, Right, Walked};
 
+// The buckets of a table of names, a prime below 8,192.
+const BUCKETS: usize = 8191;
+
 // The bucket of a name with a sort.
-fn bucket(name: u32, sort: u32) -> usize
-    ensures { λ r. ⌜ r ≡ bucketOf name sort ⌝ }
+fn bucket(name: u32, sort: SortPlace) -> usize
+    ensures { λ r. ⌜ r ≡ bucketOf name (sort .0) ⌝ }
 {
-    (wide(name) % 8191 * 31 + wide(sort) % 8191) % 8191
+    (wide(name) % BUCKETS * 31 + wide(sort.0) % BUCKETS) % BUCKETS
 }
 
 // Whether a variable with this name and sort may be free: its bucket is set, or stands past the table's end.
-pub fn may_be_free(names: &[u8], name: u32, sort: u32) -> bool
-    ensures { λ r. ⌜ r ≡ mayBeFree (now (names .entry)) name sort ⌝ }
+pub fn may_be_free(names: &[u8], name: u32, sort: SortPlace) -> bool
+    ensures { λ r. ⌜ r ≡ mayBeFree (now (names .entry)) name (sort .0) ⌝ }
 {
     let at = bucket(name, sort);
     if names.len() <= at {
@@ -39,7 +49,7 @@ fn mark_name(values: &[u32], names: &mut [u8], v: TermPlace)
     ensures { λ _. ⌜ now (names .exit) ≡ set (now (names .entry)) (bucketOf (getD (now (values .entry)) (v .0 + 2) 0) (sortOf (now (values .entry)) (v .0))) 1 ⌝ }
 {
     let place = v.0 as usize;
-    let at = bucket(cell(values, place + 2), sort_of(values, v).0);
+    let at = bucket(cell(values, place + 2), sort_of(values, v));
     if at < names.len() {
         names[at] = 1;
     }
@@ -62,20 +72,20 @@ pub fn below_at(tags: &[u32], values: &[u32], t: TermPlace) -> Below
 {
     let at = t.0 as usize;
     let tag = cell(tags, at);
-    if tag < 21 {
+    if tag < VARIABLE {
         return Below::Nothing;
     }
-    if tag < 22 {
+    if tag < APPLICATION {
         return Below::Variable;
     }
-    if tag < 23 {
+    if tag < FORALL {
         return Below::Run;
     }
-    if 28 <= tag {
+    if BINDERS_END <= tag {
         return Below::Run;
     }
     let body = cell(operands(tags, values, t), 0);
-    if tag == 27 {
+    if tag == LET {
         if t.0 <= body {
             return Below::Values;
         }
@@ -92,32 +102,32 @@ fn names_of_term(tags: &[u32], values: &[u32], seen: &mut [u8], names: &mut [u8]
     requires { ⌜ Right (now tags) (now values) (now seen) (now names) ⌝ }
     ensures { λ _. ⌜ Walked (now (tags .entry)) (now (values .entry)) (now (names .entry)) (now (seen .exit)) (now (names .exit)) (freeIn (now (tags .entry)) (now (values .entry)) (t .0)) ⌝ }
 {
-    if mark_at(seen, t.0) == 1 {
+    if mark_at(seen, t) == 1 {
         return;
     }
     let place = below_at(tags, values, t);
     match place {
-        Below::Nothing => set_mark(seen, t.0),
+        Below::Nothing => set_mark(seen, t),
         Below::Variable => {
             mark_name(values, names, t);
-            set_mark(seen, t.0)
+            set_mark(seen, t)
         }
         Below::Body(u) => {
             names_of_term(tags, values, seen, names, u);
-            set_mark(seen, t.0)
+            set_mark(seen, t)
         }
         Below::Run => {
             names_of_run(tags, values, seen, names, t, operands(tags, values, t));
-            set_mark(seen, t.0)
+            set_mark(seen, t)
         }
         Below::Values => {
             names_of_values(tags, values, seen, names, t, operands(tags, values, t));
-            set_mark(seen, t.0)
+            set_mark(seen, t)
         }
         Below::Let(u) => {
             names_of_values(tags, values, seen, names, t, operands(tags, values, t));
             names_of_term(tags, values, seen, names, u);
-            set_mark(seen, t.0)
+            set_mark(seen, t)
         }
     }
 }
@@ -173,6 +183,6 @@ fn names_of_values(
 pub fn mark_names(tags: &[u32], values: &[u32], t: TermPlace, names: &mut [u8])
     ensures { λ _. ⌜ Listed (now (tags .entry)) (now (values .entry)) (now (names .exit)) (freeIn (now (tags .entry)) (now (values .entry)) (t .0)) ⌝ }
 {
-    let mut seen = [0u8; 8192];
+    let mut seen = [0u8; CELLS];
     names_of_term(tags, values, &mut seen, names, t)
 }

@@ -1,8 +1,28 @@
 // Check 14: the headers of a pool are well formed.
 use cells::Found;
 use cells::run::cell;
-pub use cells::term_tags::is_term;
-pub use cells::term_tags::is_term_tag;
+use cells::tags::APPLICATION;
+use cells::tags::ARRAY;
+use cells::tags::ATOM;
+use cells::tags::BIT_VEC;
+use cells::tags::BIT_VECTOR;
+use cells::tags::BOOL;
+use cells::tags::FORALL;
+use cells::tags::FUNCTION;
+use cells::tags::INTEGER;
+use cells::tags::LAMBDA;
+use cells::tags::LET;
+use cells::tags::PARAM_BIT_VEC;
+use cells::tags::REG_LAN_CONSTANT;
+use cells::tags::REL_PRODUCT;
+use cells::tags::SET;
+use cells::tags::SORT_VAR;
+use cells::tags::SORTS_END;
+use cells::tags::TRUE;
+use cells::tags::TUPLE;
+use cells::tags::VARIABLE;
+pub use cells::tags::is_term;
+pub use cells::tags::is_term_tag;
 ghost use Prim.Native.Nat.{_+_, _≤_, _<_};
 ghost use mathlib.Core.Bool.{cond};
 ghost use mathlib.Core.Path.{_≡_};
@@ -42,13 +62,13 @@ fn sort_shape(tag: u32) -> Shape
     ensures { λ r. ⌜ r ≡ shapeOf tag ⌝ }
 {
     match tag {
-        1..=6 => Shape::Nullary,
-        7..=8 => Shape::Numbered,
-        9 => Shape::Named,
-        10 => Shape::Sorts,
-        11 => Shape::TwoSorts,
-        12 => Shape::OneSort,
-        13 => Shape::Sorts,
+        BOOL..=PARAM_BIT_VEC => Shape::Nullary,
+        BIT_VEC..=SORT_VAR => Shape::Numbered,
+        ATOM => Shape::Named,
+        FUNCTION => Shape::Sorts,
+        ARRAY => Shape::TwoSorts,
+        SET => Shape::OneSort,
+        TUPLE => Shape::Sorts,
         _ => Shape::Unknown,
     }
 }
@@ -59,13 +79,13 @@ fn term_shape(tag: u32) -> Shape
     ensures { λ r. ⌜ r ≡ shapeOf tag ⌝ }
 {
     match tag {
-        16..=19 => Shape::Constant,
-        20 => Shape::BitVector,
-        21 => Shape::Constant,
-        22 => Shape::Application,
-        23..=26 => Shape::Binder,
-        27 => Shape::Let,
-        32..=166 => Shape::Operator,
+        INTEGER..=REG_LAN_CONSTANT => Shape::Constant,
+        BIT_VECTOR => Shape::BitVector,
+        VARIABLE => Shape::Constant,
+        APPLICATION => Shape::Application,
+        FORALL..=LAMBDA => Shape::Binder,
+        LET => Shape::Let,
+        TRUE..=REL_PRODUCT => Shape::Operator,
         _ => Shape::Unknown,
     }
 }
@@ -74,7 +94,7 @@ fn term_shape(tag: u32) -> Shape
 fn shape_of(tag: u32) -> Shape
     ensures { λ r. ⌜ r ≡ shapeOf tag ⌝ }
 {
-    if tag < 16 {
+    if tag < INTEGER {
         sort_shape(tag)
     } else {
         term_shape(tag)
@@ -150,7 +170,7 @@ fn kind_at(shape: Shape, j: usize) -> CellKind
 fn is_sort_tag(tag: u32) -> bool
     ensures { λ r. ⌜ r ≡ isSortTag tag ⌝ }
 {
-    1 <= tag && tag < 14
+    BOOL <= tag && tag < SORTS_END
 }
 
 // Whether a cell of the header at p may hold v, where the cell is of this kind.
@@ -196,7 +216,7 @@ fn cells_fit(tags: &[u32], values: &[u32], p: usize, shape: Shape, k: usize) -> 
 fn bool_first(tags: &[u32], p: usize) -> bool
     ensures { λ r. ⌜ r ≡ boolFirst (now (tags .entry)) p ⌝ }
 {
-    p != 0 || cell(tags, p) == 1
+    p != 0 || cell(tags, p) == BOOL
 }
 
 // Whether the header at p is well formed among n cells.

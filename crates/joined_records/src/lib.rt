@@ -1,5 +1,6 @@
 // The list comparison of `qnt_join` over lent records of name and sort.
 use bindings::binding::same_pair;
+use cells::SortPlace;
 ghost use mathlib.Core.Path.{_≡_};
 ghost use lib.ListN.{getD};
 ghost use Rattle.bindings.specs.Binding.{sameAll};
@@ -37,7 +38,7 @@ fn is_repeat(s: Along, a: Binding) -> bool
         return false;
     }
     let last = s.last;
-    same_pair(last.name, last.sort, a.name, a.sort)
+    same_pair(last.name, SortPlace(last.sort), a.name, SortPlace(a.sort))
 }
 
 // One pair more: it repeats the one before, or it is b, the right list's pair at the place reached. That list has n pairs.
@@ -56,7 +57,7 @@ fn next(s: Along, a: Binding, b: Binding, n: usize) -> Along
     if n <= at {
         return off;
     }
-    if !same_pair(a.name, a.sort, b.name, b.sort) {
+    if !same_pair(a.name, SortPlace(a.sort), b.name, SortPlace(b.sort)) {
         return off;
     }
     Along {

@@ -15,10 +15,9 @@ use mathlib.Core.List.{List, [], _∷_, map}
 use lib.Dec.{eqb}
 use Rattle.meaning.specs.Sort.{Sort, Sort-discrete, bool}
 use Rattle.meaning.specs.Term.{Vars, Term, Terms, const, bitVector, var, app, quant, bind, letin, op, noTerm, tnil, tcons, stated}
-use Rattle.formulas.specs.Formula.{Form, Forms, opaque, neg, many, imp, ite, iff, all, fnil, fcons}
+use Rattle.formulas.specs.Formula.{Form, Forms, opaque, neg, many, imp, ite, iff, all, fnil, fcons, connectiveTag}
 use Rattle.formulas.specs.Normal.{Normal, Normals, lit, nmany, nall, nnil, ncons, nnf, prenex}
 use Rattle.formulas.specs.Clauses.{Clause, cnf, reachesForall}
-use Rattle.formulas.specs.Built.{tagOfMany}
 
 -- ---- a connective of its operands' formulas; t is the term itself, opaque where the count of operands is another
 module _ {B L : Type 0} (t : L) where
@@ -92,7 +91,7 @@ abbrev mutual
   pub build : Normal Vars Term → Term
   build (lit true t) = t
   build (lit false t) = op 34 bool (tcons t tnil)
-  build (nmany b ns) = op (tagOfMany b) bool (builds ns)
+  build (nmany b ns) = op (connectiveTag b) bool (builds ns)
   build (nall b vs n) = quant b bool vs (build n)
 
   pub builds : Normals Vars Term → Terms

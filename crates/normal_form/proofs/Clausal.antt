@@ -8,6 +8,7 @@ use mathlib.Core.List.{List, [], _∷_}
 use lib.ListN.{length, getD, take}
 use lib.Seq.{getD-take, take-take}
 use native.Mathlib.Omega.{arith}
+use Rattle.cells.specs.declared.TermPlace.{TermPlace}
 use Rattle.descriptions.specs.Description.{zeroFrom}
 use Rattle.descriptions.proofs.description.Fills.{well-formed-fills}
 use Rattle.meaning.proofs.trees.Passed.{Passed}
@@ -90,8 +91,8 @@ module _ (tags values : List ℕ) (n t : ℕ) where
     pub clausal-full : b ≡ Full → NormalBuilt n tags values (clausalIn tags values n t) Full tags₁ values₁
     clausal-full e = let (left, full) = rw e at built in (left, fits-not _ _ (length tags) clausal-longer full)
 
-    module _ (x m : ℕ) (e : b ≡ At x m) where
-      pub normal-holds : Holds n (normalIn tags values n t true) x m tags₁ values₁
+    module _ (x : TermPlace) (m : ℕ) (e : b ≡ At x m) where
+      pub normal-holds : Holds n (normalIn tags values n t true) (x .0) m tags₁ values₁
       normal-holds = let (h, room) = rw e at built in h
 
       -- what taking the foralls out starts from
@@ -100,14 +101,14 @@ module _ (tags values : List ℕ) (n t : ℕ) where
           let s = normal-holds .state in
           record { size = s .size; within = s .within; small = s .small; fills = s .fills; source = omega arith }
 
-      pub normal-below : x < m
+      pub normal-below : x .0 < m
       normal-below = normal-holds .below
 
-      clausal-is : takenOut (poolOf tags₁ values₁ m) x ≡ clausalIn tags values n t
+      clausal-is : takenOut (poolOf tags₁ values₁ m) (x .0) ≡ clausalIn tags values n t
       clausal-is = ap₂ takenOut (normal-holds .pool-is) (normal-holds .place-is)
 
       pub clausal-then : State n n tags values → length tags₁ ≡ length tags → length values₁ ≡ length values → (r : Built) (tags₂ values₂ : List ℕ)
-          → NormalBuilt m tags₁ values₁ (takenOut (poolOf tags₁ values₁ m) x) r tags₂ values₂
+          → NormalBuilt m tags₁ values₁ (takenOut (poolOf tags₁ values₁ m) (x .0)) r tags₂ values₂
           → NormalBuilt n tags values (clausalIn tags values n t) r tags₂ values₂
       clausal-then s size size₂ (At p l) tags₂ values₂ y =
           let (h, room) = rw clausal-is at y in (
@@ -132,9 +133,9 @@ module _ (tags values : List ℕ) (n t : ℕ) where
               tags-size = left .tags-size ∙ size;
               values-size = left .values-size ∙ size₂;
               tags-kept = sym (take-take n m tags₂ less) ∙ (ap (take n) (left .tags-kept) ∙ (take-take n m tags₁ less
-                  ∙ tags-kept n tags values s (normalIn tags values n t true) (normal-on s) x m tags₁ values₁ normal-holds));
+                  ∙ tags-kept n tags values s (normalIn tags values n t true) (normal-on s) (x .0) m tags₁ values₁ normal-holds));
               values-kept = sym (take-take n m values₂ less) ∙ (ap (take n) (left .values-kept) ∙ (take-take n m values₁ less
-                  ∙ values-kept n tags values s (normalIn tags values n t true) (normal-on s) x m tags₁ values₁ normal-holds));
+                  ∙ values-kept n tags values s (normalIn tags values n t true) (normal-on s) (x .0) m tags₁ values₁ normal-holds));
             },
             rw size at full,
           )

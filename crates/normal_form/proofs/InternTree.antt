@@ -21,9 +21,9 @@ use Rattle.meaning.proofs.trees.Header.{Each}
 use Rattle.meaning.proofs.trees.Tags.{shape-op}
 use Rattle.meaning.proofs.trees.Parts.{not-first}
 use Rattle.meaning.proofs.trees.Terms.{term-op}
-use Rattle.formulas.specs.Formula.{form}
+use Rattle.formulas.specs.Formula.{form, connectiveTag, quantifierTag}
 use Rattle.formulas.specs.Normal.{Normal, Normals, lit, nmany, nall, nnil, ncons, nnf}
-use Rattle.formulas.specs.Built.{Pool, Placed, PlacedAll, count, put, tagOfMany, tagOfQuantifier, intern, interns, normalForm}
+use Rattle.formulas.specs.Built.{Pool, Placed, PlacedAll, count, put, intern, interns, normalForm}
 use Rattle.formulas.specs.Mapped.{mapF, mapN, mapNs}
 use Rattle.meaning.specs.Skeleton.{skeleton, build, builds}
 use Rattle.meaning.proofs.places.Mapped.{nnf-map}
@@ -139,7 +139,7 @@ module _ (q : Pool) (s : Sound q) where
   binder-count us e u = rw (le-leb 2 (length (0 ∷ (u ∷ us))) (omega arith)) (eq-eqb (length (0 ∷ (u ∷ us)) % 2) 0 (omega arith))
 
   quant-interned : (b : Bool) (u : ℕ) (vs : List ℕ) → IsTerm (q .tags) (count q) u → Pairs (q .tags) (count q) vs
-      → Interned q (put q (tagOfQuantifier b) (0 ∷ (u ∷ vs))) (quant b bool (varsAt (q .tags) (q .values) vs) (termIn q u))
+      → Interned q (put q (quantifierTag b) (0 ∷ (u ∷ vs))) (quant b bool (varsAt (q .tags) (q .values) vs) (termIn q u))
   unfolding shapeOf countFits kindAt pairKind isTermTag termFrom
   quant-interned true u vs t (e, f) =
       let p = put-term q 23 (0 ∷ (u ∷ vs)) s (record { count-fits = binder-count vs e u; each-cell = (bool-fits, (term-fits u t, f)) }) refl in
@@ -158,7 +158,7 @@ module _ (q : Pool) (s : Sound q) where
         is = p .tree-is ∙ ap (λ (x : Sort). quant false x (varsAt (q .tags) (q .values) vs) (termIn q u)) bool-is;
       }
 
-  many-interned : (b : Bool) (us : List ℕ) → AllTerms (q .tags) (count q) us → Interned q (put q (tagOfMany b) (0 ∷ us)) (op (tagOfMany b) bool (termsOf (termIn q) us))
+  many-interned : (b : Bool) (us : List ℕ) → AllTerms (q .tags) (count q) us → Interned q (put q (connectiveTag b) (0 ∷ us)) (op (connectiveTag b) bool (termsOf (termIn q) us))
   unfolding isTermTag
   many-interned true us a = op-interned 36 (omega arith) (omega arith) refl us a
   many-interned false us a = op-interned 37 (omega arith) (omega arith) refl us a

@@ -11,6 +11,7 @@ use lib.ListN.{length, getD, drop}
 use lib.Dec.{ltb, eqb}
 use native.Mathlib.Omega.{arith}
 use borrow.Author.Tests.{lt-ltb, le-ltb, ne-eqb, leb-true}
+use Rattle.cells.specs.Place.{termAt}
 use Rattle.cells.specs.ByPlace.{byPlace-is}
 use Rattle.cells.specs.Cell.{cellsOf, operandsOf}
 use Rattle.headers.specs.WellFormed.{shapeOf, countFits, kindAt, pairKind, isTermTag}
@@ -81,7 +82,7 @@ module _ (q : Pool) (t : ℕ) (here : IsTerm (q .tags) (count q) t) (rec : ℕ �
   abbrev view : ℕ → List ℕ → NormalView
   view k cells =
       cond (eqb k 23)
-      (cond (ltb (getD (run k cells) 0 0) t) (Forall (getD (run k cells) 0 0)) Literal)
+      (cond (ltb (getD (run k cells) 0 0) t) (Forall (termAt (getD (run k cells) 0 0))) Literal)
       (cond (allBefore t (run k cells)) (cond (eqb k 36) (Connective true) (cond (eqb k 37) (Connective false) Literal)) Literal)
 
   abbrev made : ℕ → List ℕ → Term

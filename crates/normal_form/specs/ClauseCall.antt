@@ -5,6 +5,8 @@ use mathlib.Core.Path.{_≡_}
 use mathlib.Core.Bool.{cond}
 use mathlib.Core.List.{List}
 use lib.Dec.{eqb}
+use Rattle.cells.specs.Limits.{clauseLimit, literalLimit}
+use Rattle.cells.specs.declared.TermPlace.{TermPlace}
 use Rattle.pool.specs.Check.{checkTerm}
 use Rattle.descriptions.specs.Description.{Cut}
 use Rattle.answers.specs.declared.Answer.{Answer}
@@ -16,13 +18,13 @@ use Rattle.normal_form.specs.declared.call.Clausal.the-variants.{At, Ref
 use Rattle.normal_form.specs.declared.call.Listed.{Listed}
 
 -- the term at t has passed its checks, and its taken-out form is built
-pub record Passes (tags values rules : List ℕ) (n t x m : ℕ) (tags′ values′ : List ℕ) : Type 0 where
+pub record Passes (tags values rules : List ℕ) (n t : ℕ) (x : TermPlace) (m : ℕ) (tags′ values′ : List ℕ) : Type 0 where
   pub passed : checkTerm tags values rules n t .code ≡ 0
   pub built : NormalBuilt n tags values (clausal tags values rules n t) (BuiltAt x m) tags′ values′
 
 -- a refusal before there is a list: 30 changes nothing
 pub record Refuses (tags values rules : List ℕ) (n t : ℕ) (a : Answer) (tags′ values′ : List ℕ) : Type 0 where
-  pub answer : (l e : ℕ) → 8192 ≤ l → 2048 ≤ e → a ≡ clauseAnswer tags values rules n t l e
+  pub answer : (l e : ℕ) → literalLimit ≤ l → clauseLimit ≤ e → a ≡ clauseAnswer tags values rules n t l e
   pub code : a .code ≡ 0 → ⊥
   pub same : a .code ≡ 30 → (tags′ ≡ tags) × (values′ ≡ values)
   pub left : Left n tags values tags′ values′

@@ -1,4 +1,5 @@
 // The public calls: the normal form of a term, and the clause list of a term.
+ghost use Rattle.cells.specs.Limits.{cellLimit};
 use crate::negation_normal_form::build_normal_form;
 use crate::prenex_forall::build_taken_out;
 use building::build::Built;
@@ -7,6 +8,9 @@ use pool::Answer;
 use pool::TermPlace;
 use pool::call::index_term;
 use pool::description::cut_back;
+use pool::index::INDEX;
+use pool::limits::CLAUSE_ENDS;
+use pool::limits::LITERALS;
 ghost use Prim.Native.Nat.{_≤_, _<_};
 ghost use mathlib.Core.Path.{_≡_};
 ghost use Rattle.sorts.specs.Table.{builtIn};
@@ -27,7 +31,7 @@ pub fn normal_form(
 ) -> Answer
     ensures { λ r. ⌜ NormalFormPromise (now (tags .entry)) (now (values .entry)) builtIn n (t .0) polarity r (now (tags .exit)) (now (values .exit)) ⌝ }
 {
-    let mut index = [0u32; 12288];
+    let mut index = [0u32; INDEX];
     let checked = index_term(tags, values, n, t, &mut index);
     if checked.code == 30 {
         return checked;
@@ -41,7 +45,7 @@ pub fn normal_form(
         return Answer::refused(31, 0, 0);
     };
     cut_back(tags, values, m);
-    Answer::accepted(p, m as u32)
+    Answer::accepted(p.0, m as u32)
 }
 
 // What the clause list's call gives: the answer, with the two totals if accepted, and the new count.
@@ -54,7 +58,7 @@ pub struct Listed {
 fn build_clausal(
     tags: &mut [u32],
     values: &mut [u32],
-    index: &mut [u32; 12288],
+    index: &mut [u32; INDEX],
     n: usize,
     t: TermPlace,
 ) -> Built
@@ -71,7 +75,7 @@ fn build_clausal(
 
 // Where the taken-out normal form of a term stands, with the new count; or the refusal.
 enum Clausal {
-    At(u32, usize),
+    At(TermPlace, usize),
     Refused(Answer),
 }
 
@@ -79,7 +83,7 @@ enum Clausal {
 fn clausal_of(tags: &mut [u32], values: &mut [u32], n: usize, t: TermPlace) -> Clausal
     ensures { λ r. ⌜ ClausalBuilt (now (tags .entry)) (now (values .entry)) builtIn n (t .0) r (now (tags .exit)) (now (values .exit)) ⌝ }
 {
-    let mut index = [0u32; 12288];
+    let mut index = [0u32; INDEX];
     let checked = index_term(tags, values, n, t, &mut index);
     if checked.code != 0 {
         return Clausal::Refused(checked);
@@ -101,7 +105,7 @@ fn refused(answer: Answer) -> Listed
 
 // The new terms are kept if the list is accepted, and cut back if not.
 fn keep_listed(tags: &mut [u32], values: &mut [u32], n: usize, m: usize, answer: Answer) -> Listed
-    requires { ⌜ m ≤ 8192 ⌝ }
+    requires { ⌜ m ≤ cellLimit ⌝ }
     ensures { λ r. ⌜ Kept n m answer (now (tags .entry)) (now (values .entry)) r (now (tags .exit)) (now (values .exit)) ⌝ }
 {
     if answer.code != 0 {
@@ -127,10 +131,10 @@ pub fn clause_list(
 ) -> Listed
     ensures { λ r. ⌜ ClauseListPromise (now (tags .entry)) (now (values .entry)) builtIn n (t .0) (now (literals .entry)) (now (ends .entry)) (r .answer) (r .count) (now (tags .exit)) (now (values .exit)) (now (literals .exit)) (now (ends .exit)) ⌝ }
 {
-    if literals.len() < 8192 {
+    if literals.len() < LITERALS {
         return refused(Answer::refused(30, 0, 0));
     }
-    if ends.len() < 2048 {
+    if ends.len() < CLAUSE_ENDS {
         return refused(Answer::refused(30, 0, 0));
     }
     let built = clausal_of(tags, values, n, t);
@@ -144,7 +148,7 @@ pub fn clause_list(
             refused(answer)
         }
         Clausal::At(x, m) => {
-            let answer = list_clauses(&tags[..m], &values[..m], TermPlace(x), literals, ends);
+            let answer = list_clauses(&tags[..m], &values[..m], x, literals, ends);
             keep_listed(tags, values, n, m, answer)
         }
     }

@@ -1,21 +1,24 @@
-// The negation normal form of a term, built into the pool. The source pool is the first `lim` cells. A memo keeps where the
+// The negation normal form of a term, built into the pool. The source pool is the first `source` cells. A memo keeps where the
 // form of a term at a polarity stands, one more than its place, so that each is built once however terms are shared.
-// The row holds the cells of one new term at a time.
+// The scratch array holds the cells of one new term at a time.
 use building::build::Built;
 use building::terms::literal;
-use building::terms::put_many;
+use building::terms::put_connective;
 use building::terms::put_pair;
 use building::terms::put_quantifier;
 use building::terms::slot;
 use formulas::view::View;
 use formulas::view::view_of;
 use pool::TermPlace;
+use pool::index::INDEX;
+use pool::limits::CELLS;
 use pool::run::operands;
 ghost use mathlib.Core.Path.{_≡_};
 ghost use mathlib.Core.Bool.{not};
 ghost use Prim.Native.Nat.{_≤_, _<_};
 ghost use lib.ListN.{length, take};
-ghost use Rattle.formulas.specs.declared.view.View.the-variants.{Many, Quantifier};
+ghost use Rattle.cells.specs.Limits.{cellLimit};
+ghost use Rattle.formulas.specs.declared.view.View.the-variants.{AndOr, Quantifier};
 ghost use Rattle.formulas.specs.Formula.{viewOf};
 ghost use Rattle.formulas.specs.Normal.{pair};
 ghost use Rattle.formulas.specs.Built.{normalForm};
@@ -23,37 +26,40 @@ ghost use Rattle.building.specs.Arrays.{poolOf};
 ghost use Rattle.descriptions.specs.Index.{Index};
 ghost use Rattle.building.specs.Walk.{State, Indexed, normal, normalOf, Ready, Formed, Known, OperandsKnown, Before, AllBelow, twoPairs, NormalBuilt};
 
+// A form for each cell and polarity.
+const FORMS: usize = 16384;
+
 // The place of a term, and a polarity.
-struct Signed(u32, bool);
+struct Signed(TermPlace, bool);
 
 // The normal form of the term at t at a polarity, put into the pool of n cells.
 fn negation_normal_form(
     tags: &mut [u32],
     values: &mut [u32],
     memo: &mut [u32],
-    row: &mut [u32],
-    index: &mut [u32; 12288],
-    lim: usize,
+    scratch: &mut [u32],
+    index: &mut [u32; INDEX],
+    source: usize,
     n: usize,
-    t: u32,
+    t: TermPlace,
     polarity: bool,
 ) -> Built
-    requires { ⌜ Ready normal lim n (now tags) (now values) (now memo) ⌝ }
-    requires { ⌜ 8192 ≤ length (now row) ⌝ }
-    requires { ⌜ t < lim ⌝ }
+    requires { ⌜ Ready normal source n (now tags) (now values) (now memo) ⌝ }
+    requires { ⌜ cellLimit ≤ length (now scratch) ⌝ }
+    requires { ⌜ t .0 < source ⌝ }
     requires { ⌜ Index (now tags) (now values) n (now index) ⌝ }
-    ensures { λ r. ⌜ Known normal lim n (now (tags .entry)) (now (values .entry)) (now (memo .entry)) t polarity r (now (tags .exit)) (now (values .exit)) (now (memo .exit)) ⌝ }
+    ensures { λ r. ⌜ Known normal source n (now (tags .entry)) (now (values .entry)) (now (memo .entry)) (t .0) polarity r (now (tags .exit)) (now (values .exit)) (now (memo .exit)) ⌝ }
     ensures { λ r. ⌜ Indexed r (now (tags .exit)) (now (values .exit)) (now (index .exit)) ⌝ }
 {
     let i = slot(t, polarity);
     let known = memo[i];
     if known != 0 {
-        return Built::At(known - 1, n);
+        return Built::At(TermPlace(known - 1), n);
     }
-    let Built::At(p, m) = expand(tags, values, memo, row, index, lim, n, t, polarity) else {
+    let Built::At(p, m) = expand(tags, values, memo, scratch, index, source, n, t, polarity) else {
         return Built::Full;
     };
-    memo[i] = p + 1;
+    memo[i] = p.0 + 1;
     Built::At(p, m)
 }
 
@@ -62,39 +68,109 @@ fn expand(
     tags: &mut [u32],
     values: &mut [u32],
     memo: &mut [u32],
-    row: &mut [u32],
-    index: &mut [u32; 12288],
-    lim: usize,
+    scratch: &mut [u32],
+    index: &mut [u32; INDEX],
+    source: usize,
     n: usize,
-    t: u32,
+    t: TermPlace,
     polarity: bool,
 ) -> Built
-    requires { ⌜ Ready normal lim n (now tags) (now values) (now memo) ⌝ }
-    requires { ⌜ 8192 ≤ length (now row) ⌝ }
-    requires { ⌜ t < lim ⌝ }
+    requires { ⌜ Ready normal source n (now tags) (now values) (now memo) ⌝ }
+    requires { ⌜ cellLimit ≤ length (now scratch) ⌝ }
+    requires { ⌜ t .0 < source ⌝ }
     requires { ⌜ Index (now tags) (now values) n (now index) ⌝ }
-    ensures { λ r. ⌜ Formed normal lim n (now (tags .entry)) (now (values .entry)) (now (memo .entry)) (normalOf lim (now (tags .entry)) (now (values .entry)) t polarity) r (now (tags .exit)) (now (values .exit)) (now (memo .exit)) ⌝ }
+    ensures { λ r. ⌜ Formed normal source n (now (tags .entry)) (now (values .entry)) (now (memo .entry)) (normalOf source (now (tags .entry)) (now (values .entry)) (t .0) polarity) r (now (tags .exit)) (now (values .exit)) (now (memo .exit)) ⌝ }
     ensures { λ r. ⌜ Indexed r (now (tags .exit)) (now (values .exit)) (now (index .exit)) ⌝ }
 {
-    let view = view_of(&tags[..lim], &values[..lim], TermPlace(t));
+    let view = view_of(&tags[..source], &values[..source], t);
     match view {
         View::Opaque => literal(tags, values, index, n, t, polarity),
-        View::Not(a) => negation_normal_form(tags, values, memo, row, index, lim, n, a, !polarity),
-        View::Many(b) => connective_form(tags, values, memo, row, index, lim, n, t, polarity, b),
+        View::Not(a) => negation_normal_form(
+            tags,
+            values,
+            memo,
+            scratch,
+            index,
+            source,
+            n,
+            a,
+            !polarity,
+        ),
+        View::AndOr(b) => connective_form(
+            tags,
+            values,
+            memo,
+            scratch,
+            index,
+            source,
+            n,
+            t,
+            polarity,
+            b,
+        ),
         View::Implies(a, b) => {
             let first = Signed(a, !polarity);
-            pair_of(tags, values, memo, row, index, lim, n, polarity, first, b)
+            pair_of(
+                tags,
+                values,
+                memo,
+                scratch,
+                index,
+                source,
+                n,
+                polarity,
+                first,
+                b,
+            )
         }
         View::Ite(a, b, c) => {
             let d = Signed(a, polarity);
-            two_pairs(tags, values, memo, row, index, lim, n, polarity, a, b, d, c)
+            two_pairs(
+                tags,
+                values,
+                memo,
+                scratch,
+                index,
+                source,
+                n,
+                polarity,
+                a,
+                b,
+                d,
+                c,
+            )
         }
         View::Iff(a, b) => {
             let d = Signed(b, !polarity);
-            two_pairs(tags, values, memo, row, index, lim, n, polarity, a, b, d, a)
+            two_pairs(
+                tags,
+                values,
+                memo,
+                scratch,
+                index,
+                source,
+                n,
+                polarity,
+                a,
+                b,
+                d,
+                a,
+            )
         }
         View::Quantifier(b, body) => {
-            quantifier_form(tags, values, memo, row, index, lim, n, t, polarity, b, body)
+            quantifier_form(
+                tags,
+                values,
+                memo,
+                scratch,
+                index,
+                source,
+                n,
+                t,
+                polarity,
+                b,
+                body,
+            )
         }
     }
 }
@@ -104,27 +180,48 @@ fn connective_form(
     tags: &mut [u32],
     values: &mut [u32],
     memo: &mut [u32],
-    row: &mut [u32],
-    index: &mut [u32; 12288],
-    lim: usize,
+    scratch: &mut [u32],
+    index: &mut [u32; INDEX],
+    source: usize,
     n: usize,
-    t: u32,
+    t: TermPlace,
     polarity: bool,
     b: bool,
 ) -> Built
-    requires { ⌜ Ready normal lim n (now tags) (now values) (now memo) ⌝ }
-    requires { ⌜ 8192 ≤ length (now row) ⌝ }
-    requires { ⌜ t < lim ⌝ }
-    requires { ⌜ viewOf (take lim (now tags)) (take lim (now values)) t ≡ Many b ⌝ }
+    requires { ⌜ Ready normal source n (now tags) (now values) (now memo) ⌝ }
+    requires { ⌜ cellLimit ≤ length (now scratch) ⌝ }
+    requires { ⌜ t .0 < source ⌝ }
+    requires { ⌜ viewOf (take source (now tags)) (take source (now values)) (t .0) ≡ AndOr b ⌝ }
     requires { ⌜ Index (now tags) (now values) n (now index) ⌝ }
-    ensures { λ r. ⌜ Formed normal lim n (now (tags .entry)) (now (values .entry)) (now (memo .entry)) (normalOf lim (now (tags .entry)) (now (values .entry)) t polarity) r (now (tags .exit)) (now (values .exit)) (now (memo .exit)) ⌝ }
+    ensures { λ r. ⌜ Formed normal source n (now (tags .entry)) (now (values .entry)) (now (memo .entry)) (normalOf source (now (tags .entry)) (now (values .entry)) (t .0) polarity) r (now (tags .exit)) (now (values .exit)) (now (memo .exit)) ⌝ }
     ensures { λ r. ⌜ Indexed r (now (tags .exit)) (now (values .exit)) (now (index .exit)) ⌝ }
 {
-    let Built::At(_, m) = operand_forms(tags, values, memo, row, index, lim, n, t, 0, polarity)
-    else {
+    let Built::At(_, m) = operand_forms(
+        tags,
+        values,
+        memo,
+        scratch,
+        index,
+        source,
+        n,
+        t,
+        0,
+        polarity,
+    ) else {
         return Built::Full;
     };
-    put_many(tags, values, memo, row, index, lim, m, t, polarity, b)
+    put_connective(
+        tags,
+        values,
+        memo,
+        scratch,
+        index,
+        source,
+        m,
+        t,
+        polarity,
+        b,
+    )
 }
 
 // The same for a quantifier: over the normal form of its body.
@@ -132,28 +229,38 @@ fn quantifier_form(
     tags: &mut [u32],
     values: &mut [u32],
     memo: &mut [u32],
-    row: &mut [u32],
-    index: &mut [u32; 12288],
-    lim: usize,
+    scratch: &mut [u32],
+    index: &mut [u32; INDEX],
+    source: usize,
     n: usize,
-    t: u32,
+    t: TermPlace,
     polarity: bool,
     b: bool,
-    body: u32,
+    body: TermPlace,
 ) -> Built
-    requires { ⌜ Ready normal lim n (now tags) (now values) (now memo) ⌝ }
-    requires { ⌜ 8192 ≤ length (now row) ⌝ }
-    requires { ⌜ t < lim ⌝ }
-    requires { ⌜ viewOf (take lim (now tags)) (take lim (now values)) t ≡ Quantifier b body ⌝ }
+    requires { ⌜ Ready normal source n (now tags) (now values) (now memo) ⌝ }
+    requires { ⌜ cellLimit ≤ length (now scratch) ⌝ }
+    requires { ⌜ t .0 < source ⌝ }
+    requires { ⌜ viewOf (take source (now tags)) (take source (now values)) (t .0) ≡ Quantifier b body ⌝ }
     requires { ⌜ Index (now tags) (now values) n (now index) ⌝ }
-    ensures { λ r. ⌜ Formed normal lim n (now (tags .entry)) (now (values .entry)) (now (memo .entry)) (normalOf lim (now (tags .entry)) (now (values .entry)) t polarity) r (now (tags .exit)) (now (values .exit)) (now (memo .exit)) ⌝ }
+    ensures { λ r. ⌜ Formed normal source n (now (tags .entry)) (now (values .entry)) (now (memo .entry)) (normalOf source (now (tags .entry)) (now (values .entry)) (t .0) polarity) r (now (tags .exit)) (now (values .exit)) (now (memo .exit)) ⌝ }
     ensures { λ r. ⌜ Indexed r (now (tags .exit)) (now (values .exit)) (now (index .exit)) ⌝ }
 {
-    let form = negation_normal_form(tags, values, memo, row, index, lim, n, body, polarity);
+    let form = negation_normal_form(
+        tags,
+        values,
+        memo,
+        scratch,
+        index,
+        source,
+        n,
+        body,
+        polarity,
+    );
     let Built::At(p, m) = form else {
         return Built::Full;
     };
-    put_quantifier(tags, values, row, index, lim, m, t, polarity, b, p)
+    put_quantifier(tags, values, scratch, index, source, m, t, polarity, b, p)
 }
 
 // The normal forms of the operands of the term at t from i on. The memo then has their places, and the answer's is 0.
@@ -161,32 +268,52 @@ fn operand_forms(
     tags: &mut [u32],
     values: &mut [u32],
     memo: &mut [u32],
-    row: &mut [u32],
-    index: &mut [u32; 12288],
-    lim: usize,
+    scratch: &mut [u32],
+    index: &mut [u32; INDEX],
+    source: usize,
     n: usize,
-    t: u32,
+    t: TermPlace,
     i: usize,
     polarity: bool,
 ) -> Built
-    requires { ⌜ Ready normal lim n (now tags) (now values) (now memo) ⌝ }
-    requires { ⌜ 8192 ≤ length (now row) ⌝ }
-    requires { ⌜ t < lim ⌝ }
-    requires { ⌜ Before lim (now tags) (now values) t ⌝ }
+    requires { ⌜ Ready normal source n (now tags) (now values) (now memo) ⌝ }
+    requires { ⌜ cellLimit ≤ length (now scratch) ⌝ }
+    requires { ⌜ t .0 < source ⌝ }
+    requires { ⌜ Before source (now tags) (now values) (t .0) ⌝ }
     requires { ⌜ Index (now tags) (now values) n (now index) ⌝ }
-    ensures { λ r. ⌜ OperandsKnown normal lim n (now (tags .entry)) (now (values .entry)) (now (memo .entry)) t polarity i r (now (tags .exit)) (now (values .exit)) (now (memo .exit)) ⌝ }
+    ensures { λ r. ⌜ OperandsKnown normal source n (now (tags .entry)) (now (values .entry)) (now (memo .entry)) (t .0) polarity i r (now (tags .exit)) (now (values .exit)) (now (memo .exit)) ⌝ }
     ensures { λ r. ⌜ Indexed r (now (tags .exit)) (now (values .exit)) (now (index .exit)) ⌝ }
 {
-    let run = operands(&tags[..lim], &values[..lim], TermPlace(t));
+    let run = operands(&tags[..source], &values[..source], t);
     if run.len() <= i {
-        return Built::At(0, n);
+        return Built::At(TermPlace(0), n);
     }
-    let u = run[i];
-    let Built::At(_, m) = negation_normal_form(tags, values, memo, row, index, lim, n, u, polarity)
-    else {
+    let u = TermPlace(run[i]);
+    let Built::At(_, m) = negation_normal_form(
+        tags,
+        values,
+        memo,
+        scratch,
+        index,
+        source,
+        n,
+        u,
+        polarity,
+    ) else {
         return Built::Full;
     };
-    operand_forms(tags, values, memo, row, index, lim, m, t, i + 1, polarity)
+    operand_forms(
+        tags,
+        values,
+        memo,
+        scratch,
+        index,
+        source,
+        m,
+        t,
+        i + 1,
+        polarity,
+    )
 }
 
 // A pair of the normal forms of a and, at the polarity, of b: their `or`, and their `and` at false polarity.
@@ -194,28 +321,46 @@ fn pair_of(
     tags: &mut [u32],
     values: &mut [u32],
     memo: &mut [u32],
-    row: &mut [u32],
-    index: &mut [u32; 12288],
-    lim: usize,
+    scratch: &mut [u32],
+    index: &mut [u32; INDEX],
+    source: usize,
     n: usize,
     polarity: bool,
     a: Signed,
-    b: u32,
+    b: TermPlace,
 ) -> Built
-    requires { ⌜ Ready normal lim n (now tags) (now values) (now memo) ⌝ }
-    requires { ⌜ 8192 ≤ length (now row) ⌝ }
-    requires { ⌜ a .0 < lim ⌝ }
-    requires { ⌜ b < lim ⌝ }
+    requires { ⌜ Ready normal source n (now tags) (now values) (now memo) ⌝ }
+    requires { ⌜ cellLimit ≤ length (now scratch) ⌝ }
+    requires { ⌜ a .0 .0 < source ⌝ }
+    requires { ⌜ b .0 < source ⌝ }
     requires { ⌜ Index (now tags) (now values) n (now index) ⌝ }
-    ensures { λ r. ⌜ Formed normal lim n (now (tags .entry)) (now (values .entry)) (now (memo .entry)) (pair (not polarity) (normalOf lim (now (tags .entry)) (now (values .entry)) (a .0) (a .1)) (normalOf lim (now (tags .entry)) (now (values .entry)) b polarity)) r (now (tags .exit)) (now (values .exit)) (now (memo .exit)) ⌝ }
+    ensures { λ r. ⌜ Formed normal source n (now (tags .entry)) (now (values .entry)) (now (memo .entry)) (pair (not polarity) (normalOf source (now (tags .entry)) (now (values .entry)) (a .0 .0) (a .1)) (normalOf source (now (tags .entry)) (now (values .entry)) (b .0) polarity)) r (now (tags .exit)) (now (values .exit)) (now (memo .exit)) ⌝ }
     ensures { λ r. ⌜ Indexed r (now (tags .exit)) (now (values .exit)) (now (index .exit)) ⌝ }
 {
-    let Built::At(p, m) = negation_normal_form(tags, values, memo, row, index, lim, n, a.0, a.1)
-    else {
+    let Built::At(p, m) = negation_normal_form(
+        tags,
+        values,
+        memo,
+        scratch,
+        index,
+        source,
+        n,
+        a.0,
+        a.1,
+    ) else {
         return Built::Full;
     };
-    let Built::At(q, l) = negation_normal_form(tags, values, memo, row, index, lim, m, b, polarity)
-    else {
+    let Built::At(q, l) = negation_normal_form(
+        tags,
+        values,
+        memo,
+        scratch,
+        index,
+        source,
+        m,
+        b,
+        polarity,
+    ) else {
         return Built::Full;
     };
     put_pair(tags, values, index, l, !polarity, p, q)
@@ -227,28 +372,50 @@ fn two_pairs(
     tags: &mut [u32],
     values: &mut [u32],
     memo: &mut [u32],
-    row: &mut [u32],
-    index: &mut [u32; 12288],
-    lim: usize,
+    scratch: &mut [u32],
+    index: &mut [u32; INDEX],
+    source: usize,
     n: usize,
     polarity: bool,
-    a: u32,
-    b: u32,
+    a: TermPlace,
+    b: TermPlace,
     c: Signed,
-    d: u32,
+    d: TermPlace,
 ) -> Built
-    requires { ⌜ Ready normal lim n (now tags) (now values) (now memo) ⌝ }
-    requires { ⌜ 8192 ≤ length (now row) ⌝ }
-    requires { ⌜ AllBelow lim a b (c .0) d ⌝ }
+    requires { ⌜ Ready normal source n (now tags) (now values) (now memo) ⌝ }
+    requires { ⌜ cellLimit ≤ length (now scratch) ⌝ }
+    requires { ⌜ AllBelow source (a .0) (b .0) (c .0 .0) (d .0) ⌝ }
     requires { ⌜ Index (now tags) (now values) n (now index) ⌝ }
-    ensures { λ r. ⌜ Formed normal lim n (now (tags .entry)) (now (values .entry)) (now (memo .entry)) (twoPairs polarity (λ t p. normalOf lim (now (tags .entry)) (now (values .entry)) t p) a b (c .0) (c .1) d) r (now (tags .exit)) (now (values .exit)) (now (memo .exit)) ⌝ }
+    ensures { λ r. ⌜ Formed normal source n (now (tags .entry)) (now (values .entry)) (now (memo .entry)) (twoPairs polarity (λ t p. normalOf source (now (tags .entry)) (now (values .entry)) t p) (a .0) (b .0) (c .0 .0) (c .1) (d .0)) r (now (tags .exit)) (now (values .exit)) (now (memo .exit)) ⌝ }
     ensures { λ r. ⌜ Indexed r (now (tags .exit)) (now (values .exit)) (now (index .exit)) ⌝ }
 {
     let f = Signed(a, !polarity);
-    let Built::At(p, m) = pair_of(tags, values, memo, row, index, lim, n, polarity, f, b) else {
+    let Built::At(p, m) = pair_of(
+        tags,
+        values,
+        memo,
+        scratch,
+        index,
+        source,
+        n,
+        polarity,
+        f,
+        b,
+    ) else {
         return Built::Full;
     };
-    let Built::At(q, l) = pair_of(tags, values, memo, row, index, lim, m, polarity, c, d) else {
+    let Built::At(q, l) = pair_of(
+        tags,
+        values,
+        memo,
+        scratch,
+        index,
+        source,
+        m,
+        polarity,
+        c,
+        d,
+    ) else {
         return Built::Full;
     };
     put_pair(tags, values, index, l, polarity, p, q)
@@ -258,7 +425,7 @@ fn two_pairs(
 pub fn build_normal_form(
     tags: &mut [u32],
     values: &mut [u32],
-    index: &mut [u32; 12288],
+    index: &mut [u32; INDEX],
     n: usize,
     t: TermPlace,
     polarity: bool,
@@ -269,17 +436,17 @@ pub fn build_normal_form(
     ensures { λ r. ⌜ NormalBuilt n (now (tags .entry)) (now (values .entry)) (normalForm (poolOf (now (tags .entry)) (now (values .entry)) n) (t .0) polarity) r (now (tags .exit)) (now (values .exit)) ⌝ }
     ensures { λ r. ⌜ Indexed r (now (tags .exit)) (now (values .exit)) (now (index .exit)) ⌝ }
 {
-    let mut memo = [0u32; 16384];
-    let mut row = [0u32; 8192];
+    let mut memo = [0u32; FORMS];
+    let mut scratch = [0u32; CELLS];
     negation_normal_form(
         tags,
         values,
         &mut memo,
-        &mut row,
+        &mut scratch,
         index,
         n,
         n,
-        t.0,
+        t,
         polarity,
     )
 }

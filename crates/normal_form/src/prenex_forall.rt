@@ -1,14 +1,17 @@
 // The taken-out form of a term in normal form, built into the pool: foralls are taken out through `and`, `or` and forall alone.
-// The source pool is the first `lim` cells. The memo and the row are as for the normal form, at true polarity alone.
+// The source pool is the first `source` cells. The memo and the scratch are as for the normal form, at true polarity alone.
 use building::build::Built;
-use building::terms::put_many;
+use building::terms::put_connective;
 use building::terms::slot;
 use formulas::view::NormalView;
 use formulas::view::normal_view;
 use pool::TermPlace;
+use pool::index::INDEX;
+use pool::limits::CELLS;
 use pool::run::operands;
 ghost use mathlib.Core.Bool.{true};
 ghost use Prim.Native.Nat.{_≤_, _<_};
+ghost use Rattle.cells.specs.Limits.{cellLimit};
 ghost use lib.ListN.{length};
 ghost use Rattle.formulas.specs.Built.{takenOut};
 ghost use Rattle.building.specs.Arrays.{poolOf};
@@ -20,28 +23,28 @@ fn prenex_forall(
     tags: &mut [u32],
     values: &mut [u32],
     memo: &mut [u32],
-    row: &mut [u32],
-    index: &mut [u32; 12288],
-    lim: usize,
+    scratch: &mut [u32],
+    index: &mut [u32; INDEX],
+    source: usize,
     n: usize,
-    x: u32,
+    x: TermPlace,
 ) -> Built
-    requires { ⌜ Ready taken-out lim n (now tags) (now values) (now memo) ⌝ }
-    requires { ⌜ 8192 ≤ length (now row) ⌝ }
-    requires { ⌜ x < lim ⌝ }
+    requires { ⌜ Ready taken-out source n (now tags) (now values) (now memo) ⌝ }
+    requires { ⌜ cellLimit ≤ length (now scratch) ⌝ }
+    requires { ⌜ x .0 < source ⌝ }
     requires { ⌜ Index (now tags) (now values) n (now index) ⌝ }
-    ensures { λ r. ⌜ Known taken-out lim n (now (tags .entry)) (now (values .entry)) (now (memo .entry)) x true r (now (tags .exit)) (now (values .exit)) (now (memo .exit)) ⌝ }
+    ensures { λ r. ⌜ Known taken-out source n (now (tags .entry)) (now (values .entry)) (now (memo .entry)) (x .0) true r (now (tags .exit)) (now (values .exit)) (now (memo .exit)) ⌝ }
     ensures { λ r. ⌜ Indexed r (now (tags .exit)) (now (values .exit)) (now (index .exit)) ⌝ }
 {
     let i = slot(x, true);
     let known = memo[i];
     if known != 0 {
-        return Built::At(known - 1, n);
+        return Built::At(TermPlace(known - 1), n);
     }
-    let Built::At(p, m) = take_out(tags, values, memo, row, index, lim, n, x) else {
+    let Built::At(p, m) = take_out(tags, values, memo, scratch, index, source, n, x) else {
         return Built::Full;
     };
-    memo[i] = p + 1;
+    memo[i] = p.0 + 1;
     Built::At(p, m)
 }
 
@@ -50,28 +53,38 @@ fn take_out(
     tags: &mut [u32],
     values: &mut [u32],
     memo: &mut [u32],
-    row: &mut [u32],
-    index: &mut [u32; 12288],
-    lim: usize,
+    scratch: &mut [u32],
+    index: &mut [u32; INDEX],
+    source: usize,
     n: usize,
-    x: u32,
+    x: TermPlace,
 ) -> Built
-    requires { ⌜ Ready taken-out lim n (now tags) (now values) (now memo) ⌝ }
-    requires { ⌜ 8192 ≤ length (now row) ⌝ }
-    requires { ⌜ x < lim ⌝ }
+    requires { ⌜ Ready taken-out source n (now tags) (now values) (now memo) ⌝ }
+    requires { ⌜ cellLimit ≤ length (now scratch) ⌝ }
+    requires { ⌜ x .0 < source ⌝ }
     requires { ⌜ Index (now tags) (now values) n (now index) ⌝ }
-    ensures { λ r. ⌜ Formed taken-out lim n (now (tags .entry)) (now (values .entry)) (now (memo .entry)) (formOf taken-out lim (now (tags .entry)) (now (values .entry)) x true) r (now (tags .exit)) (now (values .exit)) (now (memo .exit)) ⌝ }
+    ensures { λ r. ⌜ Formed taken-out source n (now (tags .entry)) (now (values .entry)) (now (memo .entry)) (formOf taken-out source (now (tags .entry)) (now (values .entry)) (x .0) true) r (now (tags .exit)) (now (values .exit)) (now (memo .exit)) ⌝ }
     ensures { λ r. ⌜ Indexed r (now (tags .exit)) (now (values .exit)) (now (index .exit)) ⌝ }
 {
-    let view = normal_view(&tags[..lim], &values[..lim], TermPlace(x));
+    let view = normal_view(&tags[..source], &values[..source], x);
     match view {
         NormalView::Literal => Built::At(x, n),
-        NormalView::Forall(body) => prenex_forall(tags, values, memo, row, index, lim, n, body),
+        NormalView::Forall(body) => prenex_forall(
+            tags,
+            values,
+            memo,
+            scratch,
+            index,
+            source,
+            n,
+            body,
+        ),
         NormalView::Connective(b) => {
-            let Built::At(_, m) = operand_forms(tags, values, memo, row, index, lim, n, x, 0) else {
+            let Built::At(_, m) = operand_forms(tags, values, memo, scratch, index, source, n, x, 0)
+            else {
                 return Built::Full;
             };
-            put_many(tags, values, memo, row, index, lim, m, x, true, b)
+            put_connective(tags, values, memo, scratch, index, source, m, x, true, b)
         }
     }
 }
@@ -81,47 +94,47 @@ fn operand_forms(
     tags: &mut [u32],
     values: &mut [u32],
     memo: &mut [u32],
-    row: &mut [u32],
-    index: &mut [u32; 12288],
-    lim: usize,
+    scratch: &mut [u32],
+    index: &mut [u32; INDEX],
+    source: usize,
     n: usize,
-    x: u32,
+    x: TermPlace,
     i: usize,
 ) -> Built
-    requires { ⌜ Ready taken-out lim n (now tags) (now values) (now memo) ⌝ }
-    requires { ⌜ 8192 ≤ length (now row) ⌝ }
-    requires { ⌜ x < lim ⌝ }
-    requires { ⌜ Before lim (now tags) (now values) x ⌝ }
+    requires { ⌜ Ready taken-out source n (now tags) (now values) (now memo) ⌝ }
+    requires { ⌜ cellLimit ≤ length (now scratch) ⌝ }
+    requires { ⌜ x .0 < source ⌝ }
+    requires { ⌜ Before source (now tags) (now values) (x .0) ⌝ }
     requires { ⌜ Index (now tags) (now values) n (now index) ⌝ }
-    ensures { λ r. ⌜ OperandsKnown taken-out lim n (now (tags .entry)) (now (values .entry)) (now (memo .entry)) x true i r (now (tags .exit)) (now (values .exit)) (now (memo .exit)) ⌝ }
+    ensures { λ r. ⌜ OperandsKnown taken-out source n (now (tags .entry)) (now (values .entry)) (now (memo .entry)) (x .0) true i r (now (tags .exit)) (now (values .exit)) (now (memo .exit)) ⌝ }
     ensures { λ r. ⌜ Indexed r (now (tags .exit)) (now (values .exit)) (now (index .exit)) ⌝ }
 {
-    let run = operands(&tags[..lim], &values[..lim], TermPlace(x));
+    let run = operands(&tags[..source], &values[..source], x);
     if run.len() <= i {
-        return Built::At(0, n);
+        return Built::At(TermPlace(0), n);
     }
-    let u = run[i];
-    let Built::At(_, m) = prenex_forall(tags, values, memo, row, index, lim, n, u) else {
+    let u = TermPlace(run[i]);
+    let Built::At(_, m) = prenex_forall(tags, values, memo, scratch, index, source, n, u) else {
         return Built::Full;
     };
-    operand_forms(tags, values, memo, row, index, lim, m, x, i + 1)
+    operand_forms(tags, values, memo, scratch, index, source, m, x, i + 1)
 }
 
 // The taken-out form of the term in normal form at x, put into the pool of n cells.
 pub fn build_taken_out(
     tags: &mut [u32],
     values: &mut [u32],
-    index: &mut [u32; 12288],
+    index: &mut [u32; INDEX],
     n: usize,
-    x: u32,
+    x: TermPlace,
 ) -> Built
     requires { ⌜ State n n (now tags) (now values) ⌝ }
-    requires { ⌜ x < n ⌝ }
+    requires { ⌜ x .0 < n ⌝ }
     requires { ⌜ Index (now tags) (now values) n (now index) ⌝ }
-    ensures { λ r. ⌜ NormalBuilt n (now (tags .entry)) (now (values .entry)) (takenOut (poolOf (now (tags .entry)) (now (values .entry)) n) x) r (now (tags .exit)) (now (values .exit)) ⌝ }
+    ensures { λ r. ⌜ NormalBuilt n (now (tags .entry)) (now (values .entry)) (takenOut (poolOf (now (tags .entry)) (now (values .entry)) n) (x .0)) r (now (tags .exit)) (now (values .exit)) ⌝ }
     ensures { λ r. ⌜ Indexed r (now (tags .exit)) (now (values .exit)) (now (index .exit)) ⌝ }
 {
-    let mut memo = [0u32; 8192];
-    let mut row = [0u32; 8192];
-    prenex_forall(tags, values, &mut memo, &mut row, index, n, n, x)
+    let mut memo = [0u32; CELLS];
+    let mut scratch = [0u32; CELLS];
+    prenex_forall(tags, values, &mut memo, &mut scratch, index, n, n, x)
 }

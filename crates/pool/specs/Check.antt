@@ -13,12 +13,13 @@ use Rattle.descriptions.specs.Description.{firstRepeat}
 use Rattle.descriptions.specs.Index.{Index}
 use Rattle.sorts.specs.SortRule.{firstWrongSort}
 use Rattle.answers.specs.declared.Answer.{Answer}
+use Rattle.cells.specs.Limits.{cellLimit}
 use Rattle.cells.specs.declared.Found.{Found}
 use Rattle.cells.specs.declared.Found.the-variants.{At, Nothing}
 
 -- "30 arrays unequal, N past them or over 8,192"
 unfoldable pub arraysFit : List ℕ → List ℕ → ℕ → Bool
-arraysFit tags values n = eqb (length tags) (length values) && (leb n (length tags) && leb n 8192)
+arraysFit tags values n = eqb (length tags) (length values) && (leb n (length tags) && leb n cellLimit)
 
 -- a refusal with the place found, else what comes next
 abbrev pub refuseAt : (ℕ → Answer) → Found → Answer → Answer

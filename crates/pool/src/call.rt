@@ -6,6 +6,7 @@ use answers::Answer;
 use cells::TermPlace;
 use cells::marks::clear_marks;
 use cells::run::sort_of;
+use descriptions::index::INDEX;
 use free_variables::free_vars::mark_free_vars;
 use headers::well_formed::is_term;
 use sorts::table::built_in;
@@ -23,7 +24,7 @@ pub fn check_pool(tags: &[u32], values: &[u32], n: usize) -> Answer
 }
 
 // The pool check under the built-in table, and the index of a pool that passes.
-pub fn index_pool(tags: &[u32], values: &[u32], n: usize, index: &mut [u32; 12288]) -> Answer
+pub fn index_pool(tags: &[u32], values: &[u32], n: usize, index: &mut [u32; INDEX]) -> Answer
     ensures { λ r. ⌜ r ≡ checkPool (now (tags .entry)) (now (values .entry)) builtIn n ⌝ }
     ensures { λ r. ⌜ Indexed (now (tags .entry)) (now (values .entry)) n r (now (index .exit)) ⌝ }
 {
@@ -45,7 +46,7 @@ pub fn index_term(
     values: &[u32],
     n: usize,
     t: TermPlace,
-    index: &mut [u32; 12288],
+    index: &mut [u32; INDEX],
 ) -> Answer
     ensures { λ r. ⌜ r ≡ checkTerm (now (tags .entry)) (now (values .entry)) builtIn n (t .0) ⌝ }
     ensures { λ r. ⌜ Indexed (now (tags .entry)) (now (values .entry)) n r (now (index .exit)) ⌝ }

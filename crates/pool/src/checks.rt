@@ -1,7 +1,10 @@
 // The checks of a pool under a lent table of sort rules, and of a place in it.
+ghost use Rattle.cells.specs.Limits.{cellLimit};
 use answers::Answer;
 use cells::Found;
 use cells::TermPlace;
+use cells::limits::CELLS;
+use descriptions::index::INDEX;
 use descriptions::repeats::first_repeat;
 use headers::well_formed::first_bad;
 use headers::well_formed::is_term;
@@ -20,7 +23,7 @@ fn arrays_fit(tags: &[u32], values: &[u32], n: usize) -> bool
     if tags.len() < n {
         return false;
     }
-    n <= 8192
+    n <= CELLS
 }
 
 // Checks 14, 15 and 16, in that order. Check 30 has passed, so a place fits u32.
@@ -29,9 +32,9 @@ fn check_cells(
     values: &[u32],
     rules: &[u32],
     n: usize,
-    index: &mut [u32; 12288],
+    index: &mut [u32; INDEX],
 ) -> Answer
-    requires { ⌜ n ≤ 8192 ⌝ }
+    requires { ⌜ n ≤ cellLimit ⌝ }
     ensures { λ r. ⌜ r ≡ checkCells (now (tags .entry)) (now (values .entry)) (now (rules .entry)) n ⌝ }
     ensures { λ r. ⌜ Indexed (now (tags .entry)) (now (values .entry)) n r (now (index .exit)) ⌝ }
 {
@@ -56,7 +59,7 @@ pub fn index_pool_by(
     values: &[u32],
     rules: &[u32],
     n: usize,
-    index: &mut [u32; 12288],
+    index: &mut [u32; INDEX],
 ) -> Answer
     ensures { λ r. ⌜ r ≡ checkPool (now (tags .entry)) (now (values .entry)) (now (rules .entry)) n ⌝ }
     ensures { λ r. ⌜ Indexed (now (tags .entry)) (now (values .entry)) n r (now (index .exit)) ⌝ }
@@ -71,7 +74,7 @@ pub fn index_pool_by(
 pub fn check_pool_by(tags: &[u32], values: &[u32], rules: &[u32], n: usize) -> Answer
     ensures { λ r. ⌜ r ≡ checkPool (now (tags .entry)) (now (values .entry)) (now (rules .entry)) n ⌝ }
 {
-    let mut index = [0u32; 12288];
+    let mut index = [0u32; INDEX];
     index_pool_by(tags, values, rules, n, &mut index)
 }
 

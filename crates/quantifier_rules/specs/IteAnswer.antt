@@ -25,13 +25,13 @@ forallOver tags values t u = isOver t (andThen (quantifier tags values u) (ofKin
 -- the sides at these places
 unfoldable pub iteAt : List ℕ → List ℕ → ItePlaces → IteSides
 iteAt tags values p = record {
-  left = p .left;
-  list = bindingsOf (pairsOf tags values (p .left));
-  test = p .test;
-  yes-place = p .yes;
-  yes-list = bindingsOf (pairsOf tags values (p .yes));
-  no-place = p .no;
-  no-list = bindingsOf (pairsOf tags values (p .no));
+  left = p .left .0;
+  list = bindingsOf (pairsOf tags values (p .left .0));
+  test = p .test .0;
+  yes-place = p .yes .0;
+  yes-list = bindingsOf (pairsOf tags values (p .yes .0));
+  no-place = p .no .0;
+  no-list = bindingsOf (pairsOf tags values (p .no .0));
 }
 
 unfoldable pub iteIn : List ℕ → List ℕ → IteMatched → Option IteSides

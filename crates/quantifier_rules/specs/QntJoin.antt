@@ -9,7 +9,8 @@ use mathlib.Core.List.{List, [], _∷_, _++_}
 use lib.Dec.{eqb}
 use Rattle.answers.specs.Outcome.{Outcome, _>>=_, _>>_, need, guard}
 use Rattle.bindings.specs.Binding.{Binding, same, has, sameAll}
-use Rattle.formulas.specs.Pattern.{quantifier, tagOf, equality}
+use Rattle.formulas.specs.Pattern.{quantifier, equality}
+use Rattle.formulas.specs.Formula.{quantifierTag}
 
 -- "adjacent equal pairs dropped": a pair that equals the one before it goes
 unfoldable pub afterPair : Binding → List Binding → List Binding
@@ -50,7 +51,7 @@ qntJoin tags values x = do
   left ← need 3 (sides .0) 0 (quantifier tags values (sides .0))
   inner ← need 3 (left .body) 0 (quantifier tags values (left .body))
   right ← need 3 (sides .1) 0 (quantifier tags values (sides .1))
-  guard 4 (tagOf (left .kind)) (tagOf (inner .kind)) (Bool·beq (left .kind) (inner .kind))
-  guard 4 (tagOf (inner .kind)) (tagOf (right .kind)) (Bool·beq (inner .kind) (right .kind))
+  guard 4 (quantifierTag (left .kind)) (quantifierTag (inner .kind)) (Bool·beq (left .kind) (inner .kind))
+  guard 4 (quantifierTag (inner .kind)) (quantifierTag (right .kind)) (Bool·beq (inner .kind) (right .kind))
   guard 5 (inner .body) (right .body) (eqb (inner .body) (right .body))
   guard 7 (sides .0) (sides .1) (sameAll (joined (left .list) (inner .list)) (right .list))

@@ -9,7 +9,8 @@ use lib.Dec.{eqb}
 use Rattle.answers.specs.Outcome.{Outcome, pass, _>>=_, _>>_, need, guard, unless}
 use Rattle.bindings.specs.Binding.{Binding, has, firstOf}
 use Rattle.free_variables.specs.BindingFree.{bindingFree}
-use Rattle.formulas.specs.Pattern.{Quantifier, quantifier, tagOf, equality}
+use Rattle.formulas.specs.Pattern.{Quantifier, quantifier, equality}
+use Rattle.formulas.specs.Formula.{quantifierTag}
 
 abbrev pub isSome : {A : Type 0} → Option A → Bool
 isSome (some a) = true
@@ -21,7 +22,7 @@ module _ (tags values : List ℕ) (n : ℕ) where
   unfoldable pub removes : Quantifier → ℕ → Outcome (Unit {0})
   removes left x = do
     right ← need 3 x 0 (quantifier tags values x)
-    guard 4 (tagOf (left .kind)) (tagOf (right .kind)) (Bool·beq (left .kind) (right .kind))
+    guard 4 (quantifierTag (left .kind)) (quantifierTag (right .kind)) (Bool·beq (left .kind) (right .kind))
     guard 5 (left .body) (right .body) (eqb (left .body) (right .body))
     unless 8 (λ (a : Binding). a .name) 0 (firstOf (λ a. not (has (left .list) a)) (right .list))
     unless 9 (λ (a : Binding). a .name) 0 (firstOf (λ a. not (has (right .list) a) && bindingFree tags values n (left .body) a) (left .list))

@@ -14,11 +14,11 @@ use Rattle.quantifier_rules.specs.declared.sides.Matched.the-variants.{A
 unfoldable pub sidesAt : List ℕ → List ℕ → Places → Sides
 sidesAt tags values p = record {
   kind = p .kind;
-  left = p .left;
-  right = p .right;
-  list = bindingsOf (pairsOf tags values (p .left));
-  from = operandsOf tags values (p .body);
-  to = operandsOf tags values (p .right);
+  left = p .left .0;
+  right = p .right .0;
+  list = bindingsOf (pairsOf tags values (p .left .0));
+  from = operandsOf tags values (p .body .0);
+  to = operandsOf tags values (p .right .0);
 }
 
 unfoldable pub sidesIn : List ℕ → List ℕ → Matched → Option Sides

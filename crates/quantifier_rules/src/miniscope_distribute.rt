@@ -13,6 +13,8 @@ use pool::list_comparison::same_lists;
 use pool::outcome::accept;
 use pool::outcome::refuse;
 use pool::run::operands;
+use pool::tags::AND;
+use pool::tags::OR;
 ghost use mathlib.Core.Path.{_≡_};
 ghost use Rattle.answers.specs.Outcome.{answerOf};
 ghost use Rattle.answers.specs.Checked.{outcomeOf};
@@ -20,18 +22,18 @@ ghost use Rattle.quantifier_rules.specs.SidesAnswer.{sidesAt};
 ghost use Rattle.quantifier_rules.specs.MiniscopeDistribute.{distributed, distributedAll, miniscopeDistribute};
 
 // Whether the right operand at u is the left quantifier over the left operand at t.
-fn distributed(tags: &[u32], values: &[u32], s: Places, t: u32, u: u32) -> Checked
-    ensures { λ r. ⌜ distributed (now (tags .entry)) (now (values .entry)) (sidesAt (now (tags .entry)) (now (values .entry)) s) t u ≡ outcomeOf r tt ⌝ }
+fn distributed(tags: &[u32], values: &[u32], s: Places, t: TermPlace, u: TermPlace) -> Checked
+    ensures { λ r. ⌜ distributed (now (tags .entry)) (now (values .entry)) (sidesAt (now (tags .entry)) (now (values .entry)) s) (t .0) (u .0) ≡ outcomeOf r tt ⌝ }
 {
     let left = s.left;
     let Quantified::Is(_, body) = of_kind(tags, values, s.kind, u) else {
-        return Checked::Refuses(2, u, 0);
+        return Checked::Refuses(2, u.0, 0);
     };
     if !same_lists(bindings(tags, values, left), bindings(tags, values, u)) {
-        return Checked::Refuses(6, left, u);
+        return Checked::Refuses(6, left.0, u.0);
     }
-    if t != body {
-        return Checked::Refuses(5, t, body);
+    if t.0 != body.0 {
+        return Checked::Refuses(5, t.0, body.0);
     }
     Checked::Passes
 }
@@ -45,7 +47,13 @@ fn distributed_all(tags: &[u32], values: &[u32], s: Places, from: &[u32], to: &[
         if to.len() <= i {
             return accept();
         }
-        if let Checked::Refuses(k, m, n) = distributed(tags, values, s, from[i], to[i]) {
+        if let Checked::Refuses(k, m, n) = distributed(
+            tags,
+            values,
+            s,
+            TermPlace(from[i]),
+            TermPlace(to[i]),
+        ) {
             return refuse(k, m, n);
         }
         i += 1;
@@ -57,7 +65,7 @@ fn distributed_all(tags: &[u32], values: &[u32], s: Places, from: &[u32], to: &[
 pub fn miniscope_distribute(tags: &[u32], values: &[u32], x: TermPlace) -> Answer
     ensures { λ r. ⌜ r ≡ answerOf (miniscopeDistribute (now (tags .entry)) (now (values .entry)) (x .0)) ⌝ }
 {
-    let Matched::At(s) = either_sides(tags, values, 36, 37, x.0) else {
+    let Matched::At(s) = either_sides(tags, values, AND, OR, x) else {
         return refuse(2, x.0, 0);
     };
     let from_count = operand_count(tags, values, s.body);
@@ -65,7 +73,7 @@ pub fn miniscope_distribute(tags: &[u32], values: &[u32], x: TermPlace) -> Answe
     if from_count != to_count {
         return refuse(11, from_count, to_count);
     }
-    let from = operands(tags, values, TermPlace(s.body));
-    let to = operands(tags, values, TermPlace(s.right));
+    let from = operands(tags, values, s.body);
+    let to = operands(tags, values, s.right);
     distributed_all(tags, values, s, from, to)
 }

@@ -13,6 +13,7 @@ use pool::free_lists::first_free;
 use pool::list_comparison::same_lists;
 use pool::outcome::accept;
 use pool::outcome::refuse;
+use pool::tags::ITE;
 ghost use mathlib.Core.Path.{_≡_};
 ghost use Rattle.answers.specs.Outcome.{answerOf};
 ghost use Rattle.quantifier_rules.specs.MiniscopeIte.{iteSides, miniscopeIte};
@@ -20,10 +21,10 @@ ghost use Rattle.quantifier_rules.specs.IteAnswer.{forallOver, iteIn};
 
 // The places of the left quantifier, of the first operand of `ite`, and of the two quantifiers on the right.
 pub struct ItePlaces {
-    pub left: u32,
-    pub test: u32,
-    pub yes: u32,
-    pub no: u32,
+    pub left: TermPlace,
+    pub test: TermPlace,
+    pub yes: TermPlace,
+    pub no: TermPlace,
 }
 
 pub enum IteMatched {
@@ -32,18 +33,18 @@ pub enum IteMatched {
 }
 
 // Whether the term at u is a forall over the term at t.
-fn is_forall_over(tags: &[u32], values: &[u32], t: u32, u: u32) -> bool
-    ensures { λ r. ⌜ r ≡ forallOver (now (tags .entry)) (now (values .entry)) t u ⌝ }
+fn is_forall_over(tags: &[u32], values: &[u32], t: TermPlace, u: TermPlace) -> bool
+    ensures { λ r. ⌜ r ≡ forallOver (now (tags .entry)) (now (values .entry)) (t .0) (u .0) ⌝ }
 {
     let Quantified::Is(_, body) = of_kind(tags, values, true, u) else {
         return false;
     };
-    t == body
+    t.0 == body.0
 }
 
 // The whole pattern at x.
-fn ite_sides(tags: &[u32], values: &[u32], x: u32) -> IteMatched
-    ensures { λ r. ⌜ iteSides (now (tags .entry)) (now (values .entry)) x ≡ iteIn (now (tags .entry)) (now (values .entry)) r ⌝ }
+fn ite_sides(tags: &[u32], values: &[u32], x: TermPlace) -> IteMatched
+    ensures { λ r. ⌜ iteSides (now (tags .entry)) (now (values .entry)) (x .0) ≡ iteIn (now (tags .entry)) (now (values .entry)) r ⌝ }
 {
     let Two::Are(left, right) = equality_at(tags, values, x) else {
         return IteMatched::Nothing;
@@ -51,13 +52,13 @@ fn ite_sides(tags: &[u32], values: &[u32], x: u32) -> IteMatched
     let Quantified::Is(_, body) = of_kind(tags, values, true, left) else {
         return IteMatched::Nothing;
     };
-    let Three::Are(test, then_term, else_term) = three_operands(tags, values, 41, body) else {
+    let Three::Are(test, then_term, else_term) = three_operands(tags, values, ITE, body) else {
         return IteMatched::Nothing;
     };
-    let Three::Are(same_test, yes, no) = three_operands(tags, values, 41, right) else {
+    let Three::Are(same_test, yes, no) = three_operands(tags, values, ITE, right) else {
         return IteMatched::Nothing;
     };
-    if test != same_test {
+    if test.0 != same_test.0 {
         return IteMatched::Nothing;
     }
     if !is_forall_over(tags, values, then_term, yes) {
@@ -78,18 +79,18 @@ fn ite_sides(tags: &[u32], values: &[u32], x: u32) -> IteMatched
 pub fn miniscope_ite(tags: &[u32], values: &[u32], n: usize, x: TermPlace) -> Answer
     ensures { λ r. ⌜ r ≡ answerOf (miniscopeIte (now (tags .entry)) (now (values .entry)) n (x .0)) ⌝ }
 {
-    let IteMatched::At(s) = ite_sides(tags, values, x.0) else {
+    let IteMatched::At(s) = ite_sides(tags, values, x) else {
         return refuse(2, x.0, 0);
     };
     let list = bindings(tags, values, s.left);
     if !same_lists(list, bindings(tags, values, s.yes)) {
-        return refuse(6, s.left, s.yes);
+        return refuse(6, s.left.0, s.yes.0);
     }
     if !same_lists(list, bindings(tags, values, s.no)) {
-        return refuse(6, s.left, s.no);
+        return refuse(6, s.left.0, s.no.0);
     }
     if let FirstName::Name(name) = first_free(tags, values, n, s.test, list) {
-        return refuse(12, name, s.test);
+        return refuse(12, name, s.test.0);
     }
     accept()
 }

@@ -1,4 +1,5 @@
 // Rule 5, `miniscope_split`: 2, 11, then by operand: equal passes, else 2, 5, 8; then 12.
+ghost use Rattle.cells.specs.Limits.{cellLimit};
 use crate::sides::Matched;
 use crate::sides::Places;
 use crate::sides::either_sides;
@@ -14,6 +15,8 @@ use pool::free_lists::first_free;
 use pool::outcome::accept;
 use pool::outcome::refuse;
 use pool::run::operands;
+use pool::tags::AND;
+use pool::tags::OR;
 use pool::used_pairs::use_all;
 ghost use mathlib.Core.Path.{_≡_};
 ghost use Prim.Native.Nat.{_≤_};
@@ -27,6 +30,9 @@ ghost use Rattle.quantifier_rules.specs.SidesAnswer.{sidesAt};
 ghost use Rattle.bindings.specs.Used.{leftOf};
 ghost use Rattle.quantifier_rules.specs.LeftFits.{LeftFits};
 
+// The pairs of a list, at most half as many as cells.
+const PAIRS: usize = 4096;
+
 // One operand: the right one at u is the left one at t, or t under a quantifier over outer pairs that are left, which it uses.
 fn split_one(
     tags: &[u32],
@@ -34,19 +40,19 @@ fn split_one(
     kind: bool,
     outer: &[u32],
     used: &mut [u8],
-    t: u32,
-    u: u32,
+    t: TermPlace,
+    u: TermPlace,
 ) -> Checked
-    ensures { λ r. ⌜ splitOne (now (tags .entry)) (now (values .entry)) kind (leftOf (now (used .entry)) (bindingsOf (now (outer .entry)))) t u ≡ outcomeOf r (leftOf (now (used .exit)) (bindingsOf (now (outer .entry)))) ⌝ }
+    ensures { λ r. ⌜ splitOne (now (tags .entry)) (now (values .entry)) kind (leftOf (now (used .entry)) (bindingsOf (now (outer .entry)))) (t .0) (u .0) ≡ outcomeOf r (leftOf (now (used .exit)) (bindingsOf (now (outer .entry)))) ⌝ }
 {
-    if t == u {
+    if t.0 == u.0 {
         return Checked::Passes;
     }
     let Quantified::Is(_, body) = of_kind(tags, values, kind, u) else {
-        return Checked::Refuses(2, u, 0);
+        return Checked::Refuses(2, u.0, 0);
     };
-    if t != body {
-        return Checked::Refuses(5, t, body);
+    if t.0 != body.0 {
+        return Checked::Refuses(5, t.0, body.0);
     }
     use_all(outer, used, bindings(tags, values, u))
 }
@@ -74,8 +80,8 @@ fn split_all(
             kind,
             outer,
             used,
-            from[i],
-            to[i],
+            TermPlace(from[i]),
+            TermPlace(to[i]),
         ) {
             return Checked::Refuses(k, m, n);
         }
@@ -93,26 +99,26 @@ fn split(
     from: &[u32],
     to: &[u32],
 ) -> Checked
-    requires { ⌜ length (now outer) ≤ 8192 ⌝ }
+    requires { ⌜ length (now outer) ≤ cellLimit ⌝ }
     ensures { λ r. ⌜ splitAll (now (tags .entry)) (now (values .entry)) kind (bindingsOf (now (outer .entry))) (now (from .entry)) (now (to .entry)) ≡ outcomeOf r tt ⌝ }
 {
-    let mut used = [0u8; 4096];
+    let mut used = [0u8; PAIRS];
     split_all(tags, values, kind, outer, &mut used, from, to)
 }
 
 // The operands, then 12: no outer pair is free in the right side.
 fn split_sides(tags: &[u32], values: &[u32], n: usize, s: Places) -> Answer
-    requires { ⌜ length (pairsOf (now tags) (now values) (s .left)) ≤ 8192 ⌝ }
+    requires { ⌜ length (pairsOf (now tags) (now values) (s .left .0)) ≤ cellLimit ⌝ }
     ensures { λ r. ⌜ r ≡ answerOf (splitSides (now (tags .entry)) (now (values .entry)) n (sidesAt (now (tags .entry)) (now (values .entry)) s)) ⌝ }
 {
     let outer = bindings(tags, values, s.left);
-    let from = operands(tags, values, TermPlace(s.body));
-    let to = operands(tags, values, TermPlace(s.right));
+    let from = operands(tags, values, s.body);
+    let to = operands(tags, values, s.right);
     if let Checked::Refuses(k, a, b) = split(tags, values, s.kind, outer, from, to) {
         return refuse(k, a, b);
     }
     if let FirstName::Name(name) = first_free(tags, values, n, s.right, outer) {
-        return refuse(12, name, s.right);
+        return refuse(12, name, s.right.0);
     }
     accept()
 }
@@ -122,7 +128,7 @@ pub fn miniscope_split(tags: &[u32], values: &[u32], n: usize, x: TermPlace) -> 
     requires { ⌜ LeftFits (now tags) (now values) (x .0) ⌝ }
     ensures { λ r. ⌜ r ≡ answerOf (miniscopeSplit (now (tags .entry)) (now (values .entry)) n (x .0)) ⌝ }
 {
-    let Matched::At(s) = either_sides(tags, values, 37, 36, x.0) else {
+    let Matched::At(s) = either_sides(tags, values, OR, AND, x) else {
         return refuse(2, x.0, 0);
     };
     let from_count = operand_count(tags, values, s.body);

@@ -4,8 +4,9 @@ use formulas::matching::Two;
 use formulas::matching::bindings;
 use formulas::matching::equality_at;
 use formulas::matching::quantified_at;
-use formulas::matching::tag_of;
+use formulas::view::quantifier_tag;
 use pool::Answer;
+use pool::SortPlace;
 use pool::TermPlace;
 use pool::binding::same_pair;
 use pool::outcome::accept;
@@ -26,18 +27,23 @@ pub enum Along {
 }
 
 // Whether a pair equals the one before j in the right list.
-fn is_repeat(right: &[u32], j: usize, name: u32, sort: u32) -> bool
-    ensures { λ r. ⌜ r ≡ isRepeat (now (right .entry)) j (pair name sort) ⌝ }
+fn is_repeat(right: &[u32], j: usize, name: u32, sort: SortPlace) -> bool
+    ensures { λ r. ⌜ r ≡ isRepeat (now (right .entry)) j (pair name (sort .0)) ⌝ }
 {
     if j < 2 {
         return false;
     }
-    same_pair(cell(right, j - 2), cell(right, j - 1), name, sort)
+    same_pair(
+        cell(right, j - 2),
+        SortPlace(cell(right, j - 1)),
+        name,
+        sort,
+    )
 }
 
 // Follows the right list from j on by one pair: it repeats the one before, or it is the next.
-fn along_pair(right: &[u32], j: usize, name: u32, sort: u32) -> Along
-    ensures { λ r. ⌜ Follows (pair name sort ∷ []) (now (right .entry)) j r ⌝ }
+fn along_pair(right: &[u32], j: usize, name: u32, sort: SortPlace) -> Along
+    ensures { λ r. ⌜ Follows (pair name (sort .0) ∷ []) (now (right .entry)) j r ⌝ }
 {
     if is_repeat(right, j, name, sort) {
         return Along::To(j);
@@ -48,7 +54,7 @@ fn along_pair(right: &[u32], j: usize, name: u32, sort: u32) -> Along
     if right.len() - j < 2 {
         return Along::Off;
     }
-    if !same_pair(name, sort, right[j], right[j + 1]) {
+    if !same_pair(name, sort, right[j], SortPlace(right[j + 1])) {
         return Along::Off;
     }
     Along::To(j + 2)
@@ -61,7 +67,7 @@ fn along_list(list: &[u32], right: &[u32], j: usize) -> Along
     let mut i: usize = 0;
     let mut k = j;
     while 2 <= list.len() - i {
-        let Along::To(next) = along_pair(right, k, list[i], list[i + 1]) else {
+        let Along::To(next) = along_pair(right, k, list[i], SortPlace(list[i + 1])) else {
             return Along::Off;
         };
         k = next;
@@ -90,31 +96,31 @@ pub(crate) fn same_joined(outer: &[u32], inner: &[u32], right: &[u32]) -> bool
 pub fn qnt_join(tags: &[u32], values: &[u32], x: TermPlace) -> Answer
     ensures { λ r. ⌜ r ≡ answerOf (qntJoin (now (tags .entry)) (now (values .entry)) (x .0)) ⌝ }
 {
-    let Two::Are(l, r) = equality_at(tags, values, x.0) else {
+    let Two::Are(l, r) = equality_at(tags, values, x) else {
         return refuse(2, x.0, 0);
     };
     let Quantified::Is(kind, body) = quantified_at(tags, values, l) else {
-        return refuse(3, l, 0);
+        return refuse(3, l.0, 0);
     };
     let Quantified::Is(inner_kind, inner_body) = quantified_at(tags, values, body) else {
-        return refuse(3, body, 0);
+        return refuse(3, body.0, 0);
     };
     let Quantified::Is(right_kind, right_body) = quantified_at(tags, values, r) else {
-        return refuse(3, r, 0);
+        return refuse(3, r.0, 0);
     };
     if kind != inner_kind {
-        return refuse(4, tag_of(kind), tag_of(inner_kind));
+        return refuse(4, quantifier_tag(kind), quantifier_tag(inner_kind));
     }
     if inner_kind != right_kind {
-        return refuse(4, tag_of(inner_kind), tag_of(right_kind));
+        return refuse(4, quantifier_tag(inner_kind), quantifier_tag(right_kind));
     }
-    if inner_body != right_body {
-        return refuse(5, inner_body, right_body);
+    if inner_body.0 != right_body.0 {
+        return refuse(5, inner_body.0, right_body.0);
     }
     let outer = bindings(tags, values, l);
     let inner = bindings(tags, values, body);
     if !same_joined(outer, inner, bindings(tags, values, r)) {
-        return refuse(7, l, r);
+        return refuse(7, l.0, r.0);
     }
     accept()
 }

@@ -4,7 +4,7 @@ use formulas::matching::Two;
 use formulas::matching::bindings;
 use formulas::matching::equality_at;
 use formulas::matching::quantified_at;
-use formulas::matching::tag_of;
+use formulas::view::quantifier_tag;
 use pool::Answer;
 use pool::TermPlace;
 use pool::binding::FirstName;
@@ -26,19 +26,19 @@ fn removes(
     n: usize,
     kind: bool,
     left: &[u32],
-    body: u32,
-    x: u32,
+    body: TermPlace,
+    x: TermPlace,
 ) -> Answer
-    ensures { λ r. ⌜ r ≡ answerOf (removes (now (tags .entry)) (now (values .entry)) n (withList kind (bindingsOf (now (left .entry))) body) x) ⌝ }
+    ensures { λ r. ⌜ r ≡ answerOf (removes (now (tags .entry)) (now (values .entry)) n (withList kind (bindingsOf (now (left .entry))) (body .0)) (x .0)) ⌝ }
 {
     let Quantified::Is(right_kind, right_body) = quantified_at(tags, values, x) else {
-        return refuse(3, x, 0);
+        return refuse(3, x.0, 0);
     };
     if kind != right_kind {
-        return refuse(4, tag_of(kind), tag_of(right_kind));
+        return refuse(4, quantifier_tag(kind), quantifier_tag(right_kind));
     }
-    if body != right_body {
-        return refuse(5, body, right_body);
+    if body.0 != right_body.0 {
+        return refuse(5, body.0, right_body.0);
     }
     let right = bindings(tags, values, x);
     if let FirstName::Name(name) = first_new(right, left) {
@@ -57,12 +57,12 @@ fn body_or(
     n: usize,
     kind: bool,
     left: &[u32],
-    body: u32,
-    x: u32,
+    body: TermPlace,
+    x: TermPlace,
 ) -> Answer
-    ensures { λ r. ⌜ r ≡ answerOf (bodyOr (now (tags .entry)) (now (values .entry)) n (withList kind (bindingsOf (now (left .entry))) body) x) ⌝ }
+    ensures { λ r. ⌜ r ≡ answerOf (bodyOr (now (tags .entry)) (now (values .entry)) n (withList kind (bindingsOf (now (left .entry))) (body .0)) (x .0)) ⌝ }
 {
-    if body != x {
+    if body.0 != x.0 {
         return removes(tags, values, n, kind, left, body, x);
     }
     if let FirstName::Name(_) = first_free(tags, values, n, body, left) {
@@ -75,11 +75,11 @@ fn body_or(
 pub fn qnt_rm_unused(tags: &[u32], values: &[u32], n: usize, x: TermPlace) -> Answer
     ensures { λ r. ⌜ r ≡ answerOf (qntRmUnused (now (tags .entry)) (now (values .entry)) n (x .0)) ⌝ }
 {
-    let Two::Are(l, r) = equality_at(tags, values, x.0) else {
+    let Two::Are(l, r) = equality_at(tags, values, x) else {
         return refuse(2, x.0, 0);
     };
     let Quantified::Is(kind, body) = quantified_at(tags, values, l) else {
-        return refuse(3, l, 0);
+        return refuse(3, l.0, 0);
     };
     body_or(tags, values, n, kind, bindings(tags, values, l), body, r)
 }

@@ -19,9 +19,9 @@ ghost use Rattle.quantifier_rules.specs.SidesAnswer.{sidesIn};
 // The quantifier's kind, forall (true) or exists, its place, its body's and the right side's.
 pub struct Places {
     pub kind: bool,
-    pub left: u32,
-    pub body: u32,
-    pub right: u32,
+    pub left: TermPlace,
+    pub body: TermPlace,
+    pub right: TermPlace,
 }
 
 pub enum Matched {
@@ -30,8 +30,8 @@ pub enum Matched {
 }
 
 // The quantifier at x, if it is of this kind.
-pub(crate) fn of_kind(tags: &[u32], values: &[u32], kind: bool, x: u32) -> Quantified
-    ensures { λ r. ⌜ andThen (quantifier (now (tags .entry)) (now (values .entry)) x) (ofKind kind) ≡ quantifierIn (bindingsOf (pairsOf (now (tags .entry)) (now (values .entry)) x)) r ⌝ }
+pub(crate) fn of_kind(tags: &[u32], values: &[u32], kind: bool, x: TermPlace) -> Quantified
+    ensures { λ r. ⌜ andThen (quantifier (now (tags .entry)) (now (values .entry)) (x .0)) (ofKind kind) ≡ quantifierIn (bindingsOf (pairsOf (now (tags .entry)) (now (values .entry)) (x .0))) r ⌝ }
 {
     let Quantified::Is(k, body) = quantified_at(tags, values, x) else {
         return Quantified::Not;
@@ -43,8 +43,8 @@ pub(crate) fn of_kind(tags: &[u32], values: &[u32], kind: bool, x: u32) -> Quant
 }
 
 // The sides, for a quantifier of this kind and an operator of this tag.
-fn sides_of(tags: &[u32], values: &[u32], kind: bool, tag: u32, x: u32) -> Matched
-    ensures { λ r. ⌜ sidesOf (now (tags .entry)) (now (values .entry)) kind tag x ≡ sidesIn (now (tags .entry)) (now (values .entry)) r ⌝ }
+fn sides_of(tags: &[u32], values: &[u32], kind: bool, tag: u32, x: TermPlace) -> Matched
+    ensures { λ r. ⌜ sidesOf (now (tags .entry)) (now (values .entry)) kind tag (x .0) ≡ sidesIn (now (tags .entry)) (now (values .entry)) r ⌝ }
 {
     let Two::Are(left, right) = equality_at(tags, values, x) else {
         return Matched::Nothing;
@@ -52,10 +52,12 @@ fn sides_of(tags: &[u32], values: &[u32], kind: bool, tag: u32, x: u32) -> Match
     let Quantified::Is(_, body) = of_kind(tags, values, kind, left) else {
         return Matched::Nothing;
     };
-    if cell(tags, body as usize) != tag {
+    let body_at = body.0 as usize;
+    if cell(tags, body_at) != tag {
         return Matched::Nothing;
     }
-    if cell(tags, right as usize) != tag {
+    let right_at = right.0 as usize;
+    if cell(tags, right_at) != tag {
         return Matched::Nothing;
     }
     Matched::At(Places {
@@ -72,9 +74,9 @@ pub(crate) fn either_sides(
     values: &[u32],
     forall_tag: u32,
     exists_tag: u32,
-    x: u32,
+    x: TermPlace,
 ) -> Matched
-    ensures { λ r. ⌜ orElse (sidesOf (now (tags .entry)) (now (values .entry)) true «forall_tag» x) (sidesOf (now (tags .entry)) (now (values .entry)) false «exists_tag» x) ≡ sidesIn (now (tags .entry)) (now (values .entry)) r ⌝ }
+    ensures { λ r. ⌜ orElse (sidesOf (now (tags .entry)) (now (values .entry)) true «forall_tag» (x .0)) (sidesOf (now (tags .entry)) (now (values .entry)) false «exists_tag» (x .0)) ≡ sidesIn (now (tags .entry)) (now (values .entry)) r ⌝ }
 {
     let Matched::At(s) = sides_of(tags, values, true, forall_tag, x) else {
         return sides_of(tags, values, false, exists_tag, x);
@@ -83,8 +85,8 @@ pub(crate) fn either_sides(
 }
 
 // How many operands the term at x has. A header's count is one cell, so that it fits u32.
-pub(crate) fn operand_count(tags: &[u32], values: &[u32], x: u32) -> u32
-    ensures { λ r. ⌜ r ≡ length (operandsOf (now (tags .entry)) (now (values .entry)) x) ⌝ }
+pub(crate) fn operand_count(tags: &[u32], values: &[u32], x: TermPlace) -> u32
+    ensures { λ r. ⌜ r ≡ length (operandsOf (now (tags .entry)) (now (values .entry)) (x .0)) ⌝ }
 {
-    operands(tags, values, TermPlace(x)).len() as u32
+    operands(tags, values, x).len() as u32
 }

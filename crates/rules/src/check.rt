@@ -4,6 +4,7 @@ use pool::Answer;
 use pool::TermPlace;
 use pool::call::index_pool;
 use pool::description::cut_back;
+use pool::index::INDEX;
 use pool::well_formed::is_term;
 use quantifier_rules::miniscope_distribute::miniscope_distribute;
 use quantifier_rules::miniscope_ite::miniscope_ite;
@@ -19,13 +20,26 @@ ghost use Rattle.answers.specs.Outcome.{answerOf};
 ghost use Rattle.rules.specs.Step.{isRule, ruleOutcome, Step};
 ghost use Rattle.rules.specs.StepWalk.{beforeRule, Judged};
 
+// The rules' codes.
+const JOIN: u32 = 1;
+
+const RM_UNUSED: u32 = 2;
+
+const CNF: u32 = 3;
+
+const DISTRIBUTE: u32 = 4;
+
+const SPLIT: u32 = 5;
+
+const ITE: u32 = 6;
+
 fn is_rule(rule: u32) -> bool
     ensures { λ r. ⌜ r ≡ isRule rule ⌝ }
 {
-    if rule < 1 {
+    if rule < JOIN {
         return false;
     }
-    rule <= 6
+    rule <= ITE
 }
 
 // A length as a carried number.
@@ -44,16 +58,16 @@ fn apply_reading(tags: &[u32], values: &[u32], n: usize, rule: u32, x: TermPlace
     requires { ⌜ checkTerm (now tags) (now values) builtIn n (x .0) .code ≡ 0 ⌝ }
     ensures { λ r. ⌜ r ≡ answerOf (ruleOutcome (now (tags .entry)) (now (values .entry)) n rule (x .0)) ⌝ }
 {
-    if rule == 1 {
+    if rule == JOIN {
         return qnt_join(tags, values, x);
     }
-    if rule == 2 {
+    if rule == RM_UNUSED {
         return qnt_rm_unused(tags, values, n, x);
     }
-    if rule == 4 {
+    if rule == DISTRIBUTE {
         return miniscope_distribute(tags, values, x);
     }
-    if rule == 5 {
+    if rule == SPLIT {
         return miniscope_split(tags, values, n, x);
     }
     miniscope_ite(tags, values, n, x)
@@ -63,7 +77,7 @@ fn apply_reading(tags: &[u32], values: &[u32], n: usize, rule: u32, x: TermPlace
 fn apply(
     tags: &mut [u32],
     values: &mut [u32],
-    index: &mut [u32; 12288],
+    index: &mut [u32; INDEX],
     n: usize,
     rule: u32,
     x: TermPlace,
@@ -73,7 +87,7 @@ fn apply(
     ensures { λ r. ⌜ Judged n rule (answerOf (ruleOutcome (now (tags .entry)) (now (values .entry)) n rule (x .0))) r (now (tags .entry)) (now (values .entry)) (now (tags .exit)) (now (values .exit)) ⌝ }
     ensures { λ _. ⌜ Index (now (tags .entry)) (now (values .entry)) n (now (index .exit)) ⌝ }
 {
-    if rule == 3 {
+    if rule == CNF {
         return qnt_cnf(tags, values, index, n, x);
     }
     apply_reading(tags, values, n, rule, x)
@@ -105,7 +119,7 @@ pub fn check_after(
     checked: Answer,
     tags: &mut [u32],
     values: &mut [u32],
-    index: &mut [u32; 12288],
+    index: &mut [u32; INDEX],
     count: usize,
     rule: u32,
     conclusion: &[u32],
@@ -120,7 +134,7 @@ pub fn check_after(
         let x = TermPlace(conclusion[0]);
         return apply(tags, values, index, count, rule, x);
     }
-    if rule != 3 {
+    if rule != CNF {
         return early;
     }
     if early.code == 30 {
@@ -140,7 +154,7 @@ pub fn check(
 ) -> Answer
     ensures { λ r. ⌜ Step (now (tags .entry)) (now (values .entry)) builtIn count rule (now (conclusion .entry)) r (now (tags .exit)) (now (values .exit)) ⌝ }
 {
-    let mut index = [0u32; 12288];
+    let mut index = [0u32; INDEX];
     let checked = index_pool(tags, values, count, &mut index);
     check_after(checked, tags, values, &mut index, count, rule, conclusion)
 }

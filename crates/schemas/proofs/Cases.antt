@@ -16,13 +16,11 @@ use Rattle.meaning.specs.Term.{Var, Vars, Var-discrete, Term, Terms, var, app, 
 use Rattle.meaning.specs.FreeTree.{isYes, same, has, free}
 use Rattle.meaning.proofs.trees.Header.{both}
 use Rattle.formulas.specs.Normal.{lit}
-use Rattle.formulas.specs.Built.{tagOfMany}
+use Rattle.formulas.specs.Formula.{connectiveTag}
 use Rattle.meaning.specs.Skeleton.{skeleton, leftBool, formOf, notOf, impliesOf, iteOf, iffOf}
 use Rattle.meaning.proofs.truth.Over.{or-cases, not-both, same-eq}
 use Rattle.schemas.specs.Notation.{variable, operands, not′, implies′, and′, or′, equals, ite′}
-use Rattle.schemas.specs.Schemas.{equal, binder, implies, Among, FreeAmong, NotFree, after, joinedOnce, QntJoin, joins, QntRmUnused, removes, removes-all}
-use Rattle.schemas.specs.Schemas.{withTaken, QntCnf, clausifies, MiniscopeDistribute, distributes, MiniscopeIte, splits-ite}
-use Rattle.schemas.specs.Schemas.{without, Uses, nothing, next, Split, ends, as-it-is, under, MiniscopeSplit, splits}
+use Rattle.schemas.specs.Schemas.{equal, binder, implies, Among, FreeAmong, NotFree, after, joinedOnce, QntJoin, joins, QntRmUnused, removes, removes-all, withTaken, QntCnf, clausifies, MiniscopeDistribute, distributes, MiniscopeIte, splits-ite, without, Uses, nothing, next, Split, ends, as-it-is, under, MiniscopeSplit, splits}
 
 -- ---- the terms
 abbrev i : Var
@@ -303,7 +301,7 @@ distribute-as-many (distributes s s′ s″ b xs (tcons t ts)) e = let never : _
 distribute-not-forall-over-or : {T : Term} → MiniscopeDistribute T → T ≡ equal′ (forall′ (i ∷ []) (or′ [])) (or′ []) → ⊥
 distribute-not-forall-over-or (distributes s s′ s″ b xs ts) e =
     let kind : b ≡ true = cc in
-    let tag : tagOfMany b ≡ 37 = cc in
+    let tag : connectiveTag b ≡ 37 = cc in
     let z : _≡_ {A = ℕ} 36 37 = rw kind at tag in
     omega arith
 
@@ -365,13 +363,13 @@ split-not-twice (splits s s′ s″ b xs ts us d n) e = split-twice d (cc) (cc) 
 
 split-not-free : {T : Term} → MiniscopeSplit T → T ≡ equal′ (forall′ (i ∷ []) (or′ (P i ∷ []))) (or′ (P i ∷ [])) → ⊥
 unfolding has free same isYes Var-discrete Sort-discrete ℕ-discrete
-split-not-free (splits s s′ s″ b xs ts us d n) e = still-free xs (op (tagOfMany (not b)) s″ us) (i ∷ []) (or′ (P i ∷ [])) n (cc) (cc) i refl refl
+split-not-free (splits s s′ s″ b xs ts us d n) e = still-free xs (op (connectiveTag (not b)) s″ us) (i ∷ []) (or′ (P i ∷ [])) n (cc) (cc) i refl refl
 
 -- forall goes with `or`
 split-not-forall-over-and : {T : Term} → MiniscopeSplit T → T ≡ equal′ (forall′ [] (and′ [])) (and′ []) → ⊥
 split-not-forall-over-and (splits s s′ s″ b xs ts us d n) e =
     let kind : b ≡ true = cc in
-    let tag : tagOfMany (not b) ≡ 36 = cc in
+    let tag : connectiveTag (not b) ≡ 36 = cc in
     let z : _≡_ {A = ℕ} 37 36 = rw kind at tag in
     omega arith
 

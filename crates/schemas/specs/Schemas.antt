@@ -14,7 +14,7 @@ use Rattle.meaning.specs.Term.{Var, Vars, Term, Terms, quant, op, tnil, tcons}
 use Rattle.meaning.specs.FreeTree.{same, has, free}
 use Rattle.formulas.specs.Normal.{Normal, nnf, prenex, taken}
 use Rattle.formulas.specs.Clauses.{Clause, cnf, emptyOr, literalTotal}
-use Rattle.formulas.specs.Built.{tagOfMany}
+use Rattle.formulas.specs.Formula.{connectiveTag}
 use Rattle.meaning.specs.Skeleton.{skeleton, build, builds, normals}
 
 -- ---- notation
@@ -106,7 +106,7 @@ each Q xs (tcons t ts) = tcons (binder Q xs t) (each Q xs ts)
 
 pub data MiniscopeDistribute : Term → Type 0 where
   distributes : (s s′ s″ : Sort) (Q : Bool) (xs : Vars) (ts : Terms)
-      → MiniscopeDistribute (equal s (binder Q xs (op (tagOfMany Q) s′ ts)) (op (tagOfMany Q) s″ (each Q xs ts)))
+      → MiniscopeDistribute (equal s (binder Q xs (op (connectiveTag Q) s′ ts)) (op (connectiveTag Q) s″ (each Q xs ts)))
 
 -- ---- rule 5, miniscope_split: `(= (forall xs (or t ..)) (or u ..))`, or with exists and `and`; u is t, or `(forall ys t)` with ys of xs
 -- No x is free on the right. 01: "each outer pair used at most once, also where the outer list repeats it".
@@ -129,8 +129,8 @@ pub data Split (Q : Bool) : Vars → Terms → Terms → Type 0 where
       → Split Q rest (tcons t ts) (tcons (binder Q ys t) us)
 
 pub data MiniscopeSplit : Term → Type 0 where
-  splits : (s s′ s″ : Sort) (Q : Bool) (xs : Vars) (ts us : Terms) → Split Q xs ts us → NotFree xs (op (tagOfMany (not Q)) s″ us)
-      → MiniscopeSplit (equal s (binder Q xs (op (tagOfMany (not Q)) s′ ts)) (op (tagOfMany (not Q)) s″ us))
+  splits : (s s′ s″ : Sort) (Q : Bool) (xs : Vars) (ts us : Terms) → Split Q xs ts us → NotFree xs (op (connectiveTag (not Q)) s″ us)
+      → MiniscopeSplit (equal s (binder Q xs (op (connectiveTag (not Q)) s′ ts)) (op (connectiveTag (not Q)) s″ us))
 
 -- ---- rule 6, miniscope_ite: `(= (forall xs (ite p t u)) (ite p (forall xs t) (forall xs u)))`, no x free in p
 pub data MiniscopeIte : Term → Type 0 where

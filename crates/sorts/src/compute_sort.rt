@@ -9,6 +9,18 @@ use cells::Found;
 use cells::SortPlace;
 use cells::TermPlace;
 use cells::run;
+use cells::tags::APPLICATION;
+use cells::tags::BINDERS_END;
+use cells::tags::BIT_VEC;
+use cells::tags::BIT_VECTOR;
+use cells::tags::BOOL;
+use cells::tags::CHOICE;
+use cells::tags::FORALL;
+use cells::tags::INTEGER;
+use cells::tags::LAMBDA;
+use cells::tags::LET;
+use cells::tags::TRUE;
+use cells::tags::VARIABLE;
 ghost use mathlib.Core.Path.{_≡_};
 ghost use mathlib.Core.Bool.{not, _&&_};
 ghost use Prim.Native.Nat.{_-_, _≤_};
@@ -90,6 +102,9 @@ fn choice(tags: &[u32], values: &[u32], s: SortPlace, os: &[u32]) -> bool
     s.0 == os[2]
 }
 
+// How far the tag of a constant stands after its sort's.
+const TO_CONSTANT: u32 = 14;
+
 // How far a tag stands after another, and 0 before it.
 fn after(tag: u32, first: u32) -> u32
     ensures { λ r. ⌜ r ≡ tag - first ⌝ }
@@ -97,7 +112,7 @@ fn after(tag: u32, first: u32) -> u32
     if tag < first { 0 } else { tag - first }
 }
 
-// Whether the term at t states the sort that `compute_sort` gives by this table of rules. A constant's tag is 14 above its sort's, a
+// Whether the term at t states the sort that `compute_sort` gives by this table of rules. A constant's tag is `TO_CONSTANT` above its sort's, a
 // variable's sort is the one it states, a quantifier's is Bool, and a let's its body's.
 pub fn states_sort(tags: &[u32], values: &[u32], rules: &[u32], t: TermPlace) -> bool
     ensures { λ r. ⌜ r ≡ statesSort (now (tags .entry)) (now (values .entry)) (now (rules .entry)) (t .0) ⌝ }
@@ -105,32 +120,32 @@ pub fn states_sort(tags: &[u32], values: &[u32], rules: &[u32], t: TermPlace) ->
     let at = t.0 as usize;
     let tag = run::cell(tags, at);
     let s = run::sort_of(values, TermPlace(t.0));
-    if tag < 20 {
-        return is_plain(tags, values, s, after(tag, 14));
+    if tag < BIT_VECTOR {
+        return is_plain(tags, values, s, after(tag, TO_CONSTANT));
     }
-    if tag < 21 {
-        return is_single(tags, values, s, 7, run::cell(values, at + 2));
+    if tag < VARIABLE {
+        return is_single(tags, values, s, BIT_VEC, run::cell(values, at + 2));
     }
-    if tag < 22 {
+    if tag < APPLICATION {
         return true;
     }
     let os = run::operands(tags, values, t);
-    if tag < 23 {
+    if tag < FORALL {
         return by_list(tags, values, s, ListRule::Application, os);
     }
-    if tag < 25 {
-        return is_plain(tags, values, s, 1);
+    if tag < CHOICE {
+        return is_plain(tags, values, s, BOOL);
     }
-    if tag < 26 {
+    if tag < LAMBDA {
         return choice(tags, values, s, os);
     }
-    if tag < 27 {
+    if tag < LET {
         return by_list(tags, values, s, ListRule::Lambda, os);
     }
-    if tag < 28 {
+    if tag < BINDERS_END {
         return first_sort(tags, values, s, os);
     }
-    let op = after(tag, 32);
+    let op = after(tag, TRUE);
     by_rule(tags, values, s, rule_of(rules, op), op, os)
 }
 
@@ -139,7 +154,7 @@ fn states_wrong(tags: &[u32], values: &[u32], rules: &[u32], t: TermPlace) -> bo
     ensures { λ r. ⌜ r ≡ (isTermTag (getD (now (tags .entry)) (t .0) 0) && not (statesSort (now (tags .entry)) (now (values .entry)) (now (rules .entry)) (t .0))) ⌝ }
 {
     let at = t.0 as usize;
-    if run::cell(tags, at) < 16 {
+    if run::cell(tags, at) < INTEGER {
         return false;
     }
     !states_sort(tags, values, rules, t)

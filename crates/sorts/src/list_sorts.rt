@@ -5,6 +5,9 @@ use cells::TermPlace;
 use cells::cell_comparison::is_at;
 use cells::cell_comparison::same_cells;
 use cells::run;
+use cells::tags::FUNCTION;
+use cells::tags::SET;
+use cells::tags::TUPLE;
 ghost use mathlib.Core.Path.{_≡_};
 ghost use mathlib.Core.Bool.{_&&_};
 ghost use mathlib.Core.List.{[], _∷_, _++_, map, reverse, dropLast};
@@ -122,7 +125,7 @@ fn tuple_of(tags: &[u32], values: &[u32], s: SortPlace, os: &[u32]) -> bool
     ensures { λ r. ⌜ r ≡ isSort (now (tags .entry)) (now (values .entry)) (s .0) (made 13 (map (sortOf (now (values .entry))) (now (os .entry)))) ⌝ }
 {
     let at = s.0 as usize;
-    if run::cell(tags, at) != 13 {
+    if run::cell(tags, at) != TUPLE {
         return false;
     }
     same_sorts(values, run::cells(values, at), os)
@@ -133,7 +136,7 @@ fn lambda(tags: &[u32], values: &[u32], s: SortPlace, os: &[u32]) -> bool
     ensures { λ r. ⌜ r ≡ isSort (now (tags .entry)) (now (values .entry)) (s .0) (lambda (now (values .entry)) (now (os .entry))) ⌝ }
 {
     let at = s.0 as usize;
-    if run::cell(tags, at) != 10 {
+    if run::cell(tags, at) != FUNCTION {
         return false;
     }
     let entries = run::cells(values, at);
@@ -158,7 +161,7 @@ fn apply(tags: &[u32], values: &[u32], s: SortPlace, m: usize, entries: &[u32]) 
     }
     if m <= entries.len() {
         let at = s.0 as usize;
-        return is_at(tags, values, at, 10, rest);
+        return is_at(tags, values, at, FUNCTION, rest);
     }
     false
 }
@@ -172,7 +175,7 @@ fn application(tags: &[u32], values: &[u32], s: SortPlace, os: &[u32]) -> bool
     }
     let function = run::sort_of(values, TermPlace(os[0]));
     let at = function.0 as usize;
-    if run::cell(tags, at) != 10 {
+    if run::cell(tags, at) != FUNCTION {
         return false;
     }
     apply(tags, values, s, os.len() - 1, run::cells(values, at))
@@ -180,16 +183,16 @@ fn application(tags: &[u32], values: &[u32], s: SortPlace, os: &[u32]) -> bool
 
 // ---- relations, Sets of Tuples
 // Whether the sort that the term at o states is a relation.
-fn is_relation(tags: &[u32], values: &[u32], o: u32) -> bool
-    ensures { λ r. ⌜ r ≡ isRelation (now (tags .entry)) (now (values .entry)) o ⌝ }
+fn is_relation(tags: &[u32], values: &[u32], o: TermPlace) -> bool
+    ensures { λ r. ⌜ r ≡ isRelation (now (tags .entry)) (now (values .entry)) (o .0) ⌝ }
 {
-    let set = run::sort_of(values, TermPlace(o));
+    let set = run::sort_of(values, o);
     let at = set.0 as usize;
-    if run::cell(tags, at) != 12 {
+    if run::cell(tags, at) != SET {
         return false;
     }
     let part = run::cell(values, at + 1) as usize;
-    run::cell(tags, part) == 13
+    run::cell(tags, part) == TUPLE
 }
 
 // The cells of the sort that the Set at s is of.
@@ -202,10 +205,10 @@ fn part_cells(values: &[u32], s: SortPlace) -> &[u32]
 }
 
 // The sorts of the relation that the term at o states.
-fn relation_sorts<'a>(values: &'a [u32], o: u32) -> &'a [u32]
-    ensures { λ r. ⌜ now r ≡ relationSorts (now (values .entry)) o ⌝ }
+fn relation_sorts<'a>(values: &'a [u32], o: TermPlace) -> &'a [u32]
+    ensures { λ r. ⌜ now r ≡ relationSorts (now (values .entry)) (o .0) ⌝ }
 {
-    part_cells(values, run::sort_of(values, TermPlace(o)))
+    part_cells(values, run::sort_of(values, o))
 }
 
 // Whether the sort at s is a Set of a Tuple and has no other cell.
@@ -214,10 +217,10 @@ fn is_tuple_set(tags: &[u32], values: &[u32], s: SortPlace) -> bool
 {
     let at = s.0 as usize;
     let part = run::cell(values, at + 1);
-    if !is_at(tags, values, at, 12, &[part]) {
+    if !is_at(tags, values, at, SET, &[part]) {
         return false;
     }
-    run::cell(tags, part as usize) == 13
+    run::cell(tags, part as usize) == TUPLE
 }
 
 // Whether the sort at s is the relation of these sorts in reverse.
@@ -249,10 +252,10 @@ fn transpose(tags: &[u32], values: &[u32], s: SortPlace, os: &[u32]) -> bool
     if os.len() == 0 {
         return false;
     }
-    if !is_relation(tags, values, os[0]) {
+    if !is_relation(tags, values, TermPlace(os[0])) {
         return false;
     }
-    is_reversed(tags, values, s, relation_sorts(values, os[0]))
+    is_reversed(tags, values, s, relation_sorts(values, TermPlace(os[0])))
 }
 
 // RelJoin: the left's sorts but the last, then the right's but the first, of which there must be one.
@@ -262,13 +265,13 @@ fn join(tags: &[u32], values: &[u32], s: SortPlace, os: &[u32]) -> bool
     if os.len() < 2 {
         return false;
     }
-    if !is_relation(tags, values, os[0]) {
+    if !is_relation(tags, values, TermPlace(os[0])) {
         return false;
     }
-    if !is_relation(tags, values, os[1]) {
+    if !is_relation(tags, values, TermPlace(os[1])) {
         return false;
     }
-    let right = relation_sorts(values, os[1]);
+    let right = relation_sorts(values, TermPlace(os[1]));
     if right.len() == 0 {
         return false;
     }
@@ -276,7 +279,7 @@ fn join(tags: &[u32], values: &[u32], s: SortPlace, os: &[u32]) -> bool
         tags,
         values,
         s,
-        but_last(relation_sorts(values, os[0])),
+        but_last(relation_sorts(values, TermPlace(os[0]))),
         past(right, 1),
     )
 }
@@ -288,18 +291,18 @@ fn product(tags: &[u32], values: &[u32], s: SortPlace, os: &[u32]) -> bool
     if os.len() < 2 {
         return false;
     }
-    if !is_relation(tags, values, os[0]) {
+    if !is_relation(tags, values, TermPlace(os[0])) {
         return false;
     }
-    if !is_relation(tags, values, os[1]) {
+    if !is_relation(tags, values, TermPlace(os[1])) {
         return false;
     }
     is_joined(
         tags,
         values,
         s,
-        relation_sorts(values, os[0]),
-        relation_sorts(values, os[1]),
+        relation_sorts(values, TermPlace(os[0])),
+        relation_sorts(values, TermPlace(os[1])),
     )
 }
 

@@ -8,6 +8,14 @@ use crate::special::Special;
 use cells::SortPlace;
 use cells::TermPlace;
 use cells::run;
+use cells::tags::ARRAY;
+use cells::tags::BIT_VEC;
+use cells::tags::INT;
+use cells::tags::INTEGER;
+use cells::tags::PARAM_BIT_VEC;
+use cells::tags::REAL;
+use cells::tags::SET;
+use cells::tags::TUPLE;
 ghost use Prim.Native.Nat.{_+_};
 ghost use mathlib.Core.Path.{_≡_};
 ghost use mathlib.Core.Bool.{false, cond};
@@ -18,10 +26,10 @@ ghost use Rattle.cells.specs.Cell.{sortOf, isAt};
 ghost use Rattle.sorts.specs.SortRule.{isSort, made, lastSort, sortTag, anyReal, selected, bitVector, concatFrom, bvConst, rareList, singleton, bySpecial};
 
 // The tag of the sort that the term at o states.
-fn sort_tag(tags: &[u32], values: &[u32], o: u32) -> u32
-    ensures { λ r. ⌜ r ≡ sortTag (now (tags .entry)) (now (values .entry)) o ⌝ }
+fn sort_tag(tags: &[u32], values: &[u32], o: TermPlace) -> u32
+    ensures { λ r. ⌜ r ≡ sortTag (now (tags .entry)) (now (values .entry)) (o .0) ⌝ }
 {
-    let sort = run::sort_of(values, TermPlace(o));
+    let sort = run::sort_of(values, o);
     let at = sort.0 as usize;
     run::cell(tags, at)
 }
@@ -43,7 +51,7 @@ fn any_real(tags: &[u32], values: &[u32], os: &[u32]) -> bool
 {
     let mut i: usize = 0;
     while i < os.len() {
-        if sort_tag(tags, values, os[i]) == 3 {
+        if sort_tag(tags, values, TermPlace(os[i])) == REAL {
             return true;
         }
         i += 1;
@@ -57,9 +65,9 @@ fn arithmetic(tags: &[u32], values: &[u32], s: SortPlace, os: &[u32]) -> bool
         (made (cond (anyReal (now (tags .entry)) (now (values .entry)) (now (os .entry))) 3 2) []) ⌝ }
 {
     if any_real(tags, values, os) {
-        return is_plain(tags, values, s, 3);
+        return is_plain(tags, values, s, REAL);
     }
-    is_plain(tags, values, s, 2)
+    is_plain(tags, values, s, INT)
 }
 
 // Select: the second sort of the first operand's Array.
@@ -70,7 +78,7 @@ fn selected(tags: &[u32], values: &[u32], s: SortPlace, os: &[u32]) -> bool
     if os.len() == 0 {
         return false;
     }
-    if sort_tag(tags, values, os[0]) != 11 {
+    if sort_tag(tags, values, TermPlace(os[0])) != ARRAY {
         return false;
     }
     let array = run::sort_of(values, TermPlace(os[0]));
@@ -85,25 +93,25 @@ fn bit_vector(tags: &[u32], values: &[u32], s: SortPlace, os: &[u32]) -> bool
 {
     let mut i: usize = 0;
     while i < os.len() {
-        let o = os[i];
+        let o = TermPlace(os[i]);
         let tag = sort_tag(tags, values, o);
-        if tag == 7 {
-            let sort = run::sort_of(values, TermPlace(o));
+        if tag == BIT_VEC {
+            let sort = run::sort_of(values, o);
             return s.0 == sort.0;
         }
-        if tag != 6 {
+        if tag != PARAM_BIT_VEC {
             return false;
         }
         i += 1;
     }
-    is_plain(tags, values, s, 6)
+    is_plain(tags, values, s, PARAM_BIT_VEC)
 }
 
 // The first part of the sort that the term at o states, a bit vector's width.
-fn first_part(values: &[u32], o: u32) -> u32
-    ensures { λ r. ⌜ r ≡ getD (now (values .entry)) (sortOf (now (values .entry)) o + 1) 0 ⌝ }
+fn first_part(values: &[u32], o: TermPlace) -> u32
+    ensures { λ r. ⌜ r ≡ getD (now (values .entry)) (sortOf (now (values .entry)) (o .0) + 1) 0 ⌝ }
 {
-    let sort = run::sort_of(values, TermPlace(o));
+    let sort = run::sort_of(values, o);
     let at = sort.0 as usize;
     run::cell(values, at + 1)
 }
@@ -127,23 +135,23 @@ fn concat(tags: &[u32], values: &[u32], s: SortPlace, os: &[u32]) -> bool
     let mut param = false;
     let mut i: usize = 0;
     while i < os.len() {
-        let o = os[i];
+        let o = TermPlace(os[i]);
         let tag = sort_tag(tags, values, o);
         i += 1;
-        if tag == 7 {
+        if tag == BIT_VEC {
             width = add_width(width, first_part(values, o));
             continue;
         }
-        if tag != 6 {
+        if tag != PARAM_BIT_VEC {
             return false;
         }
         param = true;
     }
     if param {
-        return is_plain(tags, values, s, 6);
+        return is_plain(tags, values, s, PARAM_BIT_VEC);
     }
     if width < 4294967296 {
-        return is_single(tags, values, s, 7, width as u32);
+        return is_single(tags, values, s, BIT_VEC, width as u32);
     }
     false
 }
@@ -157,10 +165,10 @@ fn bv_const(tags: &[u32], values: &[u32], s: SortPlace, os: &[u32]) -> bool
         return false;
     }
     let at = os[1] as usize;
-    if run::cell(tags, at) == 16 {
-        return is_single(tags, values, s, 7, run::cell(values, at + 2));
+    if run::cell(tags, at) == INTEGER {
+        return is_single(tags, values, s, BIT_VEC, run::cell(values, at + 2));
     }
-    is_plain(tags, values, s, 6)
+    is_plain(tags, values, s, PARAM_BIT_VEC)
 }
 
 // RareList: the first operand's sort, and Var of name 0, which is "?", where there is none.
@@ -182,7 +190,7 @@ fn singleton(tags: &[u32], values: &[u32], s: SortPlace, os: &[u32]) -> bool
         return false;
     }
     let sort = run::sort_of(values, TermPlace(os[0]));
-    is_single(tags, values, s, 12, sort.0)
+    is_single(tags, values, s, SET, sort.0)
 }
 
 // Whether the sort at s is BitVec with as many bits as there are operands. The width is compared as an index, since a count of
@@ -191,7 +199,7 @@ fn bit_count(tags: &[u32], values: &[u32], s: SortPlace, os: &[u32]) -> bool
     ensures { λ r. ⌜ r ≡ isAt (now (tags .entry)) (now (values .entry)) (s .0) 7 (length (now (os .entry)) ∷ []) ⌝ }
 {
     let at = s.0 as usize;
-    if run::cell(tags, at) != 7 {
+    if run::cell(tags, at) != BIT_VEC {
         return false;
     }
     let parts = run::cells(values, at);
@@ -211,14 +219,14 @@ pub fn by_special(tags: &[u32], values: &[u32], s: SortPlace, special: Special, 
         Special::Select => selected(tags, values, s, os),
         Special::BitVectors => bit_vector(tags, values, s, os),
         Special::Concat => concat(tags, values, s, os),
-        Special::OneBit => is_single(tags, values, s, 7, 1),
+        Special::OneBit => is_single(tags, values, s, BIT_VEC, 1),
         Special::BitCount => bit_count(tags, values, s, os),
         Special::BvConst => bv_const(tags, values, s, os),
         Special::RareList => rare_list(tags, values, s, os),
         Special::Singleton => singleton(tags, values, s, os),
         Special::Insert => last_sort(tags, values, s, os),
         Special::TupleOf => by_list(tags, values, s, ListRule::Tuple, os),
-        Special::TupleUnit => is_plain(tags, values, s, 13),
+        Special::TupleUnit => is_plain(tags, values, s, TUPLE),
         Special::Transpose => by_list(tags, values, s, ListRule::Transpose, os),
         Special::Join => by_list(tags, values, s, ListRule::Join, os),
         Special::Product => by_list(tags, values, s, ListRule::Product, os),

@@ -8,6 +8,8 @@ use lib.ListN.{length, getD, take, set}
 use lib.Seq.{take-take, getD-set-same, getD-set-other}
 use native.Mathlib.Omega.{arith}
 use native.Mathlib.Decide.{ℕ-discrete}
+use Rattle.cells.specs.Place.{termAt}
+use Rattle.cells.specs.declared.TermPlace.{TermPlace}
 use Rattle.building.specs.declared.build.Built.{Built}
 use Rattle.building.specs.declared.build.Built.the-variants.{At, Full}
 use Rattle.formulas.specs.Normal.{Normal}
@@ -79,7 +81,7 @@ module _ (formAt : ℕ → Normal (List ℕ) ℕ) (lim : ℕ) where
 
     -- nothing to do: the form stands
     pub builds-stood : (f : Normal (List ℕ) ℕ) (p : ℕ) → p < n → Stands (poolOf tags values n) f p
-        → Builds formAt lim tags values memo (intern f (poolOf tags values n)) (At p n) tags values memo
+        → Builds formAt lim tags values memo (intern f (poolOf tags values n)) (At (termAt p) n) tags values memo
     builds-stood f p h e =
         rw e (record {
           puts = record { outcome = record { pool-is = refl; place-is = refl; below = h; state = s }; left = left-refl lim tags values };
@@ -93,8 +95,8 @@ module _ (formAt : ℕ → Normal (List ℕ) ℕ) (lim : ℕ) where
         let full : fits (o .pool) (length tags) ≡ false = rw e at (b .puts .outcome) in
         record { puts = record { outcome = fits-not (o .pool) (o′ .pool) (length tags) h full; left = b .puts .left }; memo-is = tt }
 
-    module _ (p m : ℕ) (e : r ≡ At p m) where
-      pub builds-holds : Holds lim o p m tags₁ values₁
+    module _ (p : TermPlace) (m : ℕ) (e : r ≡ At p m) where
+      pub builds-holds : Holds lim o (p .0) m tags₁ values₁
       builds-holds = rw e at (b .puts .outcome)
 
       pub builds-noted : Noted formAt (poolOf tags₁ values₁ m) memo memo₁
@@ -117,12 +119,12 @@ module _ (formAt : ℕ → Normal (List ℕ) ℕ) (lim : ℕ) where
 
   -- what was built is kept at i, where the memo had nothing
   module _ (n : ℕ) (tags values memo : List ℕ) (s : State lim n tags values) (f : Normal (List ℕ) ℕ) (i : ℕ) (is : formAt i ≡ f) (free : getD memo i 0 ≡ 0)
-      (p m : ℕ) (tags₁ values₁ memo₁ : List ℕ) (b : Builds formAt lim tags values memo (intern f (poolOf tags values n)) (At p m) tags₁ values₁ memo₁) where
+      (p m : ℕ) (tags₁ values₁ memo₁ : List ℕ) (b : Builds formAt lim tags values memo (intern f (poolOf tags values n)) (At (termAt p) m) tags₁ values₁ memo₁) where
     stands-there : Stands (poolOf tags₁ values₁ m) f p
     stands-there =
         rw (b .puts .outcome .pool-is, b .puts .outcome .place-is) (intern-stands f (poolOf tags values n) (pool-good lim n tags values s))
 
-    pub builds-kept : i < length memo₁ → Builds formAt lim tags values memo (intern f (poolOf tags values n)) (At p m) tags₁ values₁ (set memo₁ i (suc p))
+    pub builds-kept : i < length memo₁ → Builds formAt lim tags values memo (intern f (poolOf tags values n)) (At (termAt p) m) tags₁ values₁ (set memo₁ i (suc p))
     builds-kept h = record {
       puts = b .puts;
       memo-is = record {

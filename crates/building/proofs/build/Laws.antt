@@ -9,6 +9,7 @@ use lib.Seq.{sets, length-sets, sets-eq, take-at, length-take-le, getD-take}
 use lib.Dec.{leb, ltb}
 use native.Mathlib.Omega.{arith}
 use borrow.Author.Tests.{le-ltb, le-leb, lt-leb, leb-true, leb-false, ltb-false}
+use Rattle.cells.specs.Place.{termAt}
 use Rattle.cells.specs.ByPlace.{by-test}
 use Rattle.cells.specs.Cell.{isAt}
 use Rattle.cells.specs.Headers.{firstFrom}
@@ -141,7 +142,7 @@ module _ (n : ℕ) (tags values : List ℕ) (s : State n n tags values) (tag : �
   kept : Left n tags values tags values
   kept = record { tags-size = refl; values-size = refl; tags-kept = refl; values-kept = refl }
 
-  puts-stood : (p : ℕ) → find tags values n tag cells ≡ FoundAt p → Puts n tags values o (At p n) tags values
+  puts-stood : (p : ℕ) → find tags values n tag cells ≡ FoundAt p → Puts n tags values o (At (termAt p) n) tags values
   unfolding find
   puts-stood p e = record {
     outcome = rw (put-is (FoundAt p) e) (record { pool-is = refl; place-is = refl; below = first-below values n _ p e; state = s });
@@ -164,7 +165,7 @@ module _ (n : ℕ) (tags values : List ℕ) (s : State n n tags values) (tag : �
   puts-written : (tags′ values′ : List ℕ) → find tags values n tag cells ≡ Nothing → isFull tags values 8192 n (length cells) ≡ false
       → tags′ ≡ sets tags n (tag ∷ replicate (length cells) 0) → values′ ≡ sets values n (length cells ∷ cells)
       → Fills values′ (n + 1 + length cells) 0
-      → Puts n tags values o (At n (n + 1 + length cells)) tags′ values′
+      → Puts n tags values o (At (termAt n) (n + 1 + length cells)) tags′ values′
   puts-written tags′ values′ e y te ve f =
       let (a, b) = room-for tags values n (length cells) (s .size) y in
       let lt : length tags′ ≡ length tags = rw te (length-sets tags n (tag ∷ replicate (length cells) 0)) in
@@ -198,10 +199,10 @@ module _ (n : ℕ) (tags values : List ℕ) (s : State n n tags values) (tag : �
         (by-found (find tags values n tag cells) (λ p e. rw e (stood e))
         (λ e. by-test (isFull tags values 8192 n (length cells)) (λ b. rw (e, b) (refused e b)) (λ b. rw (e, b) (written e b))))
 
-    pub put-there : (p : ℕ) → a ≡ There p → Puts n tags values o (At p n) tags′ values′
+    pub put-there : (p : ℕ) → a ≡ There p → Puts n tags values o (At (termAt p) n) tags′ values′
     put-there p e = go (rw e at case)
       where
-        go : {t v : List ℕ} → Case (There p) t v → Puts n tags values o (At p n) t v
+        go : {t v : List ℕ} → Case (There p) t v → Puts n tags values o (At (termAt p) n) t v
         go (stood e) = puts-stood p e
 
     pub put-there-small : (p : ℕ) → a ≡ There p → p < n
@@ -222,10 +223,10 @@ module _ (n : ℕ) (tags values : List ℕ) (s : State n n tags values) (tag : �
         go : {x y : ℕ} {t v : List ℕ} → Case (New x y) t v → x ≡ n
         go (written e y) = refl
 
-    pub put-new : (p m : ℕ) → a ≡ New p m → Puts n tags values o (At p m) tags′ values′
+    pub put-new : (p m : ℕ) → a ≡ New p m → Puts n tags values o (At (termAt p) m) tags′ values′
     put-new p m e = go (rw e at case) (new-grown tags values 8192 n tag cells a tags′ values′ i (s .fills) p m e .fills)
       where
-        go : {x y : ℕ} {t v : List ℕ} → Case (New x y) t v → Fills v y 0 → Puts n tags values o (At x y) t v
+        go : {x y : ℕ} {t v : List ℕ} → Case (New x y) t v → Fills v y 0 → Puts n tags values o (At (termAt x) y) t v
         go (written e y) f = puts-written _ _ e y refl refl f
 
 pub ruleset puttings = (put-there, put-full, put-new)

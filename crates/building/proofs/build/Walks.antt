@@ -9,10 +9,13 @@ use lib.Seq.{getD-set-same, drop-cons}
 use native.Mathlib.Omega.{arith}
 use native.Mathlib.Numerals.{add-one}
 use borrow.Author.Tests.{lt-ltb, le-ltb}
+use Rattle.cells.specs.Place.{termAt}
+use Rattle.cells.specs.declared.TermPlace.{TermPlace}
 use Rattle.building.specs.declared.build.Built.{Built}
 use Rattle.building.specs.declared.build.Built.the-variants.{At, Full}
 use Rattle.formulas.specs.Normal.{Normal, Normals, nmany}
-use Rattle.formulas.specs.Built.{Pool, Placed, PlacedAll, count, put, tagOfMany, intern, interns, normalsOf}
+use Rattle.formulas.specs.Built.{Pool, Placed, PlacedAll, count, put, intern, interns, normalsOf}
+use Rattle.formulas.specs.Formula.{connectiveTag}
 use Rattle.building.specs.Arrays.{poolOf}
 use Rattle.building.specs.Walk.{State, Left, Holds, Puts, Builds, slotOf, placesIn, Walk, normal, taken-out, formOf, runOf, entryForm, roomFor, Ready, Formed, Known, operandForms, OperandsKnown, Before, NormalBuilt}
 use Rattle.building.proofs.Interning.{becomes-longer, interns-becomes, put-becomes, put-goes-on}
@@ -70,7 +73,7 @@ operand-before lim tags values t b run e i h = rw e (b .operand i (rw e at h))
 
 -- ---- after a step
 module _ (w : Walk) (lim : ℕ) (tags values memo : List ℕ) (o : Placed) (r : Built) (tags₁ values₁ memo₁ : List ℕ)
-    (b : Builds (entryForm w lim tags values) lim tags values memo o r tags₁ values₁ memo₁) (p m : ℕ) (e : r ≡ At p m) where
+    (b : Builds (entryForm w lim tags values) lim tags values memo o r tags₁ values₁ memo₁) (p : TermPlace) (m : ℕ) (e : r ≡ At p m) where
   pub state-after : State lim m tags₁ values₁
   state-after = builds-holds (entryForm w lim tags values) lim tags values memo o r tags₁ values₁ memo₁ b p m e .state
 
@@ -79,7 +82,7 @@ module _ (w : Walk) (lim : ℕ) (tags values memo : List ℕ) (o : Placed) (r : 
       let s = state-after in
       record { size = s .size; within = s .within; small = s .small; fills = s .fills; source = omega arith }
 
-  pub place-small : p < 8192
+  pub place-small : p .0 < 8192
   place-small =
       let h = builds-holds (entryForm w lim tags values) lim tags values memo o r tags₁ values₁ memo₁ b p m e in
       omega (arith, h .below, h .state .small)
@@ -115,32 +118,32 @@ module _ (w : Walk) (lim : ℕ) (tags values memo : List ℕ) (o : Placed) (r : 
 -- ---- one term: the memo has its form, or it is built and kept
 module _ (w : Walk) (lim n : ℕ) (tags values memo : List ℕ) (ready : Ready w lim n tags values memo) (t : ℕ) (polarity : Bool) (within : t < lim) (i : ℕ) (is : i ≡ slotOf t polarity)
     (k : ℕ) (read : k ≡ getD memo i 0) where
-  pub form-known : (k ≡ 0 → ⊥) → Known w lim n tags values memo t polarity (At (k - 1) n) tags values memo
+  pub form-known : (k ≡ 0 → ⊥) → Known w lim n tags values memo t polarity (At (termAt (k - 1)) n) tags values memo
   form-known z =
       let q : getD memo (slotOf t polarity) 0 ≡ suc (k - 1) = rw (← is, ← read) (let z : k ≡ suc (k - 1) = omega arith in z) in
       record {
         formed = builds-stood (entryForm w lim tags values) lim n tags values memo (ready .state) (ready .right) (formOf w lim tags values t polarity) (k - 1)
             (omega (arith, ready .right .below (slotOf t polarity) (k - 1) q, pool-count tags values n (ready .state .within)))
             (rw (slot-entry w lim tags values t polarity (place-within w lim n tags values memo ready t within)) at (ready .right .entry (slotOf t polarity) (k - 1) q));
-        known = λ p m e. let v : k - 1 ≡ p = cc in rw (← v) q;
+        known = λ p m e. let v : termAt (k - 1) ≡ p = cc in rw (← ap (λ (x : TermPlace). x .0) v) q;
       }
 
   module _ (r : Built) (tags₁ values₁ memo₁ : List ℕ) (b : Formed w lim n tags values memo (formOf w lim tags values t polarity) r tags₁ values₁ memo₁) where
     pub form-full : r ≡ Full → Known w lim n tags values memo t polarity Full tags₁ values₁ memo₁
     form-full e = record { formed = rw e at b; known = λ p m f. let z : _≡_ {A = ℕ} 0 1 = cc in absurd (omega arith) }
 
-    pub form-kept : k ≡ 0 → (p m : ℕ) → r ≡ At p m → i < length memo₁ → Known w lim n tags values memo t polarity (At p m) tags₁ values₁ (set memo₁ i (p + 1))
+    pub form-kept : k ≡ 0 → (p : TermPlace) (m : ℕ) → r ≡ At p m → i < length memo₁ → Known w lim n tags values memo t polarity (At p m) tags₁ values₁ (set memo₁ i (p .0 + 1))
     form-kept z p m e h = record {
       formed = rw add-one (builds-kept (entryForm w lim tags values) lim n tags values memo (ready .state) (formOf w lim tags values t polarity) i
-          (rw is (slot-entry w lim tags values t polarity (place-within w lim n tags values memo ready t within))) (sym read ∙ z) p m tags₁ values₁ memo₁ (rw e at b) h);
-      known = λ q l f. let v : p ≡ q = cc in rw (add-one, ← is, ← v) (getD-set-same memo₁ i (suc p) 0 h);
+          (rw is (slot-entry w lim tags values t polarity (place-within w lim n tags values memo ready t within))) (sym read ∙ z) (p .0) m tags₁ values₁ memo₁ (rw e at b) h);
+      known = λ q l f. let v : p ≡ q = cc in rw (add-one, ← is, ← ap (λ (x : TermPlace). x .0) v) (getD-set-same memo₁ i (suc (p .0)) 0 h);
     }
 
 pub ruleset one-term = (form-known, form-full, form-kept)
 
 -- ---- a run of operands
 module _ (w : Walk) (lim n : ℕ) (tags values memo : List ℕ) (t : ℕ) (polarity : Bool) (i : ℕ) (run : List ℕ) (are : run ≡ runOf lim tags values t) where
-  pub operands-end : Ready w lim n tags values memo → t < lim → length run ≤ i → OperandsKnown w lim n tags values memo t polarity i (At 0 n) tags values memo
+  pub operands-end : Ready w lim n tags values memo → t < lim → length run ≤ i → OperandsKnown w lim n tags values memo t polarity i (At (termAt 0) n) tags values memo
   unfolding interns
   operands-end ready h l =
       let e : drop i (runOf lim tags values t) ≡ [] = rw (← are) (drop-of-length-le run l) in
@@ -174,9 +177,9 @@ module _ (w : Walk) (lim n : ℕ) (tags values memo : List ℕ) (t : ℕ) (polar
       places = λ p m f. let z : _≡_ {A = ℕ} 0 1 = cc in absurd (omega arith);
     }
 
-    module _ (p m : ℕ) (e : r₁ ≡ At p m) (r₂ : Built) (tags₂ values₂ memo₂ : List ℕ)
+    module _ (p : TermPlace) (m : ℕ) (e : r₁ ≡ At p m) (r₂ : Built) (tags₂ values₂ memo₂ : List ℕ)
         (k : OperandsKnown w lim m tags₁ values₁ memo₁ t polarity (i + 1) r₂ tags₂ values₂ memo₂) where
-      h₂ : Holds lim first p m tags₁ values₁
+      h₂ : Holds lim first (p .0) m tags₁ values₁
       h₂ = builds-holds (entryForm w lim tags values) lim tags values memo first r₁ tags₁ values₁ memo₁ (j .formed) p m e
 
       l₂ : Left lim tags values tags₁ values₁
@@ -190,7 +193,7 @@ module _ (w : Walk) (lim n : ℕ) (tags values memo : List ℕ) (t : ℕ) (polar
       abbrev after : PlacedAll
       after = interns (operandForms w lim tags₁ values₁ t polarity (i + 1)) (poolOf tags₁ values₁ m)
 
-      whole : interns (operandForms w lim tags values t polarity i) (poolOf tags values n) ≡ record { pool = after .pool; places = p ∷ after .places }
+      whole : interns (operandForms w lim tags values t polarity i) (poolOf tags values n) ≡ record { pool = after .pool; places = p .0 ∷ after .places }
       unfolding interns
       whole =
           let e₁ : interns (operandForms w lim tags values t polarity i) (poolOf tags values n)
@@ -202,8 +205,8 @@ module _ (w : Walk) (lim n : ℕ) (tags values memo : List ℕ) (t : ℕ) (polar
         builds = rw whole (then-builds w lim tags values memo first r₁ tags₁ values₁ memo₁ (j .formed) p m e _ r₂ tags₂ values₂ memo₂ (k .builds));
         places = λ q l f.
             let kept = builds-noted (entryForm w lim tags₁ values₁) lim tags₁ values₁ memo₁ _ r₂ tags₂ values₂ memo₂ (k .builds) q l f in
-            let here : getD memo₂ (slotOf u polarity) 0 ≡ suc p = kept .keeps (slotOf u polarity) p (j .known p m e) in
-            let z : suc p - 1 ≡ p = omega arith in
+            let here : getD memo₂ (slotOf u polarity) 0 ≡ suc (p .0) = kept .keeps (slotOf u polarity) (p .0) (j .known p m e) in
+            let z : suc (p .0) - 1 ≡ p .0 = omega arith in
             rw (whole, run-next, here, z, k .places q l f, run-same lim tags values tags₁ values₁ l₂ t);
       }
 
@@ -220,17 +223,17 @@ module _ (w : Walk) (lim n : ℕ) (tags values memo : List ℕ) (t : ℕ) (polar
   connective-full f =
       rw is
       (builds-full (entryForm w lim tags values) lim tags values memo _ r₁ tags₁ values₁ memo₁ (j .builds) f (intern (nmany b (operandForms w lim tags values t polarity 0)) (poolOf tags values n))
-      (becomes-longer _ _ (put-becomes (built .pool) (tagOfMany b) (0 ∷ built .places))))
+      (becomes-longer _ _ (put-becomes (built .pool) (connectiveTag b) (0 ∷ built .places))))
 
-  pub connective-put : (p m : ℕ) → r₁ ≡ At p m → (r₂ : Built) (tags₂ values₂ : List ℕ)
-      → Puts m tags₁ values₁ (put (poolOf tags₁ values₁ m) (tagOfMany b) (0 ∷ placesIn memo₁ polarity (runOf lim tags₁ values₁ t))) r₂ tags₂ values₂
+  pub connective-put : (p : TermPlace) (m : ℕ) → r₁ ≡ At p m → (r₂ : Built) (tags₂ values₂ : List ℕ)
+      → Puts m tags₁ values₁ (put (poolOf tags₁ values₁ m) (connectiveTag b) (0 ∷ placesIn memo₁ polarity (runOf lim tags₁ values₁ t))) r₂ tags₂ values₂
       → Formed w lim n tags values memo (formOf w lim tags values t polarity) r₂ tags₂ values₂ memo₁
   unfolding intern
   connective-put p m f r₂ tags₂ values₂ y =
       let cells : placesIn memo₁ polarity (runOf lim tags₁ values₁ t) ≡ built .places =
       rw (run-same lim tags values tags₁ values₁ (j .builds .puts .left) t) (sym (j .places p m f)) in
       rw (is, ← cells)
-      (then-put w lim tags values memo _ r₁ tags₁ values₁ memo₁ (j .builds) p m f (tagOfMany b) _ r₂ tags₂ values₂ y)
+      (then-put w lim tags values memo _ r₁ tags₁ values₁ memo₁ (j .builds) p m f (connectiveTag b) _ r₂ tags₂ values₂ y)
 
 -- ---- the whole
 zeros-none : (k i p : ℕ) → getD (replicate k 0) i 0 ≡ suc p → ⊥

@@ -5,16 +5,18 @@ use mathlib.Core.Path.{_≡_, refl, sym, ap, _∙_}
 use mathlib.Core.Bool.{Bool, true, false}
 use mathlib.Core.List.{List, [], _∷_, _++_, map}
 use lib.ListN.{length, getD, take, drop, set, length-set, length-drop, length-take}
-use lib.Seq.{take-suc, take-suc-set, take-all, getD-drop, length-take-le}
+use lib.Seq.{getD-set-same, take-suc, take-suc-set, take-all, getD-drop, length-take-le}
 use lib.Dec.{ltb}
 use native.Mathlib.Omega.{arith}
 use native.Mathlib.Numerals.{add-one}
+use Rattle.cells.specs.Place.{termAt}
 use Rattle.cells.specs.ByPlace.{by-test}
 use Rattle.cells.specs.Cell.{cellsOf, operandsOf}
 use Rattle.building.specs.declared.build.Built.{Built}
 use Rattle.building.specs.declared.build.Built.the-variants.{At}
 use Rattle.formulas.specs.Normal.{lit, flip}
-use Rattle.formulas.specs.Built.{put, tagOfMany, tagOfQuantifier, intern}
+use Rattle.formulas.specs.Built.{put, intern}
+use Rattle.formulas.specs.Formula.{quantifierTag, connectiveTag}
 use Rattle.building.specs.Arrays.{poolOf}
 use Rattle.building.specs.Walk.{State, Puts, Cells, slotOf, placesIn, runOf}
 
@@ -72,46 +74,48 @@ module _ (memo : List ℕ) (polarity : Bool) (run row : List ℕ) where
 pub ruleset gatherings = (gather-start, gather-more, gather-end)
 
 -- ---- a quantifier's body and pairs
--- the loop of `gather_pairs` at j
-pub record Pairing (body : ℕ) (run row₀ row : List ℕ) (j : ℕ) : Type 0 where
+-- the loop of `gather_pairs` at j: the body stands in cell 1 from the start
+pub record Pairing (run row₀ row : List ℕ) (j : ℕ) : Type 0 where
   pub long : length row ≡ length row₀
   pub started : 1 ≤ j
   pub near : j ≤ length run + 1
   pub within : j < length row
   pub room : length run < length row
-  pub written : take (j + 1) row ≡ 0 ∷ body ∷ take (j - 1) (drop 1 run)
+  pub written : take (j + 1) row ≡ 0 ∷ getD row₀ 1 0 ∷ take (j - 1) (drop 1 run)
 
-module _ (body : ℕ) (run row : List ℕ) where
-  pub pairs-start : length run < length row → 2 ≤ length row → Pairing body run (set (set row 0 0) 1 body) (set (set row 0 0) 1 body) 1
-  pairs-start h l = record {
+module _ (body : ℕ) (run row : List ℕ) (l : 2 ≤ length row) where
+  body-there : getD (set (set row 0 0) 1 body) 1 0 ≡ body
+  body-there = getD-set-same (set row 0 0) 1 body 0 (rw length-set (omega arith))
+
+  pub pairs-start : length run < length row → Pairing run (set (set row 0 0) 1 body) (set (set row 0 0) 1 body) 1
+  pairs-start h = record {
     long = refl;
     started = omega arith;
     near = omega arith;
     within = rw (length-set, length-set) (omega arith);
     room = rw (length-set, length-set) h;
-    written = take-suc-set (set row 0 0) 1 body (rw length-set (omega arith)) ∙ rw (take-suc-set row 0 0 (omega arith));
+    written = take-suc-set (set row 0 0) 1 body (rw length-set (omega arith)) ∙ rw (take-suc-set row 0 0 (omega arith), body-there);
   }
 
-  module _ (row₀ : List ℕ) (j : ℕ) (s : Pairing body run row₀ row j) where
-    pub pairs-more : j < length run → Pairing body run row₀ (set row (j + 1) (getD run j 0)) (j + 1)
-    pairs-more h = record {
-      long = length-set row (j + 1) (getD run j 0) ∙ s .long;
-      started = omega arith;
-      near = omega arith;
-      within = rw length-set (omega (arith, s .room));
-      room = rw length-set (s .room);
-      written =
-          let k : j + 1 - 1 ≡ suc (j - 1) = omega (arith, s .started) in
-          let l : 1 + (j - 1) ≡ j = omega (arith, s .started) in
-          rw (add-one (j + 1), take-suc-set row (j + 1) (getD run j 0) (omega (arith, s .room)), s .written, k)
-          (rw (take-suc (drop 1 run) (j - 1) 0 (rw length-drop (omega arith)), getD-drop 1 run (j - 1) 0, l));
-    }
+  pub pairs-end : (row′ : List ℕ) (j : ℕ) → Pairing run (set (set row 0 0) 1 body) row′ j → length run ≤ j → Cells (0 ∷ body ∷ drop 1 run) (j + 1) row′
+  pairs-end row′ j s h = record {
+    within = omega (arith, s .within);
+    are = rw (s .written, take-all (j - 1) (drop 1 run) (rw length-drop (omega arith)), body-there);
+  }
 
-    pub pairs-end : length run ≤ j → Cells (0 ∷ body ∷ drop 1 run) (j + 1) row
-    pairs-end h = record {
-      within = omega (arith, s .within);
-      are = rw (s .written, take-all (j - 1) (drop 1 run) (rw length-drop (omega arith)));
-    }
+pub pairs-more : (run row₀ row : List ℕ) (j : ℕ) → Pairing run row₀ row j → j < length run → Pairing run row₀ (set row (j + 1) (getD run j 0)) (j + 1)
+pairs-more run row₀ row j s h = record {
+  long = length-set row (j + 1) (getD run j 0) ∙ s .long;
+  started = omega arith;
+  near = omega arith;
+  within = rw length-set (omega (arith, s .room));
+  room = rw length-set (s .room);
+  written =
+      let k : j + 1 - 1 ≡ suc (j - 1) = omega (arith, s .started) in
+      let l : 1 + (j - 1) ≡ j = omega (arith, s .started) in
+      rw (add-one (j + 1), take-suc-set row (j + 1) (getD run j 0) (omega (arith, s .room)), s .written, k)
+      (rw (take-suc (drop 1 run) (j - 1) 0 (rw length-drop (omega arith)), getD-drop 1 run (j - 1) 0, l));
+}
 
 pub ruleset pairings = (pairs-start, pairs-more, pairs-end)
 
@@ -145,17 +149,17 @@ put-tag n tags values tag tag′ is cells r tags′ values′ s = rw (← is) s
 module _ (lim n : ℕ) (tags values : List ℕ) (t tag : ℕ) (b polarity flipped : Bool) (is-flip : flipped ≡ flip b polarity)
     (run : List ℕ) (are : run ≡ runOf lim tags values t) (k : ℕ) (row : List ℕ)
     (r : Built) (tags′ values′ : List ℕ) (s : Puts n tags values (put (poolOf tags values n) tag (take k row)) r tags′ values′) where
-  pub put-places : tag ≡ tagOfMany flipped → (memo : List ℕ) → Cells (0 ∷ placesIn memo polarity run) k row
-      → Puts n tags values (put (poolOf tags values n) (tagOfMany (flip b polarity)) (0 ∷ placesIn memo polarity (runOf lim tags values t))) r tags′ values′
+  pub put-places : tag ≡ connectiveTag flipped → (memo : List ℕ) → Cells (0 ∷ placesIn memo polarity run) k row
+      → Puts n tags values (put (poolOf tags values n) (connectiveTag (flip b polarity)) (0 ∷ placesIn memo polarity (runOf lim tags values t))) r tags′ values′
   put-places is memo c = rw (← is-flip, ← is, ← are, ← c .are) s
 
-  pub put-pairs : tag ≡ tagOfQuantifier flipped → (body : ℕ) → Cells (0 ∷ body ∷ drop 1 run) k row
-      → Puts n tags values (put (poolOf tags values n) (tagOfQuantifier (flip b polarity)) (0 ∷ body ∷ drop 1 (runOf lim tags values t))) r tags′ values′
+  pub put-pairs : tag ≡ quantifierTag flipped → (body : ℕ) → Cells (0 ∷ body ∷ drop 1 run) k row
+      → Puts n tags values (put (poolOf tags values n) (quantifierTag (flip b polarity)) (0 ∷ body ∷ drop 1 (runOf lim tags values t))) r tags′ values′
   put-pairs is body c = rw (← is-flip, ← is, ← are, ← c .are) s
 
 module _ (n : ℕ) (tags values : List ℕ) (t : ℕ) (polarity : Bool) where
   pub literal-true : polarity ≡ true → State n n tags values → t < n
-      → Puts n tags values (intern (lit polarity t) (poolOf tags values n)) (At t n) tags values
+      → Puts n tags values (intern (lit polarity t) (poolOf tags values n)) (At (termAt t) n) tags values
   unfolding intern
   literal-true e s h =
       rw e (record {

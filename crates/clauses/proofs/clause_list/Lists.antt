@@ -7,6 +7,7 @@ use mathlib.Core.List.{List, [], _∷_, _++_, append-assoc}
 use lib.ListN.{length, getD, take, drop, length-append}
 use lib.Seq.{sets, length-sets}
 use native.Mathlib.Omega.{arith}
+use Rattle.cells.specs.declared.TermPlace.{TermPlace}
 use Rattle.cells.specs.Cell.{operandsOf}
 use Rattle.formulas.specs.declared.view.NormalView.{NormalView}
 use Rattle.formulas.specs.declared.view.NormalView.the-variants.{Literal, Connective, Forall}
@@ -47,7 +48,7 @@ module _ (tags values counts : List ℕ) (x : ℕ) (literals ends : List ℕ) (i
   pub one-literal : v ≡ Literal → 1 ≡ length (cnf (formAt tags values x))
   one-literal e = sym (ap (λ (f : Normal (List ℕ) ℕ). length (cnf f)) (read-literal tags values x v is e))
 
-  pub one-forall : (body : ℕ) → v ≡ Forall body → 1 ≡ length (cnf (formAt tags values x))
+  pub one-forall : (body : TermPlace) → v ≡ Forall body → 1 ≡ length (cnf (formAt tags values x))
   one-forall body e = sym (ap (λ (f : Normal (List ℕ) ℕ). length (cnf f)) (read-forall tags values x v is body e))
 
   module _ (b : Bool) (e : v ≡ Connective b) where

@@ -11,6 +11,8 @@ use native.Mathlib.Nat.{le-mul-of-pos-right, mul-div-cancel-left, mul-comm, mod-
 use native.Mathlib.Omega.{arith}
 use native.Mathlib.Numerals.{add-one}
 use borrow.Author.Tests.{lt-ltb, le-ltb, ltb-true, ltb-false}
+use Rattle.cells.specs.Place.{termAt}
+use Rattle.cells.specs.declared.TermPlace.{TermPlace}
 use Rattle.cells.specs.Cell.{operandsOf}
 use Rattle.cells.specs.ByPlace.{by-test}
 use Rattle.formulas.specs.declared.view.NormalView.{NormalView}
@@ -30,12 +32,12 @@ use Rattle.clauses.proofs.Reading.{before-head, before-tail, run-split,
 
 -- ---- the walk along the operands of an `and`: w is what it finds, from j on, for the number left
 module _ (w : Chosen) (counts run : List ℕ) (j left : ℕ) (inv : w ≡ choose counts (drop j run) left) where
-  pub choose-end : length run ≤ j → record { place = 0; index = 0 } ≡ w
+  pub choose-end : length run ≤ j → record { place = termAt 0; index = 0 } ≡ w
   unfolding choose
   choose-end h = rw (inv, drop-of-length-le run h)
 
   module _ (h : j < length run) (here : ℕ) (is : here ≡ getD counts (getD run j 0) 0) where
-    pub choose-here : left < here → record { place = getD run j 0; index = left } ≡ w
+    pub choose-here : left < here → record { place = termAt (getD run j 0); index = left } ≡ w
     unfolding choose
     choose-here l = rw (inv, drop-cons run j 0 h, ← is, lt-ltb _ _ l)
 
@@ -77,11 +79,11 @@ module _ (tags values counts : List ℕ) where
 
 -- what the walk finds: an operand before x whose clause of that number is the clause of number i
 pub record Found (tags values counts : List ℕ) (x : ℕ) (cs : List (List (Normal (List ℕ) ℕ))) (i : ℕ) (c : Chosen) : Type 0 where
-  pub counted : ClauseCounts tags values counts (c .place ∷ [])
-  pub below : c .place < x
-  pub small : length (cnf (formAt tags values (c .place))) ≤ 2048
-  pub index : c .index < length (cnf (formAt tags values (c .place)))
-  pub same : getD (cnf (formAt tags values (c .place))) (c .index) [] ≡ getD cs i []
+  pub counted : ClauseCounts tags values counts (c .place .0 ∷ [])
+  pub below : c .place .0 < x
+  pub small : length (cnf (formAt tags values (c .place .0))) ≤ 2048
+  pub index : c .index < length (cnf (formAt tags values (c .place .0)))
+  pub same : getD (cnf (formAt tags values (c .place .0))) (c .index) [] ≡ getD cs i []
 
 module _ (tags values counts : List ℕ) (x : ℕ) (within : x < length tags) where
   found : (run : List ℕ) → ClauseCounts tags values counts run → allBefore x run ≡ true → (i : ℕ) → length (cnfAnd (runOf tags values run)) ≤ 2048 → i < length (cnfAnd (runOf tags values run))
@@ -137,7 +139,7 @@ module _ (tags values counts : List ℕ) (x i : ℕ) (out : List ℕ) (at : ℕ)
     pub literal-written : (after : List ℕ) (r : ℕ) → (r ≡ at + 1) × (after ≡ set out at x) → Written (getD (cnf (formAt tags values x)) i []) out at after r
     literal-written = one-written tags values counts _ _ _ (ap cnf (read-literal tags values x v is e)) i out at ask
 
-  module _ (body : ℕ) (e : v ≡ Forall body) where
+  module _ (body : TermPlace) (e : v ≡ Forall body) where
     pub forall-room : at < length out
     forall-room = one-room tags values counts _ _ _ (ap cnf (read-forall tags values x v is body e)) i out at ask
 
@@ -165,10 +167,10 @@ module _ (tags values counts : List ℕ) (x i : ℕ) (out : List ℕ) (at : ℕ)
             (found tags values counts x within run run-counts run-here i (omega (arith, ask .small, ap length and-is)) (omega (arith, ask .index, ap length and-is)))
 
         -- the measure falls
-        pub and-falls : (m : ℕ) → x * 2 ^ 65 + 2 ^ 64 ≡ m → c .place * 2 ^ 65 + 2 ^ 64 < m
+        pub and-falls : (m : ℕ) → x * 2 ^ 65 + 2 ^ 64 ≡ m → c .place .0 * 2 ^ 65 + 2 ^ 64 < m
         and-falls m q = omega (arith, chosen .below)
 
-        pub and-ask : Ask tags values counts (c .place ∷ []) (cnf (formAt tags values (c .place))) (c .index) out at
+        pub and-ask : Ask tags values counts (c .place .0 ∷ []) (cnf (formAt tags values (c .place .0))) (c .index) out at
         and-ask = record {
           counted = chosen .counted;
           small = chosen .small;
@@ -176,7 +178,7 @@ module _ (tags values counts : List ℕ) (x i : ℕ) (out : List ℕ) (at : ℕ)
           room = rw (chosen .same) (ask .room);
         }
 
-        pub and-written : (after : List ℕ) (r : ℕ) → Written (getD (cnf (formAt tags values (c .place))) (c .index) []) out at after r
+        pub and-written : (after : List ℕ) (r : ℕ) → Written (getD (cnf (formAt tags values (c .place .0))) (c .index) []) out at after r
             → Written (getD (cnf (formAt tags values x)) i []) out at after r
         and-written after r w = rw (← chosen .same) w
 

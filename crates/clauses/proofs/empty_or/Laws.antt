@@ -9,6 +9,7 @@ use lib.Seq.{getD-set-other}
 use lib.Dec.{eqb}
 use native.Mathlib.Omega.{arith}
 use borrow.Author.Tests.{eqb-true, eqb-false}
+use Rattle.cells.specs.declared.TermPlace.{TermPlace}
 use Rattle.cells.specs.Cell.{operandsOf}
 use Rattle.cells.specs.ByPlace.{by-test}
 use Rattle.formulas.specs.declared.view.NormalView.{NormalView}
@@ -43,7 +44,7 @@ module _ (tags values : List ℕ) (x : ℕ) (memo : List ℕ) where
     pub term-literal : NoneReached tags values memo → v ≡ Literal → Reached tags values memo false (emptyOr (formAt tags values x))
     term-literal right e = record { is = rw (read-literal tags values x v is e); right = right }
 
-    pub term-forall : NoneReached tags values memo → (body : ℕ) → v ≡ Forall body → Reached tags values memo false (emptyOr (formAt tags values x))
+    pub term-forall : NoneReached tags values memo → (body : TermPlace) → v ≡ Forall body → Reached tags values memo false (emptyOr (formAt tags values x))
     term-forall right body e = record { is = rw (read-forall tags values x v is body e); right = right }
 
     module _ (b : Bool) (e : v ≡ Connective b) (run : List ℕ) (o : run ≡ operandsOf tags values x) where

@@ -10,6 +10,7 @@ use lib.Dec.{leb, eqb}
 use native.Mathlib.Nat.{mul-le-mul}
 use native.Mathlib.Omega.{arith}
 use borrow.Author.Tests.{leb-true, leb-false, eqb-true, eqb-false}
+use Rattle.cells.specs.declared.TermPlace.{TermPlace}
 use Rattle.cells.specs.Cell.{operandsOf}
 use Rattle.cells.specs.ByPlace.{by-test}
 use Rattle.formulas.specs.declared.view.NormalView.{NormalView}
@@ -164,7 +165,7 @@ module _ (tags values : List ℕ) (x : ℕ) (v : NormalView) (is : v ≡ normalV
   literal-no-run : v ≡ Literal → (b : Bool) → Connective b ≡ normalView tags values x → ⊥
   literal-no-run e b q = no-literal b (q ∙ (sym is ∙ e))
 
-  forall-no-run : (body : ℕ) → v ≡ Forall body → (b : Bool) → Connective b ≡ normalView tags values x → ⊥
+  forall-no-run : (body : TermPlace) → v ≡ Forall body → (b : Bool) → Connective b ≡ normalView tags values x → ⊥
   forall-no-run body e b q = no-forall b body (q ∙ (sym is ∙ e))
 
   module _ (counts sizes : List ℕ) (memo : Memo tags values counts sizes) (t : code.Totals) (one : asTotals t ≡ oneLiteral)
@@ -174,7 +175,7 @@ module _ (tags values : List ℕ) (x : ℕ) (v : NormalView) (is : v ≡ normalV
         noted-counted tags values x counts sizes memo t (one ∙ rw (read-literal tags values x v is e)) (λ b q. absurd (literal-no-run e b q))
         sizes (record { at = λ u h. h }) counts′ sizes′ r n
 
-    pub term-forall : (body : ℕ) → v ≡ Forall body → TermCounted tags values x sizes counts′ sizes′ r
+    pub term-forall : (body : TermPlace) → v ≡ Forall body → TermCounted tags values x sizes counts′ sizes′ r
     term-forall body e =
         noted-counted tags values x counts sizes memo t (one ∙ rw (read-forall tags values x v is body e)) (λ b q. absurd (forall-no-run body e b q))
         sizes (record { at = λ u h. h }) counts′ sizes′ r n

@@ -7,6 +7,7 @@ use mathlib.Core.List.{List}
 use lib.ListN.{length, getD, take}
 use lib.Seq.{getD-take}
 use native.Mathlib.Omega.{arith}
+use Rattle.cells.specs.declared.TermPlace.{TermPlace}
 use Rattle.descriptions.specs.Index.{Reached, Index, Earlier}
 use Rattle.descriptions.proofs.description.Growth.{Same}
 use Rattle.descriptions.proofs.index.Entries.{reached-same}
@@ -56,8 +57,8 @@ module _ (n t : ℕ) (tags values : List ℕ) (s : State n n tags values) (index
     pub no-normal-index : (index′ : List ℕ) → Index tags₁ values₁ n index′ → Index tags values n index′
     no-normal-index = index-of-pool n tags values s tags₁ values₁ (no-normal .0)
 
-  module _ (x m : ℕ) (e : b ≡ built.At x m) (b₂ : Built) (tags₂ values₂ : List ℕ)
-      (second : NormalBuilt m tags₁ values₁ (takenOut (poolOf tags₁ values₁ m) x) b₂ tags₂ values₂)
+  module _ (x : TermPlace) (m : ℕ) (e : b ≡ built.At x m) (b₂ : Built) (tags₂ values₂ : List ℕ)
+      (second : NormalBuilt m tags₁ values₁ (takenOut (poolOf tags₁ values₁ m) (x .0)) b₂ tags₂ values₂)
       (size : length tags₁ ≡ length tags) (size₂ : length values₁ ≡ length values) where
     both-built : NormalBuilt n tags values (clausalIn tags values n t) b₂ tags₂ values₂
     both-built = clausal-then tags values n t b tags₁ values₁ first x m e s size size₂ b₂ tags₂ values₂ second
@@ -77,7 +78,7 @@ module _ (n t : ℕ) (tags values : List ℕ) (s : State n n tags values) (index
       no-taken-index = index-of-pool n tags values s tags₂ values₂ (no-taken .0)
 
     -- ---- both forms
-    module _ (y k : ℕ) (f : b₂ ≡ built.At y k) (size′ : length tags₂ ≡ length tags) (size₂′ : length values₂ ≡ length values) where
+    module _ (y : TermPlace) (k : ℕ) (f : b₂ ≡ built.At y k) (size′ : length tags₂ ≡ length tags) (size₂′ : length values₂ ≡ length values) where
       pub both-forms : FormsBuilt n t tags values (At x m y k) tags₂ values₂
       both-forms = record {
         tags₁ = tags₁;
@@ -90,7 +91,7 @@ module _ (n t : ℕ) (tags values : List ℕ) (s : State n n tags values) (index
         values-size = size₂′;
       }
 
-      clausal : Holds n (clausalIn tags values n t) y k tags₂ values₂
+      clausal : Holds n (clausalIn tags values n t) (y .0) k tags₂ values₂
       clausal = let (h, room) = rw f at both-built in h
 
       left : Left n tags values tags₂ values₂
@@ -99,8 +100,8 @@ module _ (n t : ℕ) (tags values : List ℕ) (s : State n n tags values) (index
           record {
             tags-size = size′;
             values-size = size₂′;
-            tags-kept = tags-kept n tags values s _ on y k tags₂ values₂ clausal;
-            values-kept = values-kept n tags values s _ on y k tags₂ values₂ clausal;
+            tags-kept = tags-kept n tags values s _ on (y .0) k tags₂ values₂ clausal;
+            values-kept = values-kept n tags values s _ on (y .0) k tags₂ values₂ clausal;
           }
 
       pub both-ask : Earlier values₂ n k

@@ -9,6 +9,7 @@ use lib.Seq.{length-take-le, getD-take}
 use lib.Dec.{leb}
 use native.Mathlib.Omega.{arith}
 use borrow.Author.Tests.{eq-eqb}
+use Rattle.cells.specs.declared.TermPlace.{TermPlace}
 use Rattle.cells.specs.ByPlace.{by-test}
 use Rattle.sorts.specs.Table.{builtIn}
 use Rattle.descriptions.proofs.description.Growth.{Same}
@@ -58,12 +59,12 @@ module _ (f : Normal (List ℕ) ℕ) (a : Answer) (is : a ≡ listAnswer f) wher
 
 -- ---- the two forms
 module _ (n t : ℕ) (tags values : List ℕ) (f : Forms) (tags₂ values₂ : List ℕ) (built : FormsBuilt n t tags values f tags₂ values₂)
-    (x m y k : ℕ) (e : f ≡ At x m y k) where
+    (x : TermPlace) (m : ℕ) (y : TermPlace) (k : ℕ) (e : f ≡ At x m y k) where
   both : Both n t tags values x m y k tags₂ values₂
   both = rw e at built
 
   -- the arrays up to the second form, whose clauses are listed
-  source : Holds m (takenOut (poolOf (both .tags₁) (both .values₁) m) x) y k tags₂ values₂
+  source : Holds m (takenOut (poolOf (both .tags₁) (both .values₁) m) (x .0)) (y .0) k tags₂ values₂
   source = let (h, room) = both .taken in h
 
   pub all-within : k ≤ length tags₂
@@ -124,12 +125,12 @@ module _ (tags values : List ℕ) (n l left r right : ℕ) (ask : Sides tags val
     pub clausified-full : f ≡ Full → (a : Answer) → a ≡ answerOf (refuse 31 0 0) → Leaves n tags values outcome a tags₂ values₂
     clausified-full e a is = let (kept, full) = rw e at built in record { answer = is ∙ ap answerOf (no-room full); left = kept }
 
-    module _ (x m y k : ℕ) (e : f ≡ At x m y k) (a : Answer) (literals ends : List ℕ)
-        (listed : Answered (listAnswer (formAt (take k tags₂) (take k values₂) y)) (cnf (formAt (take k tags₂) (take k values₂) y)) 8192 2048 a literals ends) where
+    module _ (x : TermPlace) (m : ℕ) (y : TermPlace) (k : ℕ) (e : f ≡ At x m y k) (a : Answer) (literals ends : List ℕ)
+        (listed : Answered (listAnswer (formAt (take k tags₂) (take k values₂) (y .0))) (cnf (formAt (take k tags₂) (take k values₂) (y .0))) 8192 2048 a literals ends) where
       forms : Both n left tags values x m y k tags₂ values₂
       forms = rw e at built
 
-      first : Holds n (normalIn tags values n left true) x m (forms .tags₁) (forms .values₁)
+      first : Holds n (normalIn tags values n left true) (x .0) m (forms .tags₁) (forms .values₁)
       first = let (h, room) = forms .normal in h
 
       both-built : NormalBuilt n tags values (clausalIn tags values n left) (stands.At y k) tags₂ values₂
@@ -137,7 +138,7 @@ module _ (tags values : List ℕ) (n l left r right : ℕ) (ask : Sides tags val
           clausal-then tags values n left (stands.At x m) (forms .tags₁) (forms .values₁) (forms .normal) x m refl sides-state (forms .first-tags) (forms .first-values)
           (stands.At y k) tags₂ values₂ (forms .taken)
 
-      clausal-holds : Holds n (clausalIn tags values n left) y k tags₂ values₂
+      clausal-holds : Holds n (clausalIn tags values n left) (y .0) k tags₂ values₂
       clausal-holds = let (h, room) = both-built in h
 
       room : fits (clausalIn tags values n left .pool) (length tags) ≡ true
@@ -150,11 +151,11 @@ module _ (tags values : List ℕ) (n l left r right : ℕ) (ask : Sides tags val
           record {
             tags-size = forms .tags-size;
             values-size = forms .values-size;
-            tags-kept = tags-kept n tags values s _ on y k tags₂ values₂ clausal-holds;
-            values-kept = values-kept n tags values s _ on y k tags₂ values₂ clausal-holds;
+            tags-kept = tags-kept n tags values s _ on (y .0) k tags₂ values₂ clausal-holds;
+            values-kept = values-kept n tags values s _ on (y .0) k tags₂ values₂ clausal-holds;
           }
 
-      form-is : formAt (take k tags₂) (take k values₂) y ≡ clausalFormIn tags values n left
+      form-is : formAt (take k tags₂) (take k values₂) (y .0) ≡ clausalFormIn tags values n left
       form-is = ap₂ normalAt (clausal-holds .pool-is) (clausal-holds .place-is)
 
       lists : Answered (listAnswer (clausalFormIn tags values n left)) (cnf (clausalFormIn tags values n left)) 8192 2048 a literals ends
@@ -176,13 +177,13 @@ module _ (tags values : List ℕ) (n l left r right : ℕ) (ask : Sides tags val
         first-pool : poolOf tags₂ values₂ m ≡ normalIn tags values n left true .pool
         first-pool =
             let s = normal-state tags values n left (stands.At x m) (forms .tags₁) (forms .values₁) (forms .normal) x m refl in
-            let on = taken-on m (forms .tags₁) (forms .values₁) x s in
+            let on = taken-on m (forms .tags₁) (forms .values₁) (x .0) s in
             let (h, fit) = forms .taken in
             ap₂ (λ (p q : List ℕ). record { tags = p; values = q })
-            (tags-kept m (forms .tags₁) (forms .values₁) s _ on y k tags₂ values₂ h) (values-kept m (forms .tags₁) (forms .values₁) s _ on y k tags₂ values₂ h)
+            (tags-kept m (forms .tags₁) (forms .values₁) s _ on (y .0) k tags₂ values₂ h) (values-kept m (forms .tags₁) (forms .values₁) s _ on (y .0) k tags₂ values₂ h)
             ∙ first .pool-is
 
-        normal-form : formAt (take m tags₂) (take m values₂) x ≡ normalAt (normalIn tags values n left true .pool) (normalIn tags values n left true .place)
+        normal-form : formAt (take m tags₂) (take m values₂) (x .0) ≡ normalAt (normalIn tags values n left true .pool) (normalIn tags values n left true .place)
         normal-form = ap₂ normalAt first-pool (first .place-is)
 
         same : Same n tags values (take m tags₂) (take m values₂)
@@ -193,13 +194,13 @@ module _ (tags values : List ℕ) (n l left r right : ℕ) (ask : Sides tags val
           values-same = λ i h. getD-take m values₂ i 0 (omega (arith, first .state .source)) ∙ sym (cell-same n values values₂ (kept .values-kept) i h);
         }
 
-        pub clausified-follows : (p : Answer) → p ≡ answerOf (followsIn (take m tags₂) (take m values₂) n x l r right (clausesIn literals ends 0 (a .first)))
+        pub clausified-follows : (p : Answer) → p ≡ answerOf (followsIn (take m tags₂) (take m values₂) n (x .0) l r right (clausesIn literals ends 0 (a .first)))
             → Leaves n tags values outcome p tags₂ values₂
         unfolding clausified guard _>>_
         clausified-follows p is =
             let (some, limits, number) = list-made (clausalFormIn tags values n left) a (lists .answer) z in
             record {
-              answer = is ∙ ap answerOf (follows-kept n tags values (take m tags₂) (take m values₂) same (passed .formed) l left r right x
+              answer = is ∙ ap answerOf (follows-kept n tags values (take m tags₂) (take m values₂) same (passed .formed) l left r right (x .0)
                   (ask .left-place) (ask .right-place) (ask .right-body) normal-form _ clauses-are ∙ sym (rw (room, some, limits)));
               left = kept;
             }

@@ -6,6 +6,7 @@ use mathlib.Core.Bool.{Bool, true, false, not, _&&_}
 use mathlib.Core.List.{List, [], _∷_, _++_}
 use native.Mathlib.Omega.{arith}
 use borrow.Author.Tests.{not-true, not-false}
+use Rattle.cells.specs.Place.{termAt}
 use Rattle.cells.specs.ByPlace.{by-test}
 use Rattle.cells.specs.declared.Found.the-variants as found
 use Rattle.headers.specs.WellFormed.{firstBad}
@@ -69,9 +70,9 @@ module _ (tags values : List ℕ) (n x l r body : ℕ) (cs : List (List ℕ)) (l
       follows-missing m i = sym (last ∙ unless-name 9 0 _ m (first-left _ _ (bindingsOf left) m (sym i ∙ g-is)))
 
       module _ (i : g ≡ Nothing) (h : FirstName)
-          (h-is : h ≡ nameOf (firstOf (isSought tags values n (bindingsOf right) (Missing body)) (taken bindingsOf (formAt tags values x)))) where
+          (h-is : h ≡ nameOf (firstOf (isSought tags values n (bindingsOf right) (Missing (termAt body))) (taken bindingsOf (formAt tags values x)))) where
         taken-last : followsIn tags values n x l r body cs
-            ≡ unless 9 (λ (a : Binding). a .name) 0 (firstOf (isSought tags values n (bindingsOf right) (Missing body)) (taken bindingsOf (formAt tags values x)))
+            ≡ unless 9 (λ (a : Binding). a .name) 0 (firstOf (isSought tags values n (bindingsOf right) (Missing (termAt body))) (taken bindingsOf (formAt tags values x)))
         unfolding isSought
         taken-last = last ∙ ap (unless 9 (λ (a : Binding). a .name) 0) (first-right _ _ (bindingsOf left) (sym i ∙ g-is))
 

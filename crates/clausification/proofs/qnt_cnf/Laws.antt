@@ -8,6 +8,7 @@ use mathlib.Core.Option.{some}
 use lib.Dec.{eqb, ltb}
 use native.Mathlib.Omega.{arith}
 use borrow.Author.Tests.{eqb-true, eqb-false, ltb-true, not-true, not-false}
+use Rattle.cells.specs.declared.TermPlace.{TermPlace}
 use Rattle.cells.specs.ByPlace.{by-test}
 use Rattle.sorts.specs.Table.{builtIn}
 use Rattle.headers.specs.WellFormed.{isTerm}
@@ -38,12 +39,12 @@ module _ (tags values : List ℕ) (x : ℕ) (t : Two) (outer : andThen (operator
   unfolding implication twoIn
   implication-other e = rw (outer, e)
 
-  module _ (p r : ℕ) (e : t ≡ two.Are p r) (o : One) (inner : andThen (operator tags values 34 p) oneOf ≡ oneIn o) where
+  module _ (p r : TermPlace) (e : t ≡ two.Are p r) (o : One) (inner : andThen (operator tags values 34 (p .0)) oneOf ≡ oneIn o) where
     pub implication-plain : o ≡ one.Not → implication tags values x ≡ twoIn two.Not
     unfolding implication twoIn oneIn
     implication-plain f = rw (outer, e, inner, f)
 
-    pub implication-is : (l : ℕ) → o ≡ one.Is l → implication tags values x ≡ twoIn (two.Are l r)
+    pub implication-is : (l : TermPlace) → o ≡ one.Is l → implication tags values x ≡ twoIn (two.Are l r)
     unfolding implication twoIn oneIn
     implication-is l f = rw (outer, e, inner, f)
 
@@ -92,17 +93,17 @@ module _ (tags values : List ℕ) (n x : ℕ) (t : Two) (form : implication tags
   unfolding qntCnf twoIn need _>>=_
   sides-form e = rw (form, e)
 
-  module _ (l r : ℕ) (e : t ≡ two.Are l r) (q : Quantified) (left : Reads tags values l q) where
-    pub sides-left : q ≡ quantified.Not → refuse 3 l 0 ≡ qntCnf tags values n x
+  module _ (l r : TermPlace) (e : t ≡ two.Are l r) (q : Quantified) (left : Reads tags values (l .0) q) where
+    pub sides-left : q ≡ quantified.Not → refuse 3 (l .0) 0 ≡ qntCnf tags values n x
     unfolding qntCnf twoIn quantifierIn need _>>=_
     sides-left o = rw (form, e, left, o)
 
-    module _ (k : Bool) (b : ℕ) (q-is : q ≡ quantified.Is k b) (q′ : Quantified) (right : Reads tags values r q′) where
-      pub sides-right : q′ ≡ quantified.Not → refuse 3 r 0 ≡ qntCnf tags values n x
+    module _ (k : Bool) (b : TermPlace) (q-is : q ≡ quantified.Is k b) (q′ : Quantified) (right : Reads tags values (r .0) q′) where
+      pub sides-right : q′ ≡ quantified.Not → refuse 3 (r .0) 0 ≡ qntCnf tags values n x
       unfolding qntCnf twoIn quantifierIn need _>>=_
       sides-right o = rw (form, e, left, q-is, right, o)
 
-      module _ (k′ : Bool) (b′ : ℕ) (q′-is : q′ ≡ quantified.Is k′ b′) where
+      module _ (k′ : Bool) (b′ : TermPlace) (q′-is : q′ ≡ quantified.Is k′ b′) where
         pub sides-kind : not k ≡ true → refuse 4 23 24 ≡ qntCnf tags values n x
         unfolding qntCnf twoIn quantifierIn need guard _>>=_ _>>_
         sides-kind o = rw (form, e, left, q-is, right, q′-is, not-true k o)
@@ -111,22 +112,22 @@ module _ (tags values : List ℕ) (n x : ℕ) (t : Two) (form : implication tags
         unfolding qntCnf twoIn quantifierIn need guard _>>=_ _>>_
         sides-right-kind o o′ = rw (form, e, left, q-is, right, q′-is, not-false k o, not-true k′ o′)
 
-        pub sides-rest : not k ≡ false → not k′ ≡ false → clausified tags values n (forallAt tags values l b) (forallAt tags values r b′) ≡ qntCnf tags values n x
+        pub sides-rest : not k ≡ false → not k′ ≡ false → clausified tags values n (forallAt tags values (l .0) (b .0)) (forallAt tags values (r .0) (b′ .0)) ≡ qntCnf tags values n x
         unfolding qntCnf twoIn quantifierIn need guard _>>=_ _>>_
         sides-rest o o′ = rw (form, e, left, q-is, right, q′-is, not-false k o, not-false k′ o′)
 
-        pub sides-are : checkTerm tags values builtIn n x .code ≡ 0 → Sides tags values n l b r b′
+        pub sides-are : checkTerm tags values builtIn n x .code ≡ 0 → Sides tags values n (l .0) (b .0) (r .0) (b′ .0)
         unfolding twoIn quantifierIn
         sides-are ok =
             let (pool-ok, term) = term-checked tags values builtIn n x ok in
             let c : Passed tags values builtIn n = pool-passes tags values builtIn n (pool-accepts tags values builtIn n pool-ok) in
-            let (l-term, r-term) = implication-terms c x term l r (form ∙ ap twoIn e) in
+            let (l-term, r-term) = implication-terms c x term (l .0) (r .0) (form ∙ ap twoIn e) in
             record {
               passed = pool-ok;
-              left-place = term-below tags n l l-term;
-              left-body = term-below tags n b (body-term c l l-term k _ b (left ∙ ap (quantifierIn _) q-is));
-              right-place = term-below tags n r r-term;
-              right-body = term-below tags n b′ (body-term c r r-term k′ _ b′ (right ∙ ap (quantifierIn _) q′-is));
+              left-place = term-below tags n (l .0) l-term;
+              left-body = term-below tags n (b .0) (body-term c (l .0) l-term k _ (b .0) (left ∙ ap (quantifierIn _) q-is));
+              right-place = term-below tags n (r .0) r-term;
+              right-body = term-below tags n (b′ .0) (body-term c (r .0) r-term k′ _ (b′ .0) (right ∙ ap (quantifierIn _) q′-is));
             }
 
 -- ---- what is left in the arrays

@@ -9,6 +9,7 @@ use lib.Seq.{drop-cons, drop-set-lt, take-all, getD-set-same, getD-set-other}
 use lib.Dec.{eqb}
 use native.Mathlib.Omega.{arith}
 use borrow.Author.Tests.{lt-ltb, eqb-true, eqb-false}
+use Rattle.cells.specs.declared.TermPlace.{TermPlace}
 use Rattle.cells.specs.ByPlace.{by-test}
 use Rattle.cells.specs.Cell.{operandsOf}
 use Rattle.formulas.specs.declared.view.NormalView.{NormalView}
@@ -113,9 +114,9 @@ module _ (tags values : List ℕ) (x : ℕ) (v : NormalView) (is : v ≡ normalV
   unfolding takenAt takenIn
   taken-run b e = rw (read-connective tags values x v is b e)
 
-  taken-forall : (body : ℕ) → v ≡ Forall body → takenAt tags values x ≡ bindingsOf (pairsOf tags values x) ++ takenAt tags values body
+  taken-forall : (body : TermPlace) → v ≡ Forall body → takenAt tags values x ≡ bindingsOf (pairsOf tags values x) ++ takenAt tags values (body .0)
   unfolding takenAt pairsOf
-  taken-forall body e = rw (read-forall tags values x v is body e, lt-ltb body x (look-below tags values x v is body e))
+  taken-forall body e = rw (read-forall tags values x v is body e, lt-ltb (body .0) x (look-below tags values x v is body e))
 
   pub operands-before : (b : Bool) → v ≡ Connective b → (run : List ℕ) → run ≡ operandsOf tags values x → allBefore x run ≡ true
   operands-before b e run o = rw o (run-before tags values x v is b e)
@@ -190,13 +191,13 @@ module _ (tags values cells : List ℕ) (k x : ℕ) where
         → (seen′ : List ℕ) → seen′ ≡ set seen x 1 → Walked tags values cells k seen′ cells′ (takenAt tags values x) r
     walk-run b e run o seen cells′ r w = noted seen cells′ (takenIn tags values run) (rw o (taken-run tags values x v is b e)) r w
 
-    pub walk-forall : (body : ℕ) → v ≡ Forall body → (list : List ℕ) → list ≡ pairsOf tags values x
+    pub walk-forall : (body : TermPlace) → v ≡ Forall body → (list : List ℕ) → list ≡ pairsOf tags values x
         → (cells₁ : List ℕ) (own : Collected) → Put cells k (bindingsOf list) cells₁ own → (j : ℕ) → own ≡ From j
-        → (seen cells′ : List ℕ) (r : Collected) → Walked tags values cells₁ j seen cells′ (takenAt tags values body) r
+        → (seen cells′ : List ℕ) (r : Collected) → Walked tags values cells₁ j seen cells′ (takenAt tags values (body .0)) r
         → (seen′ : List ℕ) → seen′ ≡ set seen x 1 → Walked tags values cells k seen′ cells′ (takenAt tags values x) r
     walk-forall body e list l cells₁ own p j q seen cells′ r w =
-        noted seen cells′ (bindingsOf list ++ takenAt tags values body) (rw l (taken-forall tags values x v is body e)) r
-        (composed tags values cells k (bindingsOf list) cells₁ j (put-from cells k _ cells₁ own p j q) seen cells′ (takenAt tags values body) r w)
+        noted seen cells′ (bindingsOf list ++ takenAt tags values (body .0)) (rw l (taken-forall tags values x v is body e)) r
+        (composed tags values cells k (bindingsOf list) cells₁ j (put-from cells k _ cells₁ own p j q) seen cells′ (takenAt tags values (body .0)) r w)
 
 -- ---- the walk along a run
 run-none : (tags values run : List ℕ) → length run ≡ 0 → takenIn tags values run ≡ []

@@ -10,6 +10,8 @@ use lib.Seq.{drop-cons, take-all, getD-set-other, set-out}
 use lib.Dec.{eqb, ltb}
 use native.Mathlib.Omega.{arith}
 use borrow.Author.Tests.{lt-ltb, eqb-true, eqb-false, ltb-true, ltb-false}
+use Rattle.cells.specs.declared.TermPlace.{TermPlace}
+use Rattle.cells.specs.declared.SortPlace.{SortPlace}
 use Rattle.cells.specs.ByPlace.{by-test}
 use Rattle.cells.specs.Cell.{operandsOf}
 use Rattle.free_variables.specs.Names.{freeIn, Listed}
@@ -53,16 +55,16 @@ first-other a (b ∷ l) e =
     (λ o. rw o (first-other a l (rw o at e)))
 
 module _ (tags values : List ℕ) (n : ℕ) (right : List Binding) (sought : Sought) (list : List Binding) where
-  module _ (a s : ℕ) (e : sought ≡ Pair a s) (h : Bool) (is : h ≡ has list (pair a s)) where
+  module _ (a : ℕ) (s : SortPlace) (e : sought ≡ Pair a s) (h : Bool) (is : h ≡ has list (pair a (s .0))) where
     pub sought-here : h ≡ true → Name a ≡ nameOf (firstOf (isSought tags values n right sought) list)
     unfolding isSought
-    sought-here y = rw e (sym (first-same a s list (sym is ∙ y)))
+    sought-here y = rw e (sym (first-same a (s .0) list (sym is ∙ y)))
 
     pub sought-nowhere : h ≡ false → Nothing ≡ nameOf (firstOf (isSought tags values n right sought) list)
     unfolding isSought
-    sought-nowhere y = rw e (sym (first-other (pair a s) list (sym is ∙ y)))
+    sought-nowhere y = rw e (sym (first-other (pair a (s .0)) list (sym is ∙ y)))
 
-  pub sought-missing : (t : ℕ) → sought ≡ Missing t → (r : FirstName) → r ≡ nameOf (firstOf (isMissing tags values n t right) list)
+  pub sought-missing : (t : TermPlace) → sought ≡ Missing t → (r : FirstName) → r ≡ nameOf (firstOf (isMissing tags values n (t .0) right) list)
       → r ≡ nameOf (firstOf (isSought tags values n right sought) list)
   unfolding isSought
   sought-missing t e r is = rw e is
@@ -70,21 +72,21 @@ module _ (tags values : List ℕ) (n : ℕ) (right : List Binding) (sought : Sou
 pub ruleset seeks = (sought-here, sought-nowhere, sought-missing)
 
 -- the table that a search for a missing variable has
-pub tabled-missing : (tags values names : List ℕ) (sought : Sought) → Tabled tags values names sought → (t : ℕ) → sought ≡ Missing t
-    → Listed tags values names (freeIn tags values t)
+pub tabled-missing : (tags values names : List ℕ) (sought : Sought) → Tabled tags values names sought → (t : TermPlace) → sought ≡ Missing t
+    → Listed tags values names (freeIn tags values (t .0))
 tabled-missing tags values names sought tabled t e = rw e at tabled
 
 module _ (tags values names : List ℕ) (sought : Sought) where
-  pub tabled-pair : (a s : ℕ) → sought ≡ Pair a s → Tabled tags values names sought
+  pub tabled-pair : (a : ℕ) (s : SortPlace) → sought ≡ Pair a s → Tabled tags values names sought
   tabled-pair a s e = rw e tt
 
-  pub tabled-there : (t : ℕ) → sought ≡ Missing t → Listed tags values names (freeIn tags values t) → Tabled tags values names sought
+  pub tabled-there : (t : TermPlace) → sought ≡ Missing t → Listed tags values names (freeIn tags values (t .0)) → Tabled tags values names sought
   tabled-there t e l = rw e l
 
 pub ruleset tables = (tabled-pair, tabled-there)
 
-pub missing-is : (tags values : List ℕ) (n : ℕ) (right : List Binding) (t : ℕ) (list : List Binding)
-    → firstOf (isSought tags values n right (Missing t)) list ≡ firstOf (λ a. not (has right a) && bindingFree tags values n t a) list
+pub missing-is : (tags values : List ℕ) (n : ℕ) (right : List Binding) (t : TermPlace) (list : List Binding)
+    → firstOf (isSought tags values n right (Missing t)) list ≡ firstOf (λ a. not (has right a) && bindingFree tags values n (t .0) a) list
 unfolding isSought
 missing-is tags values n right t list = refl
 
@@ -99,7 +101,7 @@ name-append test [] bs = refl
 name-append test (a ∷ as′) bs = by-test (test a) (λ e. rw e) (λ e. rw e (name-append test as′ bs))
 
 -- ---- what the walk does at x
-pub look-below : (tags values : List ℕ) (x : ℕ) (v : NormalView) → v ≡ normalView tags values x → (body : ℕ) → v ≡ Forall body → body < x
+pub look-below : (tags values : List ℕ) (x : ℕ) (v : NormalView) → v ≡ normalView tags values x → (body : TermPlace) → v ≡ Forall body → body .0 < x
 look-below tags values x v is body e = body-before tags values x body (sym e ∙ is)
 
 module _ (tags values : List ℕ) (test : Binding → Bool) (x : ℕ) where
@@ -115,18 +117,18 @@ module _ (tags values : List ℕ) (test : Binding → Bool) (x : ℕ) where
     unfolding foundAt foundIn
     look-run b e = rw (read-connective tags values x v is b e)
 
-    module _ (body : ℕ) (e : v ≡ Forall body) (list : List ℕ) (l : list ≡ pairsOf tags values x) (own : FirstName)
+    module _ (body : TermPlace) (e : v ≡ Forall body) (list : List ℕ) (l : list ≡ pairsOf tags values x) (own : FirstName)
         (o : own ≡ nameOf (firstOf test (bindingsOf list))) where
-      forall-is : foundAt tags values test x ≡ orElse own (foundAt tags values test body)
+      forall-is : foundAt tags values test x ≡ orElse own (foundAt tags values test (body .0))
       unfolding foundAt pairsOf
       forall-is =
-          rw (read-forall tags values x v is body e, lt-ltb body x (look-below tags values x v is body e), o, l)
+          rw (read-forall tags values x v is body e, lt-ltb (body .0) x (look-below tags values x v is body e), o, l)
           (name-append test _ _)
 
       pub look-found : (a : ℕ) → own ≡ Name a → Name a ≡ foundAt tags values test x
       look-found a q = rw (forall-is, q)
 
-      pub look-body : own ≡ Nothing → foundAt tags values test body ≡ foundAt tags values test x
+      pub look-body : own ≡ Nothing → foundAt tags values test (body .0) ≡ foundAt tags values test x
       look-body q = rw (forall-is, q)
 
 pub ruleset looks = (look-seen, look-literal, run-before, look-run, look-below, look-found, look-body)
@@ -154,11 +156,11 @@ module _ (tags values : List ℕ) (test : Binding → Bool) (x : ℕ) (s : Step)
     pub step-nothing : s ≡ step.Nothing → Answered tags values test seen Nothing (foundAt tags values test x)
     step-nothing e = record { is = rw e at m; right = right }
 
-  module _ (u : ℕ) (e : s ≡ step.Body u) where
-    pub step-below : u < x
+  module _ (u : TermPlace) (e : s ≡ step.Body u) where
+    pub step-below : u .0 < x
     step-below = (rw e at m) .0
 
-    pub step-body : (seen : List ℕ) (r : FirstName) → Answered tags values test seen r (foundAt tags values test u) → Answered tags values test seen r (foundAt tags values test x)
+    pub step-body : (seen : List ℕ) (r : FirstName) → Answered tags values test seen r (foundAt tags values test (u .0)) → Answered tags values test seen r (foundAt tags values test x)
     step-body seen r a = record { is = a .is ∙ (rw e at m) .1; right = a .right }
 
   module _ (e : s ≡ step.Run) (run : List ℕ) (o : run ≡ operandsOf tags values x) where
@@ -246,22 +248,22 @@ abbrev isName : FirstName → Bool
 isName (Name a) = true
 isName Nothing = false
 
-module _ (tags values : List ℕ) (n : ℕ) (right : List Binding) (a s : ℕ) where
-  has-found : (bs : List Binding) → has bs (pair a s) ≡ isName (nameOf (firstOf (isSought tags values n right (Pair a s)) bs))
+module _ (tags values : List ℕ) (n : ℕ) (right : List Binding) (a : ℕ) (s : SortPlace) where
+  has-found : (bs : List Binding) → has bs (pair a (s .0)) ≡ isName (nameOf (firstOf (isSought tags values n right (Pair a s)) bs))
   unfolding has firstOf nameOf isSought
   has-found [] = refl
-  has-found (b ∷ bs) = by-test (same b (pair a s)) (λ e. rw e) (λ e. rw e (has-found bs))
+  has-found (b ∷ bs) = by-test (same b (pair a (s .0))) (λ e. rw e) (λ e. rw e (has-found bs))
 
-module _ (left bs : List Binding) (a s : ℕ) (h : Bool) (is : h ≡ has left (pair a s)) where
-  pub unbound-left : h ≡ true → false ≡ not (has (left ++ bs) (pair a s))
-  unbound-left e = rw (has-append left bs (pair a s), ← is, e)
+module _ (left bs : List Binding) (a : ℕ) (s : SortPlace) (h : Bool) (is : h ≡ has left (pair a (s .0))) where
+  pub unbound-left : h ≡ true → false ≡ not (has (left ++ bs) (pair a (s .0)))
+  unbound-left e = rw (has-append left bs (pair a (s .0)), ← is, e)
 
   module _ (no : h ≡ false) (tags values : List ℕ) (n : ℕ) (right : List Binding) (f : FirstName)
       (q : f ≡ nameOf (firstOf (isSought tags values n right (Pair a s)) bs)) where
-    pub unbound-taken : (b : ℕ) → f ≡ Name b → false ≡ not (has (left ++ bs) (pair a s))
-    unbound-taken b e = rw (has-append left bs (pair a s), ← is, no, has-found tags values n right a s bs, ← q, e)
+    pub unbound-taken : (b : ℕ) → f ≡ Name b → false ≡ not (has (left ++ bs) (pair a (s .0)))
+    unbound-taken b e = rw (has-append left bs (pair a (s .0)), ← is, no, has-found tags values n right a s bs, ← q, e)
 
-    pub unbound-new : f ≡ Nothing → true ≡ not (has (left ++ bs) (pair a s))
-    unbound-new e = rw (has-append left bs (pair a s), ← is, no, has-found tags values n right a s bs, ← q, e)
+    pub unbound-new : f ≡ Nothing → true ≡ not (has (left ++ bs) (pair a (s .0)))
+    unbound-new e = rw (has-append left bs (pair a (s .0)), ← is, no, has-found tags values n right a s bs, ← q, e)
 
 pub ruleset unbound = (unbound-left, unbound-taken, unbound-new)

@@ -11,6 +11,7 @@ use native.Mathlib.Omega.{arith}
 use borrow.Author.Tests.{eq-eqb, ne-eqb}
 use Rattle.cells.specs.Cell.{operandsOf}
 use Rattle.bindings.specs.Binding.{bindingsOf}
+use Rattle.cells.specs.Place.{termAt}
 use Rattle.formulas.specs.Pattern.{quantifier, operator, oneOf, twoOf, threeOf, equality, andThen}
 use Rattle.formulas.specs.PatternAnswer.{pairsOf, quantifierIn, oneIn, twoIn, threeIn}
 use Rattle.formulas.specs.declared.matching.Quantified.{Quantified}
@@ -26,11 +27,11 @@ Reads tags values x q = quantifier tags values x ≡ quantifierIn (bindingsOf (p
 
 module _ (tags values : List ℕ) (x tag : ℕ) (is : tag ≡ getD tags x 0) where
   module _ (run : List ℕ) (o : run ≡ operandsOf tags values x) (body : ℕ) (b : body ≡ getD run 0 0) where
-    pub quantifier-forall : tag ≡ 23 → Reads tags values x (quantified.Is true body)
+    pub quantifier-forall : tag ≡ 23 → Reads tags values x (quantified.Is true (termAt body))
     unfolding quantifier quantifierIn pairsOf
     quantifier-forall e = rw (← is, eq-eqb _ _ e, b, o)
 
-    pub quantifier-exists : (tag ≡ 23 → ⊥) → tag ≡ 24 → Reads tags values x (quantified.Is false body)
+    pub quantifier-exists : (tag ≡ 23 → ⊥) → tag ≡ 24 → Reads tags values x (quantified.Is false (termAt body))
     unfolding quantifier quantifierIn pairsOf
     quantifier-exists n e = rw (← is, ne-eqb _ _ n, eq-eqb _ _ e, b, o)
 
@@ -112,7 +113,7 @@ module _ (tags values : List ℕ) (tag x k : ℕ) (is : k ≡ getD tags x 0) whe
     unfolding operator oneIn
     one-count c = rw (← is, eq-eqb _ _ e, ← o, one-not run c)
 
-    pub one-there : length run ≡ 1 → andThen (operator tags values tag x) oneOf ≡ oneIn (one.Is (getD run 0 0))
+    pub one-there : length run ≡ 1 → andThen (operator tags values tag x) oneOf ≡ oneIn (one.Is (termAt (getD run 0 0)))
     unfolding operator oneIn
     one-there c = rw (← is, eq-eqb _ _ e, ← o, one-is run c)
 
@@ -120,7 +121,7 @@ module _ (tags values : List ℕ) (tag x k : ℕ) (is : k ≡ getD tags x 0) whe
     unfolding operator twoIn
     two-count c = rw (← is, eq-eqb _ _ e, ← o, two-not run c)
 
-    pub two-there : length run ≡ 2 → andThen (operator tags values tag x) twoOf ≡ twoIn (two.Are (getD run 0 0) (getD run 1 0))
+    pub two-there : length run ≡ 2 → andThen (operator tags values tag x) twoOf ≡ twoIn (two.Are (termAt (getD run 0 0)) (termAt (getD run 1 0)))
     unfolding operator twoIn
     two-there c = rw (← is, eq-eqb _ _ e, ← o, two-is run c)
 
@@ -128,7 +129,7 @@ module _ (tags values : List ℕ) (tag x k : ℕ) (is : k ≡ getD tags x 0) whe
     unfolding operator threeIn
     three-count c = rw (← is, eq-eqb _ _ e, ← o, three-not run c)
 
-    pub three-there : length run ≡ 3 → andThen (operator tags values tag x) threeOf ≡ threeIn (three.Are (getD run 0 0) (getD run 1 0) (getD run 2 0))
+    pub three-there : length run ≡ 3 → andThen (operator tags values tag x) threeOf ≡ threeIn (three.Are (termAt (getD run 0 0)) (termAt (getD run 1 0)) (termAt (getD run 2 0)))
     unfolding operator threeIn
     three-there c = rw (← is, eq-eqb _ _ e, ← o, three-is run c)
 

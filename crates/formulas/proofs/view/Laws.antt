@@ -11,10 +11,11 @@ use native.Mathlib.Omega.{arith}
 use native.Mathlib.Numerals.{add-one}
 use borrow.Author.Tests.{lt-ltb, le-ltb, eq-eqb, ne-eqb, not-true, not-false}
 use Rattle.cells.specs.Cell.{sortOf, operandsOf}
+use Rattle.cells.specs.Place.{termAt}
 use Rattle.formulas.specs.Formula.{allBefore, equality, connective, quantifier, viewOf}
 use Rattle.formulas.specs.Built.{normalView}
 use Rattle.formulas.specs.declared.view.View.{View}
-use Rattle.formulas.specs.declared.view.View.the-variants.{Opaque, Not, Many, Implies, Ite, Iff, Quantifier}
+use Rattle.formulas.specs.declared.view.View.the-variants.{Opaque, Not, AndOr, Implies, Ite, Iff, Quantifier}
 use Rattle.formulas.specs.declared.view.NormalView.{NormalView}
 use Rattle.formulas.specs.declared.view.NormalView.the-variants.{Literal, Connective, Forall}
 
@@ -45,19 +46,19 @@ module _ (values os : List ℕ) where
     unfolding equality
     equality-sort n = rw (eq-eqb _ _ e, ← is, ne-eqb _ _ n)
 
-    pub equality-bool : s ≡ 0 → Iff (getD os 0 0) (getD os 1 0) ≡ equality values os
+    pub equality-bool : s ≡ 0 → Iff (termAt (getD os 0 0)) (termAt (getD os 1 0)) ≡ equality values os
     unfolding equality
     equality-bool z = rw (eq-eqb _ _ e, ← is, eq-eqb _ _ z)
 
 pub ruleset equalities = (equality-count, equality-sort, equality-bool)
 
 module _ (values : List ℕ) (tag : ℕ) (os : List ℕ) where
-  pub is-and : tag ≡ 36 → Many true ≡ connective values tag os
+  pub is-and : tag ≡ 36 → AndOr true ≡ connective values tag os
   unfolding connective
   is-and e = rw (eq-eqb _ _ e)
 
   module _ (n36 : tag ≡ 36 → ⊥) where
-    pub is-or : tag ≡ 37 → Many false ≡ connective values tag os
+    pub is-or : tag ≡ 37 → AndOr false ≡ connective values tag os
     unfolding connective
     is-or e = rw (ne-eqb _ _ n36, eq-eqb _ _ e)
 
@@ -71,7 +72,7 @@ module _ (values : List ℕ) (tag : ℕ) (os : List ℕ) where
         unfolding connective
         not-other e n = rw (ne-eqb _ _ n36, ne-eqb _ _ n37, ne-eqb _ _ n39, eq-eqb _ _ e, ne-eqb _ _ n)
 
-        pub is-not : tag ≡ 34 → length os ≡ 1 → Not (getD os 0 0) ≡ connective values tag os
+        pub is-not : tag ≡ 34 → length os ≡ 1 → Not (termAt (getD os 0 0)) ≡ connective values tag os
         unfolding connective
         is-not e n = rw (ne-eqb _ _ n36, ne-eqb _ _ n37, ne-eqb _ _ n39, eq-eqb _ _ e, eq-eqb _ _ n)
 
@@ -80,7 +81,7 @@ module _ (values : List ℕ) (tag : ℕ) (os : List ℕ) where
           unfolding connective
           implies-other e n = rw (ne-eqb _ _ n36, ne-eqb _ _ n37, ne-eqb _ _ n39, ne-eqb _ _ n34, eq-eqb _ _ e, ne-eqb _ _ n)
 
-          pub is-implies : tag ≡ 35 → length os ≡ 2 → Implies (getD os 0 0) (getD os 1 0) ≡ connective values tag os
+          pub is-implies : tag ≡ 35 → length os ≡ 2 → Implies (termAt (getD os 0 0)) (termAt (getD os 1 0)) ≡ connective values tag os
           unfolding connective
           is-implies e n = rw (ne-eqb _ _ n36, ne-eqb _ _ n37, ne-eqb _ _ n39, ne-eqb _ _ n34, eq-eqb _ _ e, eq-eqb _ _ n)
 
@@ -89,7 +90,7 @@ module _ (values : List ℕ) (tag : ℕ) (os : List ℕ) where
             unfolding connective
             ite-other e n = rw (ne-eqb _ _ n36, ne-eqb _ _ n37, ne-eqb _ _ n39, ne-eqb _ _ n34, ne-eqb _ _ n35, eq-eqb _ _ e, ne-eqb _ _ n)
 
-            pub is-ite : tag ≡ 41 → length os ≡ 3 → Ite (getD os 0 0) (getD os 1 0) (getD os 2 0) ≡ connective values tag os
+            pub is-ite : tag ≡ 41 → length os ≡ 3 → Ite (termAt (getD os 0 0)) (termAt (getD os 1 0)) (termAt (getD os 2 0)) ≡ connective values tag os
             unfolding connective
             is-ite e n = rw (ne-eqb _ _ n36, ne-eqb _ _ n37, ne-eqb _ _ n39, ne-eqb _ _ n34, ne-eqb _ _ n35, eq-eqb _ _ e, eq-eqb _ _ n)
 
@@ -100,11 +101,11 @@ module _ (values : List ℕ) (tag : ℕ) (os : List ℕ) where
 pub ruleset connectives = (is-and, is-or, is-equality, not-other, is-not, implies-other, is-implies, ite-other, is-ite, no-connective)
 
 module _ (tag body : ℕ) where
-  pub is-forall : tag ≡ 23 → Quantifier true body ≡ quantifier tag body
+  pub is-forall : tag ≡ 23 → Quantifier true (termAt body) ≡ quantifier tag body
   unfolding quantifier
   is-forall e = rw (eq-eqb _ _ e)
 
-  pub is-exists : tag ≡ 24 → Quantifier false body ≡ quantifier tag body
+  pub is-exists : tag ≡ 24 → Quantifier false (termAt body) ≡ quantifier tag body
   unfolding quantifier
   is-exists e = rw (ne-eqb tag 23 (λ f. omega arith), eq-eqb _ _ e)
 
@@ -138,7 +139,7 @@ module _ (tags values : List ℕ) (t tag : ℕ) (is-tag : tag ≡ getD tags t 0)
     unfolding normalView
     forall-late l = rw (← is-tag, ← is-run, eq-eqb _ _ h, ← is-body, le-ltb _ _ l)
 
-    pub forall-view : body < t → Forall body ≡ normalView tags values t
+    pub forall-view : body < t → Forall (termAt body) ≡ normalView tags values t
     unfolding normalView
     forall-view l = rw (← is-tag, ← is-run, eq-eqb _ _ h, ← is-body, lt-ltb _ _ l)
 

@@ -18,8 +18,8 @@ same-pair-requires c κs = search needs
 returns-3 : tie.Need-returns-3
 returns-3 c = search one-more
 
-add-t10 : tie.Need-add-t10
-add-t10 c = search needs
+add-t12 : tie.Need-add-t12
+add-t12 c = search needs
 
 returns-4 : tie.Need-returns-4
 returns-4 c = search one-more
@@ -27,4 +27,4 @@ returns-4 c = search one-more
 pub next-spec : {M : Type 1} → statement M
 next-spec =
     tie.close
-    (tie.spec is-repeat-requires returns returns-2 same-pair-requires returns-3 add-t10 returns-4)
+    (tie.spec is-repeat-requires returns returns-2 same-pair-requires returns-3 add-t12 returns-4)

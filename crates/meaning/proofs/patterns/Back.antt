@@ -27,7 +27,8 @@ use Rattle.bindings.specs.Binding.{Binding, same, has, sameAll, firstOf}
 use Rattle.free_variables.specs.BindingFree.{bindingFree}
 use Rattle.meaning.proofs.patterns.Bindings.{binding-eq, same-self, list-same, first-is-none, varOf, varsAt, has-at}
 use Rattle.meaning.proofs.patterns.Sound.{Unfree}
-use Rattle.formulas.specs.Pattern.{Quantifier, quantifier, tagOf, operator, twoOf, equality, andThen}
+use Rattle.formulas.specs.Pattern.{Quantifier, quantifier, operator, twoOf, equality, andThen}
+use Rattle.formulas.specs.Formula.{quantifierTag}
 use Rattle.meaning.proofs.patterns.Trees.{term-below, here, ofRun, AllTerms, SortPlace, Sorted, sorted-has, quantifier-tree, operator-tree, one-binding, binding-free}
 
 -- the tag that a tree has at its place
@@ -36,7 +37,7 @@ headTag (const k s c) = k
 headTag (bitVector s w c) = 20
 headTag (var v) = 21
 headTag (app s f ts) = 22
-headTag (quant b s vs t) = tagOf b
+headTag (quant b s vs t) = quantifierTag b
 headTag (bind k s vs t) = k
 headTag (letin s ls t) = 27
 headTag (op k s ts) = k
@@ -73,7 +74,7 @@ module _ {tags values rules : List ℕ} {n : ℕ} (c : Passed tags values rules 
           let d : quant (q .kind) bool (varsAt tags values (q .list)) (tree tags values (q .body)) ≡ quant b s vs t = sym (i .tree-is) ∙ e in
           record { q = q; found = f; kind = cc; list = cc; body-is = cc; body = i .body; sorts = i .sorts }
 
-      by-kind : (b : Bool) → getD tags x 0 ≡ tagOf b → tree tags values x ≡ quant b s vs t → QuantifierBack x b vs t
+      by-kind : (b : Bool) → getD tags x 0 ≡ quantifierTag b → tree tags values x ≡ quant b s vs t → QuantifierBack x b vs t
       by-kind true z e = is true (ofRun c true (operandsOf tags values x)) (rw z) e
       by-kind false z e = is false (ofRun c false (operandsOf tags values x)) (rw z) e
 

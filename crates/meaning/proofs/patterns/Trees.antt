@@ -33,12 +33,12 @@ use Rattle.meaning.proofs.trees.Tags.{shape-op}
 use Rattle.meaning.proofs.trees.Parts.{not-first, pair-second, from-one, from-two}
 use Rattle.meaning.proofs.trees.Terms.{term-op, even-rest}
 use Rattle.meaning.proofs.trees.Stated.{var-tag}
-use Rattle.meaning.proofs.trees.Passed.{Passed, sort-of-cells, term-of-cells, sort-of-term, one-sort, sort-place-of, states}
-use Rattle.meaning.proofs.trees.Passed.{free-of-tree, free-stands, cells-of-var, found-at, found-none}
+use Rattle.meaning.proofs.trees.Passed.{Passed, sort-of-cells, term-of-cells, sort-of-term, one-sort, sort-place-of, states, free-of-tree, free-stands, cells-of-var, found-at, found-none}
 use Rattle.meaning.proofs.truth.Over.{bool-cases}
 use Rattle.bindings.specs.Binding.{Binding, bindingsOf, same, has, firstOf}
 use Rattle.free_variables.specs.BindingFree.{bindingFree, freeAt}
-use Rattle.formulas.specs.Pattern.{Quantifier, quantifier, tagOf, operator, oneOf, twoOf, threeOf, equality}
+use Rattle.formulas.specs.Pattern.{Quantifier, quantifier, operator, oneOf, twoOf, threeOf, equality}
+use Rattle.formulas.specs.Formula.{quantifierTag}
 use Rattle.meaning.proofs.patterns.Passes.{then-some, cond-some}
 use Rattle.meaning.proofs.patterns.Bindings.{binding-eq, first-none, varOf, varsAt, vars-are, has-pair}
 use Rattle.meaning.proofs.patterns.Sound.{Unfree}
@@ -138,14 +138,14 @@ module _ {tags values rules : List ℕ} {n : ℕ} (c : Passed tags values rules 
 
   -- ---- quantifiers
   -- the sort of "forall, exists" is Bool
-  bool-sort : (b : Bool) (x : ℕ) (t : isTerm tags n x ≡ true) → getD tags x 0 ≡ tagOf b → sortTree tags values (sortOf values x) ≡ bool
+  bool-sort : (b : Bool) (x : ℕ) (t : isTerm tags n x ≡ true) → getD tags x 0 ≡ quantifierTag b → sortTree tags values (sortOf values x) ≡ bool
   unfolding statesSort computeSort isSort isAt sortFrom
   bool-sort b x t e =
       let (l, k) = sort-place-of c x (below x t) (tagged x t) in
       let s : getD tags (sortOf values x) 0 ≡ 1 = eqb-true _ 1 (both (eqb (getD tags (sortOf values x) 0) 1) _ (by-kind b e) .0) in
       rw (sort-of-cells c (sortOf values x) (omega (arith, below x t)) k, s)
     where
-      by-kind : (b : Bool) → getD tags x 0 ≡ tagOf b → isAt tags values (sortOf values x) 1 [] ≡ true
+      by-kind : (b : Bool) → getD tags x 0 ≡ quantifierTag b → isAt tags values (sortOf values x) 1 [] ≡ true
       by-kind true e = rw e at (states c x (below x t) (tagged x t))
       by-kind false e = rw e at (states c x (below x t) (tagged x t))
 
@@ -154,7 +154,7 @@ module _ {tags values rules : List ℕ} {n : ℕ} (c : Passed tags values rules 
   ofRun b run = record { kind = b; list = bindingsOf (drop 1 run); body = getD run 0 0 }
 
   record Cells (b : Bool) (cells : List ℕ) : Type 0 where
-    pub tree-is : termFrom (tagOf b) cells (sortTree tags values) (tree tags values)
+    pub tree-is : termFrom (quantifierTag b) cells (sortTree tags values) (tree tags values)
         ≡ quant b (sortTree tags values (getD cells 0 0)) (varsAt tags values (ofRun b (drop 1 cells) .list)) (tree tags values (ofRun b (drop 1 cells) .body))
     pub body : isTerm tags n (ofRun b (drop 1 cells) .body) ≡ true
     pub sorts : Sorted tags n (ofRun b (drop 1 cells) .list)
@@ -169,12 +169,12 @@ module _ {tags values rules : List ℕ} {n : ℕ} (c : Passed tags values rules 
         sorts = pairs-sorted tags n x 2 cs (omega arith) (omega arith) refl (f .1 .1);
       })
     where
-      is : (b : Bool) (s u : ℕ) (cs : List ℕ) → termFrom (tagOf b) (s ∷ (u ∷ cs)) (sortTree tags values) (tree tags values)
+      is : (b : Bool) (s u : ℕ) (cs : List ℕ) → termFrom (quantifierTag b) (s ∷ (u ∷ cs)) (sortTree tags values) (tree tags values)
           ≡ quant b (sortTree tags values s) (varsAt tags values (bindingsOf cs)) (tree tags values u)
       is true s u cs = ap (λ (vs : Vars). quant true (sortTree tags values s) vs (tree tags values u)) (vars-are tags values cs)
       is false s u cs = ap (λ (vs : Vars). quant false (sortTree tags values s) vs (tree tags values u)) (vars-are tags values cs)
 
-  quantifier-at : (b : Bool) (x : ℕ) (t : isTerm tags n x ≡ true) → getD tags x 0 ≡ tagOf b → IsQuantifier tags values n x (ofRun b (operandsOf tags values x))
+  quantifier-at : (b : Bool) (x : ℕ) (t : isTerm tags n x ≡ true) → getD tags x 0 ≡ quantifierTag b → IsQuantifier tags values n x (ofRun b (operandsOf tags values x))
   unfolding countFits shapeOf stated
   quantifier-at b x t e =
       let shape : shapeOf (getD tags x 0) ≡ Binder = rw e (binder b) in
@@ -184,11 +184,11 @@ module _ {tags values rules : List ℕ} {n : ℕ} (c : Passed tags values rules 
       sym (ap stated is) ∙ (sort-of-term c x (below x t) (tagged x t) ∙ bool-sort b x t e) in
       rw (operands-are x (rw e (late b))) (record { tree-is = rw sort at is; body = cells .body; sorts = cells .sorts })
     where
-      binder : (b : Bool) → shapeOf (tagOf b) ≡ Binder
+      binder : (b : Bool) → shapeOf (quantifierTag b) ≡ Binder
       binder true = refl
       binder false = refl
 
-      late : (b : Bool) → 22 ≤ tagOf b
+      late : (b : Bool) → 22 ≤ quantifierTag b
       late true = omega arith
       late false = omega arith
 
@@ -201,7 +201,7 @@ module _ {tags values rules : List ℕ} {n : ℕ} (c : Passed tags values rules 
       (λ p. is false (eqb-true _ 24 p) (rw (o, p) at e))
       (λ p. let d : none ≡ some q = rw (o, p) at e in let z : _≡_ {A = ℕ} 0 1 = cc in absurd (omega arith)))
     where
-      is : (b : Bool) → getD tags x 0 ≡ tagOf b → some (ofRun b (operandsOf tags values x)) ≡ some q → IsQuantifier tags values n x q
+      is : (b : Bool) → getD tags x 0 ≡ quantifierTag b → some (ofRun b (operandsOf tags values x)) ≡ some q → IsQuantifier tags values n x q
       is b k d = let z : ofRun b (operandsOf tags values x) ≡ q = cc in rw z at (quantifier-at b x t k)
 
   -- ---- operators

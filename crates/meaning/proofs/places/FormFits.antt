@@ -10,6 +10,7 @@ use lib.Dec.{ltb, eqb}
 use native.Mathlib.Omega.{arith}
 use borrow.Author.Tests.{lt-ltb, le-ltb, eqb-true, leb-true}
 use Rattle.cells.specs.ByPlace.{byPlace-is}
+use Rattle.cells.specs.Place.{termAt}
 use Rattle.cells.specs.Cell.{cellsOf, sortOf, operandsOf}
 use Rattle.cells.specs.declared.Found.the-variants.{Nothing}
 use Rattle.headers.specs.WellFormed.{shapeOf, countFits, kindAt, pairKind, isTermTag, valueFits, firstBad}
@@ -23,7 +24,7 @@ use Rattle.meaning.proofs.trees.Tags.{shape-op, by-term-tag}
 use Rattle.meaning.proofs.trees.Parts.{from-one, from-two}
 use Rattle.meaning.proofs.trees.Terms.{even-rest}
 use Rattle.formulas.specs.declared.view.View.{View}
-use Rattle.formulas.specs.declared.view.View.the-variants.{Opaque, Not, Many, Implies, Ite, Iff, Quantifier}
+use Rattle.formulas.specs.declared.view.View.the-variants.{Opaque, Not, AndOr, Implies, Ite, Iff, Quantifier}
 use Rattle.formulas.specs.Formula.{Form, Forms, opaque, neg, many, imp, ite, iff, all, fnil, fcons, allBefore, equality, connective, quantifier, viewOf, formsOf, formBy, form}
 use Rattle.formulas.specs.Normal.{Normal, Normals, lit, nmany, nall, nnil, ncons, nnf, nnfs}
 use Rattle.meaning.proofs.places.Operands.{IsTerm, AllTerms, all-terms, all-before, term-at}
@@ -90,12 +91,12 @@ module _ (tags values : List ℕ) (t : ℕ) where
   -- what is read are terms before t, and pairs
   abbrev Seen : View → List ℕ → Type 0
   Seen Opaque os = Unit {0}
-  Seen (Not a) os = IsTerm tags t a
-  Seen (Many b) os = AllTerms tags t os
-  Seen (Implies a b) os = IsTerm tags t a × IsTerm tags t b
-  Seen (Ite a b c) os = IsTerm tags t a × IsTerm tags t b × IsTerm tags t c
-  Seen (Iff a b) os = IsTerm tags t a × IsTerm tags t b
-  Seen (Quantifier b body) os = IsTerm tags t body × Pairs tags t (drop 1 os)
+  Seen (Not a) os = IsTerm tags t (a .0)
+  Seen (AndOr b) os = AllTerms tags t os
+  Seen (Implies a b) os = IsTerm tags t (a .0) × IsTerm tags t (b .0)
+  Seen (Ite a b c) os = IsTerm tags t (a .0) × IsTerm tags t (b .0) × IsTerm tags t (c .0)
+  Seen (Iff a b) os = IsTerm tags t (a .0) × IsTerm tags t (b .0)
+  Seen (Quantifier b body) os = IsTerm tags t (body .0) × Pairs tags t (drop 1 os)
 
   either : (b : Bool) (v w : View) (os : List ℕ) → (b ≡ true → Seen v os) → (b ≡ false → Seen w os) → Seen (cond b v w) os
   either true v w os y z = y refl
@@ -108,18 +109,18 @@ module _ (tags values : List ℕ) (t : ℕ) where
     connective-seen : (k : ℕ) → Seen (connective values k os) os
     unfolding connective equality
     connective-seen k =
-        either (eqb k 36) (Many true) _ os (λ e. a)
-        (λ e. either (eqb k 37) (Many false) _ os (λ e. a)
+        either (eqb k 36) (AndOr true) _ os (λ e. a)
+        (λ e. either (eqb k 37) (AndOr false) _ os (λ e. a)
         (λ e. either (eqb k 39) (equality values os) _ os
         (λ e. either (eqb (length os) 2) _ Opaque os
-        (λ o. either (eqb (sortOf values (getD os 0 0)) 0) (Iff (getD os 0 0) (getD os 1 0)) Opaque os
+        (λ o. either (eqb (sortOf values (getD os 0 0)) 0) (Iff (termAt (getD os 0 0)) (termAt (getD os 1 0))) Opaque os
         (λ e. (at 0 2 o (omega arith), at 1 2 o (omega arith))) (λ e. tt)) (λ e. tt))
-        (λ e. either (eqb k 34) (cond (eqb (length os) 1) (Not (getD os 0 0)) Opaque) _ os
-        (λ e. either (eqb (length os) 1) (Not (getD os 0 0)) Opaque os (λ o. at 0 1 o (omega arith)) (λ e. tt))
-        (λ e. either (eqb k 35) (cond (eqb (length os) 2) (Implies (getD os 0 0) (getD os 1 0)) Opaque) _ os
-        (λ e. either (eqb (length os) 2) (Implies (getD os 0 0) (getD os 1 0)) Opaque os (λ o. (at 0 2 o (omega arith), at 1 2 o (omega arith))) (λ e. tt))
-        (λ e. either (eqb k 41) (cond (eqb (length os) 3) (Ite (getD os 0 0) (getD os 1 0) (getD os 2 0)) Opaque) Opaque os
-        (λ e. either (eqb (length os) 3) (Ite (getD os 0 0) (getD os 1 0) (getD os 2 0)) Opaque os
+        (λ e. either (eqb k 34) (cond (eqb (length os) 1) (Not (termAt (getD os 0 0))) Opaque) _ os
+        (λ e. either (eqb (length os) 1) (Not (termAt (getD os 0 0))) Opaque os (λ o. at 0 1 o (omega arith)) (λ e. tt))
+        (λ e. either (eqb k 35) (cond (eqb (length os) 2) (Implies (termAt (getD os 0 0)) (termAt (getD os 1 0))) Opaque) _ os
+        (λ e. either (eqb (length os) 2) (Implies (termAt (getD os 0 0)) (termAt (getD os 1 0))) Opaque os (λ o. (at 0 2 o (omega arith), at 1 2 o (omega arith))) (λ e. tt))
+        (λ e. either (eqb k 41) (cond (eqb (length os) 3) (Ite (termAt (getD os 0 0)) (termAt (getD os 1 0)) (termAt (getD os 2 0))) Opaque) Opaque os
+        (λ e. either (eqb (length os) 3) (Ite (termAt (getD os 0 0)) (termAt (getD os 1 0)) (termAt (getD os 2 0))) Opaque os
         (λ o. (at 0 3 o (omega arith), at 1 3 o (omega arith), at 2 3 o (omega arith))) (λ e. tt))
         (λ e. tt))))))
 
@@ -161,9 +162,9 @@ module _ (tags values : List ℕ) (t : ℕ) where
       (λ e f. opaque-seen (ltb 0 t) [])
       (λ e f. opaque-seen (ltb (getD (drop 1 cells) 0 0) t) (drop 1 cells))
       (λ e. from-two (λ cs. length cs % 2 ≡ 0 → Right 23 cs)
-      (λ s b cs o f. either (ltb b t) (Quantifier true b) Opaque (b ∷ cs) (λ z. (term-cell tags t b (f .1 .0), (omega arith, f .1 .1))) (λ z. tt)) cells (even-rest _ e .0) (even-rest _ e .1))
+      (λ s b cs o f. either (ltb b t) (Quantifier true (termAt b)) Opaque (b ∷ cs) (λ z. (term-cell tags t b (f .1 .0), (omega arith, f .1 .1))) (λ z. tt)) cells (even-rest _ e .0) (even-rest _ e .1))
       (λ e. from-two (λ cs. length cs % 2 ≡ 0 → Right 24 cs)
-      (λ s b cs o f. either (ltb b t) (Quantifier false b) Opaque (b ∷ cs) (λ z. (term-cell tags t b (f .1 .0), (omega arith, f .1 .1))) (λ z. tt)) cells (even-rest _ e .0) (even-rest _ e .1))
+      (λ s b cs o f. either (ltb b t) (Quantifier false (termAt b)) Opaque (b ∷ cs) (λ z. (term-cell tags t b (f .1 .0), (omega arith, f .1 .1))) (λ z. tt)) cells (even-rest _ e .0) (even-rest _ e .1))
       (λ e f. opaque-seen (ltb (getD (drop 1 cells) 0 0) t) (drop 1 cells))
       (λ e f. opaque-seen (ltb (getD (drop 1 cells) 0 0) t) (drop 1 cells))
       (λ e f. opaque-seen (ltb (getD (drop 1 cells) 0 0) t) (drop 1 cells))
@@ -179,12 +180,12 @@ module _ (tags values : List ℕ) (t : ℕ) where
     by-view : (v : View) (os : List ℕ) → Seen v os → FitsF tags n (formBy v t os rec)
     unfolding formBy
     by-view Opaque os a = here
-    by-view (Not u) os a = fits u a
-    by-view (Many b) os a = forms-fit os a
-    by-view (Implies u v) os a = (fits u (a .0), fits v (a .1))
-    by-view (Ite u v w) os a = (fits u (a .0), fits v (a .1), fits w (a .2))
-    by-view (Iff u v) os a = (fits u (a .0), fits v (a .1))
-    by-view (Quantifier b body) os a = let h = here .0 in ((a .1 .0, each-more tags t n (omega arith) Binder 2 (drop 1 os) (a .1 .1)), fits body (a .0))
+    by-view (Not u) os a = fits (u .0) a
+    by-view (AndOr b) os a = forms-fit os a
+    by-view (Implies u v) os a = (fits (u .0) (a .0), fits (v .0) (a .1))
+    by-view (Ite u v w) os a = (fits (u .0) (a .0), fits (v .0) (a .1), fits (w .0) (a .2))
+    by-view (Iff u v) os a = (fits (u .0) (a .0), fits (v .0) (a .1))
+    by-view (Quantifier b body) os a = let h = here .0 in ((a .1 .0, each-more tags t n (omega arith) Binder 2 (drop 1 os) (a .1 .1)), fits (body .0) (a .0))
 
 module _ (tags values : List ℕ) (n : ℕ) (whole : n ≤ length values) (formed : firstBad tags values n ≡ Nothing) where
   view-seen : (t : ℕ) → IsTerm tags n t → Seen tags values t (viewOf tags values t) (operandsOf tags values t)

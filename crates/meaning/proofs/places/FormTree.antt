@@ -13,6 +13,7 @@ use lib.Dec.{ltb, eqb}
 use native.Mathlib.Omega.{arith}
 use borrow.Author.Tests.{lt-ltb, le-ltb, eqb-true, eq-eqb, ne-eqb, leb-true, not-false}
 use Rattle.cells.specs.ByPlace.{byPlace-is}
+use Rattle.cells.specs.Place.{termAt}
 use Rattle.cells.specs.Cell.{cellsOf, sortOf, operandsOf}
 use Rattle.cells.specs.Headers.{firstHeader}
 use Rattle.cells.specs.declared.Found.the-variants.{Nothing}
@@ -33,7 +34,7 @@ use Rattle.meaning.proofs.trees.Stated.{sort-place, stated-is}
 use Rattle.meaning.proofs.trees.Forms.{tag-of}
 use Rattle.meaning.proofs.trees.Passed.{Passed, one-sort}
 use Rattle.formulas.specs.declared.view.View.{View}
-use Rattle.formulas.specs.declared.view.View.the-variants.{Opaque, Not, Many, Implies, Ite, Iff, Quantifier}
+use Rattle.formulas.specs.declared.view.View.the-variants.{Opaque, Not, AndOr, Implies, Ite, Iff, Quantifier}
 use Rattle.formulas.specs.Formula.{Form, opaque, neg, many, imp, ite, iff, all, fcons, allBefore, equality, connective, quantifier, viewOf, formsOf, formBy, form}
 use Rattle.formulas.specs.Mapped.{mapF, mapFs}
 use Rattle.meaning.specs.Skeleton.{notOf, impliesOf, iteOf, iffOf, formOf, leftBool, skeleton, skeletons}
@@ -101,14 +102,14 @@ module _ (tags values : List ℕ) (n : ℕ) (whole : n ≤ length values) (forme
       itself os = ap opaque is
 
       not-reads : (os : List ℕ) → AllTerms tags t os
-          → Reads os (cond (eqb (length os) 1) (Not (getD os 0 0)) Opaque) (notOf x (skeletons (termsOf (tree tags values) os)))
+          → Reads os (cond (eqb (length os) 1) (Not (termAt (getD os 0 0))) Opaque) (notOf x (skeletons (termsOf (tree tags values) os)))
       unfolding formBy notOf skeleton termsOf
       not-reads [] a = ap opaque is
       not-reads (u ∷ []) a = ap neg (right-at u (a .0))
       not-reads (u ∷ (v ∷ os)) a = rw (ne-eqb (length (u ∷ (v ∷ os))) 1 (λ z. omega arith)) (ap opaque is)
 
       implies-reads : (os : List ℕ) → AllTerms tags t os
-          → Reads os (cond (eqb (length os) 2) (Implies (getD os 0 0) (getD os 1 0)) Opaque) (impliesOf x (skeletons (termsOf (tree tags values) os)))
+          → Reads os (cond (eqb (length os) 2) (Implies (termAt (getD os 0 0)) (termAt (getD os 1 0))) Opaque) (impliesOf x (skeletons (termsOf (tree tags values) os)))
       unfolding formBy impliesOf skeleton termsOf
       implies-reads [] a = ap opaque is
       implies-reads (u ∷ []) a = ap opaque is
@@ -116,7 +117,7 @@ module _ (tags values : List ℕ) (n : ℕ) (whole : n ≤ length values) (forme
       implies-reads (u ∷ (v ∷ (w ∷ os))) a = rw (ne-eqb (length (u ∷ (v ∷ (w ∷ os)))) 2 (λ z. omega arith)) (ap opaque is)
 
       ite-reads : (os : List ℕ) → AllTerms tags t os
-          → Reads os (cond (eqb (length os) 3) (Ite (getD os 0 0) (getD os 1 0) (getD os 2 0)) Opaque) (iteOf x (skeletons (termsOf (tree tags values) os)))
+          → Reads os (cond (eqb (length os) 3) (Ite (termAt (getD os 0 0)) (termAt (getD os 1 0)) (termAt (getD os 2 0))) Opaque) (iteOf x (skeletons (termsOf (tree tags values) os)))
       unfolding formBy iteOf skeleton termsOf
       ite-reads [] a = ap opaque is
       ite-reads (u ∷ []) a = ap opaque is
@@ -135,7 +136,7 @@ module _ (tags values : List ℕ) (n : ℕ) (whole : n ≤ length values) (forme
       equality-reads (u ∷ []) a = ap opaque is ∙ opaque-both (leftBool (termsOf (tree tags values) (u ∷ [])))
       equality-reads (u ∷ (v ∷ [])) a =
           rw (← left-is u (omega arith) (a .0 .1))
-          (either (u ∷ (v ∷ [])) (eqb (sortOf values u) 0) (Iff u v) Opaque _ _ (ap₂ iff (right-at u (a .0)) (right-at v (a .1 .0))) (ap opaque is))
+          (either (u ∷ (v ∷ [])) (eqb (sortOf values u) 0) (Iff (termAt u) (termAt v)) Opaque _ _ (ap₂ iff (right-at u (a .0)) (right-at v (a .1 .0))) (ap opaque is))
       equality-reads (u ∷ (v ∷ (w ∷ os))) a =
           rw (ne-eqb (length (u ∷ (v ∷ (w ∷ os)))) 2 (λ z. omega arith)) (ap opaque is ∙ opaque-both (leftBool (termsOf (tree tags values) (u ∷ (v ∷ (w ∷ os))))))
 
@@ -143,8 +144,8 @@ module _ (tags values : List ℕ) (n : ℕ) (whole : n ≤ length values) (forme
           → Reads os (connective values k os) (formOf x k (leftBool (termsOf (tree tags values) os)) (skeletons (termsOf (tree tags values) os)))
       unfolding connective formOf formBy
       connective-reads k os a =
-          either os (eqb k 36) (Many true) _ _ _ (ap (many true) (forms-are os a))
-          (either os (eqb k 37) (Many false) _ _ _ (ap (many false) (forms-are os a))
+          either os (eqb k 36) (AndOr true) _ _ _ (ap (many true) (forms-are os a))
+          (either os (eqb k 37) (AndOr false) _ _ _ (ap (many false) (forms-are os a))
           (either os (eqb k 39) (equality values os) _ _ _ (equality-reads os a)
           (either os (eqb k 34) _ _ _ _ (not-reads os a)
           (either os (eqb k 35) _ _ _ _ (implies-reads os a)
@@ -181,7 +182,7 @@ module _ (tags values : List ℕ) (n : ℕ) (whole : n ≤ length values) (forme
         rw (le-ltb k 22 (omega arith), le-ltb k 32 l, all-before tags t os a, made-is) (connective-reads _ (is ∙ made-is) k os a))
         cells (leb-true 1 (length cells) (rw (shape-op k l m) at c)) is (rw (shape-op k l m) at f)
 
-    quantifier-reads : (b : Bool) (k s body : ℕ) (cs : List ℕ) → IsTerm tags t body → (ltb k 22 ≡ false) → (ltb k 32 ≡ true) → quantifier k body ≡ Quantifier b body
+    quantifier-reads : (b : Bool) (k s body : ℕ) (cs : List ℕ) → IsTerm tags t body → (ltb k 22 ≡ false) → (ltb k 32 ≡ true) → quantifier k body ≡ Quantifier b (termAt body)
         → Reads (body ∷ cs) (view k (s ∷ (body ∷ cs))) (all b (varsAt tags values cs) (skeleton (tree tags values body)))
     unfolding formBy
     quantifier-reads b k s body cs a e₁ e₂ e₃ = rw (e₁, e₂, lt-ltb body t (a .0), e₃) (ap (all b (varsAt tags values cs)) (right-at body a))

@@ -9,6 +9,7 @@ use lib.Seq.{length-take-le}
 use lib.Dec.{leb, eqb}
 use native.Mathlib.Omega.{arith}
 use borrow.Author.Tests.{le-leb, lt-leb, eq-eqb, ne-eqb, eqb-true, eqb-false}
+use Rattle.cells.specs.declared.TermPlace.{TermPlace}
 use Rattle.cells.specs.ByPlace.{by-test}
 use Rattle.descriptions.specs.Description.{zeroFrom, Cut}
 use Rattle.answers.specs.Answer.{badArrays}
@@ -85,7 +86,7 @@ module _ (tags values rules : List ℕ) (n t : ℕ) (a : Answer) (is : a ≡ che
             left = kept;
           })
 
-      pub clausal-made : (x m : ℕ) → b ≡ At x m → ClausalBuilt tags values rules n t (ClausalAt x m) tags₁ values₁
+      pub clausal-made : (x : TermPlace) (m : ℕ) → b ≡ At x m → ClausalBuilt tags values rules n t (ClausalAt x m) tags₁ values₁
       clausal-made x m e = record { passed = rw is at ok; built = rw e at built }
 
 pub ruleset clausals = (clausal-refused, clausal-full, clausal-made)
@@ -165,17 +166,17 @@ module _ (tags values rules : List ℕ) (n t : ℕ) (literals ends : List ℕ) w
           })
 
     -- ---- a form whose clauses are listed
-    module _ (x m : ℕ) (e : c ≡ ClausalAt x m) where
+    module _ (x : TermPlace) (m : ℕ) (e : c ≡ ClausalAt x m) where
       passes : Passes tags values rules n t x m tags₁ values₁
       passes = rw e at is
 
       state : State n n tags values
       state = checked-ready tags values rules n t (checkTerm tags values rules n t) refl (passes .passed) .0
 
-      clausal-holds : Holds n (clausal tags values rules n t) x m tags₁ values₁
+      clausal-holds : Holds n (clausal tags values rules n t) (x .0) m tags₁ values₁
       clausal-holds = passes .built .0
 
-      form-is : formAt (take m tags₁) (take m values₁) x ≡ clausalForm tags values rules n t
+      form-is : formAt (take m tags₁) (take m values₁) (x .0) ≡ clausalForm tags values rules n t
       form-is = ap₂ normalAt (clausal-holds .pool-is) (clausal-holds .place-is)
 
       pub list-within : m ≤ length tags₁
@@ -197,7 +198,7 @@ module _ (tags values rules : List ℕ) (n t : ℕ) (literals ends : List ℕ) w
       list-lent = record { small = omega (arith, list-part, list-small); literals = l; ends = k }
 
       module _ (a : Answer) (literals′ ends′ : List ℕ)
-          (listed : Answered (listAnswer (formAt (take m tags₁) (take m values₁) x)) (cnf (formAt (take m tags₁) (take m values₁) x))
+          (listed : Answered (listAnswer (formAt (take m tags₁) (take m values₁) (x .0))) (cnf (formAt (take m tags₁) (take m values₁) (x .0)))
           (length literals) (length ends) a literals′ ends′) where
         lists : Answered (listAnswer (clausalForm tags values rules n t)) (cnf (clausalForm tags values rules n t)) (length literals) (length ends) a literals′ ends′
         lists = rw form-is at listed
@@ -224,8 +225,8 @@ module _ (tags values rules : List ℕ) (n t : ℕ) (literals ends : List ℕ) w
               record {
                 answer = answered;
                 new-count = rw (ne-eqb _ _ h);
-                tags-are = cut .tags-are ∙ (zero-kept n tags tags₁ size (tags-kept n tags values state _ on x m tags₁ values₁ clausal-holds) ∙ left-refused a tags n _ not-30 h);
-                values-are = cut .values-are ∙ (zero-kept n values values₁ size₂ (values-kept n tags values state _ on x m tags₁ values₁ clausal-holds) ∙ left-refused a values n _ not-30 h);
+                tags-are = cut .tags-are ∙ (zero-kept n tags tags₁ size (tags-kept n tags values state _ on (x .0) m tags₁ values₁ clausal-holds) ∙ left-refused a tags n _ not-30 h);
+                values-are = cut .values-are ∙ (zero-kept n values values₁ size₂ (values-kept n tags values state _ on (x .0) m tags₁ values₁ clausal-holds) ∙ left-refused a values n _ not-30 h);
                 literals-are = literals-left;
                 ends-are = ends-left;
               }
@@ -235,9 +236,9 @@ module _ (tags values rules : List ℕ) (n t : ℕ) (literals ends : List ℕ) w
           unfolding countLeft
           list-made h cut = record {
             answer = answered;
-            new-count = rw (eq-eqb _ _ h) (holds-count n m x _ tags₁ values₁ clausal-holds);
-            tags-are = cut .tags-are ∙ (holds-tags n m x _ tags₁ values₁ clausal-holds (length tags) size ∙ left-accepted a tags n _ h);
-            values-are = cut .values-are ∙ (holds-values n m x _ tags₁ values₁ clausal-holds (length values) size₂ ∙ left-accepted a values n _ h);
+            new-count = rw (eq-eqb _ _ h) (holds-count n m (x .0) _ tags₁ values₁ clausal-holds);
+            tags-are = cut .tags-are ∙ (holds-tags n m (x .0) _ tags₁ values₁ clausal-holds (length tags) size ∙ left-accepted a tags n _ h);
+            values-are = cut .values-are ∙ (holds-values n m (x .0) _ tags₁ values₁ clausal-holds (length values) size₂ ∙ left-accepted a values n _ h);
             literals-are = literals-left;
             ends-are = ends-left;
           }

@@ -9,6 +9,7 @@ use lib.Seq.{length-take-le}
 use lib.Dec.{ltb}
 use native.Mathlib.Omega.{arith}
 use borrow.Author.Tests.{eq-eqb, ne-eqb, ltb-true}
+use Rattle.cells.specs.declared.TermPlace.{TermPlace}
 use Rattle.headers.specs.WellFormed.{isTermTag, isTerm}
 use Rattle.descriptions.specs.Description.{zeroFrom, Cut}
 use Rattle.answers.specs.Answer.{accepted}
@@ -63,7 +64,7 @@ module _ (n m p : ℕ) (o : Placed) (tags values : List ℕ) (h : Holds n o p m 
       rw (same, e, ← k)
 
 pub count-fits : (n : ℕ) (tags values : List ℕ) (o : Placed) (b : Built) (tags′ values′ : List ℕ) → NormalBuilt n tags values o b tags′ values′
-    → (p m : ℕ) → b ≡ At p m → m < 2 ^ 32
+    → (p : TermPlace) (m : ℕ) → b ≡ At p m → m < 2 ^ 32
 count-fits n tags values o b tags′ values′ built p m e = let (h, room) = rw e at built in omega (arith, h .state .small)
 
 -- what each code leaves
@@ -110,16 +111,16 @@ module _ (tags values rules : List ℕ) (n t : ℕ) (polarity : Bool) (a : Answe
           values-are = cut .values-are ∙ (zero-kept n values values₁ (kept .values-size) (kept .values-kept) ∙ left-refused noRoom values n _ (λ z. omega arith) (λ z. omega arith));
         })
 
-    pub normal-made : (p m : ℕ) → b ≡ At p m → length tags₁ ≡ length tags → length values₁ ≡ length values
-        → (tags′ values′ : List ℕ) → Cut m tags₁ values₁ tags′ values′ → (made : Answer) → made ≡ accepted p m
+    pub normal-made : (p : TermPlace) (m : ℕ) → b ≡ At p m → length tags₁ ≡ length tags → length values₁ ≡ length values
+        → (tags′ values′ : List ℕ) → Cut m tags₁ values₁ tags′ values′ → (made : Answer) → made ≡ accepted (p .0) m
         → NormalForm tags values rules n t polarity made tags′ values′
     unfolding normalAnswer andThen
     normal-made p m e tags-size values-size tags′ values′ cut made q =
         let (h, room) = rw e at built in
         rw q (record {
-          answer = rw (← is, eq-eqb _ _ ok, room, h .place-is, holds-count n m p _ tags₁ values₁ h);
-          tags-are = cut .tags-are ∙ (holds-tags n m p _ tags₁ values₁ h (length tags) tags-size ∙ left-accepted (accepted p m) tags n _ refl);
-          values-are = cut .values-are ∙ (holds-values n m p _ tags₁ values₁ h (length values) values-size ∙ left-accepted (accepted p m) values n _ refl);
+          answer = rw (← is, eq-eqb _ _ ok, room, h .place-is, holds-count n m (p .0) _ tags₁ values₁ h);
+          tags-are = cut .tags-are ∙ (holds-tags n m (p .0) _ tags₁ values₁ h (length tags) tags-size ∙ left-accepted (accepted (p .0) m) tags n _ refl);
+          values-are = cut .values-are ∙ (holds-values n m (p .0) _ tags₁ values₁ h (length values) values-size ∙ left-accepted (accepted (p .0) m) values n _ refl);
         })
 
 pub ruleset normals = (normal-arrays, normal-refused, normal-full, normal-made)

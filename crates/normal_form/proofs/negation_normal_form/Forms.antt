@@ -9,9 +9,11 @@ use lib.Dec.{ltb, eqb}
 use native.Mathlib.Omega.{arith}
 use borrow.Author.Tests.{ltb-true, lt-ltb, eqb-true}
 use Rattle.cells.specs.ByPlace.{byPlace-is}
+use Rattle.cells.specs.Place.{termAt}
+use Rattle.cells.specs.declared.TermPlace.{TermPlace}
 use Rattle.cells.specs.Cell.{sortOf, operandsOf}
 use Rattle.formulas.specs.declared.view.View.{View}
-use Rattle.formulas.specs.declared.view.View.the-variants.{Opaque, Not, Many, Implies, Ite, Iff, Quantifier}
+use Rattle.formulas.specs.declared.view.View.the-variants.{Opaque, Not, AndOr, Implies, Ite, Iff, Quantifier}
 use Rattle.formulas.specs.Formula.{Form, opaque, allBefore, equality, connective, quantifier, viewOf, formsOf, formBy, form}
 use Rattle.formulas.specs.Normal.{lit, nmany, nall, flip, pair, nnf, nnfs}
 use Rattle.formulas.specs.Built.{normalsOf}
@@ -35,12 +37,12 @@ all-at t (u ∷ us) e (suc i) h = all-at t us (rest (ltb u t) (allBefore t us) e
 -- the terms that are read stand before t
 abbrev Below : View → List ℕ → ℕ → Type 0
 Below Opaque os t = Unit {0}
-Below (Not a) os t = a < t
-Below (Many b) os t = (i : ℕ) → i < length os → getD os i 0 < t
-Below (Implies a b) os t = (a < t) × (b < t)
-Below (Ite a b c) os t = (a < t) × (b < t) × (c < t)
-Below (Iff a b) os t = (a < t) × (b < t)
-Below (Quantifier b body) os t = body < t
+Below (Not a) os t = a .0 < t
+Below (AndOr b) os t = (i : ℕ) → i < length os → getD os i 0 < t
+Below (Implies a b) os t = (a .0 < t) × (b .0 < t)
+Below (Ite a b c) os t = (a .0 < t) × (b .0 < t) × (c .0 < t)
+Below (Iff a b) os t = (a .0 < t) × (b .0 < t)
+Below (Quantifier b body) os t = body .0 < t
 
 -- by a test, either way
 either : (b : Bool) (v w : View) (os : List ℕ) (t : ℕ) → (b ≡ true → Below v os t) → (b ≡ false → Below w os t) → Below (cond b v w) os t
@@ -55,29 +57,29 @@ module _ (values : List ℕ) (tag t : ℕ) (os : List ℕ) (all : allBefore t os
   unfolding equality
   equality-below =
       either (eqb (length os) 2) _ Opaque os t
-      (λ e. either (eqb (sortOf values (getD os 0 0)) 0) (Iff (getD os 0 0) (getD os 1 0)) Opaque os t
+      (λ e. either (eqb (sortOf values (getD os 0 0)) 0) (Iff (termAt (getD os 0 0)) (termAt (getD os 1 0))) Opaque os t
       (λ s. (at 0 2 e (omega arith), at 1 2 e (omega arith))) (λ s. tt))
       (λ e. tt)
 
   connective-below : Below (connective values tag os) os t
   unfolding connective
   connective-below =
-      either (eqb tag 36) (Many true) _ os t (λ e. all-at t os all)
-      (λ e. either (eqb tag 37) (Many false) _ os t (λ e. all-at t os all)
+      either (eqb tag 36) (AndOr true) _ os t (λ e. all-at t os all)
+      (λ e. either (eqb tag 37) (AndOr false) _ os t (λ e. all-at t os all)
       (λ e. either (eqb tag 39) (equality values os) _ os t (λ e. equality-below)
-      (λ e. either (eqb tag 34) (cond (eqb (length os) 1) (Not (getD os 0 0)) Opaque) _ os t
-      (λ e. either (eqb (length os) 1) (Not (getD os 0 0)) Opaque os t (λ k. at 0 1 k (omega arith)) (λ k. tt))
-      (λ e. either (eqb tag 35) (cond (eqb (length os) 2) (Implies (getD os 0 0) (getD os 1 0)) Opaque) _ os t
-      (λ e. either (eqb (length os) 2) (Implies (getD os 0 0) (getD os 1 0)) Opaque os t (λ k. (at 0 2 k (omega arith), at 1 2 k (omega arith))) (λ k. tt))
-      (λ e. either (eqb tag 41) (cond (eqb (length os) 3) (Ite (getD os 0 0) (getD os 1 0) (getD os 2 0)) Opaque) Opaque os t
-      (λ e. either (eqb (length os) 3) (Ite (getD os 0 0) (getD os 1 0) (getD os 2 0)) Opaque os t
+      (λ e. either (eqb tag 34) (cond (eqb (length os) 1) (Not (termAt (getD os 0 0))) Opaque) _ os t
+      (λ e. either (eqb (length os) 1) (Not (termAt (getD os 0 0))) Opaque os t (λ k. at 0 1 k (omega arith)) (λ k. tt))
+      (λ e. either (eqb tag 35) (cond (eqb (length os) 2) (Implies (termAt (getD os 0 0)) (termAt (getD os 1 0))) Opaque) _ os t
+      (λ e. either (eqb (length os) 2) (Implies (termAt (getD os 0 0)) (termAt (getD os 1 0))) Opaque os t (λ k. (at 0 2 k (omega arith), at 1 2 k (omega arith))) (λ k. tt))
+      (λ e. either (eqb tag 41) (cond (eqb (length os) 3) (Ite (termAt (getD os 0 0)) (termAt (getD os 1 0)) (termAt (getD os 2 0))) Opaque) Opaque os t
+      (λ e. either (eqb (length os) 3) (Ite (termAt (getD os 0 0)) (termAt (getD os 1 0)) (termAt (getD os 2 0))) Opaque os t
       (λ k. (at 0 3 k (omega arith), at 1 3 k (omega arith), at 2 3 k (omega arith))) (λ k. tt))
       (λ e. tt))))))
 
 quantifier-below : (tag body t : ℕ) (os : List ℕ) → body < t → Below (quantifier tag body) os t
 unfolding quantifier
 quantifier-below tag body t os h =
-    either (eqb tag 23) (Quantifier true body) _ os t (λ e. h) (λ e. either (eqb tag 24) (Quantifier false body) Opaque os t (λ e. h) (λ e. tt))
+    either (eqb tag 23) (Quantifier true (termAt body)) _ os t (λ e. h) (λ e. either (eqb tag 24) (Quantifier false (termAt body)) Opaque os t (λ e. h) (λ e. tt))
 
 module _ (tags values : List ℕ) (t : ℕ) where
   abbrev run : List ℕ
@@ -95,22 +97,22 @@ module _ (tags values : List ℕ) (t : ℕ) where
     seen : (w : View) → v ≡ w → Below w run t
     seen w e = rw (← e, is) view-below
 
-    pub not-below : (a : ℕ) → v ≡ Not a → a < t
+    pub not-below : (a : TermPlace) → v ≡ Not a → a .0 < t
     not-below a e = seen (Not a) e
 
-    pub many-below : (b : Bool) → v ≡ Many b → (i : ℕ) → i < length (operandsOf tags values t) → getD (operandsOf tags values t) i 0 < t
-    many-below b e = seen (Many b) e
+    pub many-below : (b : Bool) → v ≡ AndOr b → (i : ℕ) → i < length (operandsOf tags values t) → getD (operandsOf tags values t) i 0 < t
+    many-below b e = seen (AndOr b) e
 
-    pub implies-below : (a b : ℕ) → v ≡ Implies a b → (a < t) × (b < t)
+    pub implies-below : (a b : TermPlace) → v ≡ Implies a b → (a .0 < t) × (b .0 < t)
     implies-below a b e = seen (Implies a b) e
 
-    pub ite-below : (a b c : ℕ) → v ≡ Ite a b c → (a < t) × (b < t) × (c < t)
+    pub ite-below : (a b c : TermPlace) → v ≡ Ite a b c → (a .0 < t) × (b .0 < t) × (c .0 < t)
     ite-below a b c e = seen (Ite a b c) e
 
-    pub iff-below : (a b : ℕ) → v ≡ Iff a b → (a < t) × (b < t)
+    pub iff-below : (a b : TermPlace) → v ≡ Iff a b → (a .0 < t) × (b .0 < t)
     iff-below a b e = seen (Iff a b) e
 
-    pub quantifier-body : (b : Bool) (body : ℕ) → v ≡ Quantifier b body → body < t
+    pub quantifier-body : (b : Bool) (body : TermPlace) → v ≡ Quantifier b body → body .0 < t
     quantifier-body b body e = seen (Quantifier b body) e
 
     -- ---- the form, by how the term is read
@@ -137,37 +139,37 @@ module _ (tags values : List ℕ) (t : ℕ) where
       unfolding formBy
       normal-opaque e = rw (form-is Opaque e)
 
-      pub normal-not : (a : ℕ) → v ≡ Not a → nnf (form tags values t) p ≡ nnf (form tags values a) (not p)
+      pub normal-not : (a : TermPlace) → v ≡ Not a → nnf (form tags values t) p ≡ nnf (form tags values (a .0)) (not p)
       unfolding formBy
-      normal-not a e = rw (form-is (Not a) e, rec-is a (not-below a e))
+      normal-not a e = rw (form-is (Not a) e, rec-is (a .0) (not-below a e))
 
-      pub normal-many : (b : Bool) → v ≡ Many b
+      pub normal-many : (b : Bool) → v ≡ AndOr b
           → nnf (form tags values t) p ≡ nmany (flip b p) (normalsOf (λ u. nnf (form tags values u) p) (operandsOf tags values t))
       unfolding formBy
-      normal-many b e = rw (form-is (Many b) e, forms-are run (many-below b e) p)
+      normal-many b e = rw (form-is (AndOr b) e, forms-are run (many-below b e) p)
 
-      pub normal-implies : (a b : ℕ) → v ≡ Implies a b
-          → nnf (form tags values t) p ≡ pair (not p) (nnf (form tags values a) (not p)) (nnf (form tags values b) p)
+      pub normal-implies : (a b : TermPlace) → v ≡ Implies a b
+          → nnf (form tags values t) p ≡ pair (not p) (nnf (form tags values (a .0)) (not p)) (nnf (form tags values (b .0)) p)
       unfolding formBy
       normal-implies a b e =
           let (h, l) = implies-below a b e in
-          rw (form-is (Implies a b) e, rec-is a h, rec-is b l)
+          rw (form-is (Implies a b) e, rec-is (a .0) h, rec-is (b .0) l)
 
-      pub normal-ite : (a b c : ℕ) → v ≡ Ite a b c
-          → nnf (form tags values t) p ≡ twoPairs p (λ u q. nnf (form tags values u) q) a b a p c
+      pub normal-ite : (a b c : TermPlace) → v ≡ Ite a b c
+          → nnf (form tags values t) p ≡ twoPairs p (λ u q. nnf (form tags values u) q) (a .0) (b .0) (a .0) p (c .0)
       unfolding formBy
       normal-ite a b c e =
           let (h, l, k) = ite-below a b c e in
-          rw (form-is (Ite a b c) e, rec-is a h, rec-is b l, rec-is c k)
+          rw (form-is (Ite a b c) e, rec-is (a .0) h, rec-is (b .0) l, rec-is (c .0) k)
 
-      pub normal-iff : (a b : ℕ) → v ≡ Iff a b
-          → nnf (form tags values t) p ≡ twoPairs p (λ u q. nnf (form tags values u) q) a b b (not p) a
+      pub normal-iff : (a b : TermPlace) → v ≡ Iff a b
+          → nnf (form tags values t) p ≡ twoPairs p (λ u q. nnf (form tags values u) q) (a .0) (b .0) (b .0) (not p) (a .0)
       unfolding formBy
       normal-iff a b e =
           let (h, l) = iff-below a b e in
-          rw (form-is (Iff a b) e, rec-is a h, rec-is b l)
+          rw (form-is (Iff a b) e, rec-is (a .0) h, rec-is (b .0) l)
 
-      pub normal-quantifier : (b : Bool) (body : ℕ) → v ≡ Quantifier b body
-          → nnf (form tags values t) p ≡ nall (flip b p) (drop 1 (operandsOf tags values t)) (nnf (form tags values body) p)
+      pub normal-quantifier : (b : Bool) (body : TermPlace) → v ≡ Quantifier b body
+          → nnf (form tags values t) p ≡ nall (flip b p) (drop 1 (operandsOf tags values t)) (nnf (form tags values (body .0)) p)
       unfolding formBy
-      normal-quantifier b body e = rw (form-is (Quantifier b body) e, rec-is body (quantifier-body b body e))
+      normal-quantifier b body e = rw (form-is (Quantifier b body) e, rec-is (body .0) (quantifier-body b body e))

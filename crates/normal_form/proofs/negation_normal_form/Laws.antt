@@ -8,14 +8,15 @@ use lib.ListN.{take, drop}
 use lib.Dec.{ltb}
 use native.Mathlib.Omega.{arith}
 use borrow.Author.Tests.{ltb-true, ltb-false}
+use Rattle.cells.specs.declared.TermPlace.{TermPlace}
 use Rattle.cells.specs.ByPlace.{by-test}
 use Rattle.formulas.specs.declared.view.View.{View}
-use Rattle.formulas.specs.declared.view.View.the-variants.{Opaque, Not, Many, Implies, Ite, Iff, Quantifier}
+use Rattle.formulas.specs.declared.view.View.the-variants.{Opaque, Not, AndOr, Implies, Ite, Iff, Quantifier}
 use Rattle.building.specs.declared.build.Built.{Built}
 use Rattle.building.specs.declared.build.Built.the-variants.{At, Full}
-use Rattle.formulas.specs.Formula.{viewOf}
+use Rattle.formulas.specs.Formula.{viewOf, connectiveTag, quantifierTag}
 use Rattle.formulas.specs.Normal.{lit, nmany, nall, flip, pair}
-use Rattle.formulas.specs.Built.{Placed, put, tagOfMany, tagOfQuantifier, intern}
+use Rattle.formulas.specs.Built.{Placed, put, intern}
 use Rattle.building.specs.Arrays.{poolOf}
 use Rattle.building.specs.Walk.{Puts, placesIn, normal, formOf, normalOf, runOf, entryForm, Ready, Formed, Known, operandForms, OperandsKnown, Before, twoPairs}
 use Rattle.building.proofs.Interning.{becomes-longer, put-becomes, intern-goes-on}
@@ -35,30 +36,30 @@ module _ (lim n : ℕ) (tags values memo : List ℕ) (ready : Ready normal lim n
       (builds-put (entryForm normal lim tags values) lim n tags values memo (ready .state) (ready .right) (intern (lit polarity t) (poolOf tags values n))
       (intern-goes-on (lit polarity t) (poolOf tags values n) (pool-good lim n tags values (ready .state))) r tags₁ values₁ y)
 
-  pub expand-not : (a : ℕ) → v ≡ Not a → (r : Built) (tags₁ values₁ memo₁ : List ℕ) → Known normal lim n tags values memo a (not polarity) r tags₁ values₁ memo₁
+  pub expand-not : (a : TermPlace) → v ≡ Not a → (r : Built) (tags₁ values₁ memo₁ : List ℕ) → Known normal lim n tags values memo (a .0) (not polarity) r tags₁ values₁ memo₁
       → Formed normal lim n tags values memo (normalOf lim tags values t polarity) r tags₁ values₁ memo₁
   unfolding formOf
   expand-not a e r tags₁ values₁ memo₁ j = rw (normal-not (take lim tags) (take lim values) t v is polarity a e) (j .formed)
 
-  pub expand-implies : (a b : ℕ) → v ≡ Implies a b → (r : Built) (tags₁ values₁ memo₁ : List ℕ)
-      → Formed normal lim n tags values memo (pair (not polarity) (normalOf lim tags values a (not polarity)) (normalOf lim tags values b polarity)) r tags₁ values₁ memo₁
+  pub expand-implies : (a b : TermPlace) → v ≡ Implies a b → (r : Built) (tags₁ values₁ memo₁ : List ℕ)
+      → Formed normal lim n tags values memo (pair (not polarity) (normalOf lim tags values (a .0) (not polarity)) (normalOf lim tags values (b .0) polarity)) r tags₁ values₁ memo₁
       → Formed normal lim n tags values memo (normalOf lim tags values t polarity) r tags₁ values₁ memo₁
   unfolding formOf
   expand-implies a b e r tags₁ values₁ memo₁ j = rw (normal-implies (take lim tags) (take lim values) t v is polarity a b e) j
 
-  pub expand-ite : (a b c : ℕ) → v ≡ Ite a b c → (r : Built) (tags₁ values₁ memo₁ : List ℕ)
-      → Formed normal lim n tags values memo (twoPairs polarity (λ u q. normalOf lim tags values u q) a b a polarity c) r tags₁ values₁ memo₁
+  pub expand-ite : (a b c : TermPlace) → v ≡ Ite a b c → (r : Built) (tags₁ values₁ memo₁ : List ℕ)
+      → Formed normal lim n tags values memo (twoPairs polarity (λ u q. normalOf lim tags values u q) (a .0) (b .0) (a .0) polarity (c .0)) r tags₁ values₁ memo₁
       → Formed normal lim n tags values memo (normalOf lim tags values t polarity) r tags₁ values₁ memo₁
   unfolding formOf
   expand-ite a b c e r tags₁ values₁ memo₁ j = rw (normal-ite (take lim tags) (take lim values) t v is polarity a b c e) j
 
-  pub expand-iff : (a b : ℕ) → v ≡ Iff a b → (r : Built) (tags₁ values₁ memo₁ : List ℕ)
-      → Formed normal lim n tags values memo (twoPairs polarity (λ u q. normalOf lim tags values u q) a b b (not polarity) a) r tags₁ values₁ memo₁
+  pub expand-iff : (a b : TermPlace) → v ≡ Iff a b → (r : Built) (tags₁ values₁ memo₁ : List ℕ)
+      → Formed normal lim n tags values memo (twoPairs polarity (λ u q. normalOf lim tags values u q) (a .0) (b .0) (b .0) (not polarity) (a .0)) r tags₁ values₁ memo₁
       → Formed normal lim n tags values memo (normalOf lim tags values t polarity) r tags₁ values₁ memo₁
   unfolding formOf
   expand-iff a b e r tags₁ values₁ memo₁ j = rw (normal-iff (take lim tags) (take lim values) t v is polarity a b e) j
 
-  module _ (b : Bool) (e : v ≡ Many b) (r₁ : Built) (tags₁ values₁ memo₁ : List ℕ) (j : OperandsKnown normal lim n tags values memo t polarity 0 r₁ tags₁ values₁ memo₁) where
+  module _ (b : Bool) (e : v ≡ AndOr b) (r₁ : Built) (tags₁ values₁ memo₁ : List ℕ) (j : OperandsKnown normal lim n tags values memo t polarity 0 r₁ tags₁ values₁ memo₁) where
     many-is : normalOf lim tags values t polarity ≡ nmany (flip b polarity) (operandForms normal lim tags values t polarity 0)
     unfolding formOf
     many-is = normal-many (take lim tags) (take lim values) t v is polarity b e
@@ -66,16 +67,16 @@ module _ (lim n : ℕ) (tags values memo : List ℕ) (ready : Ready normal lim n
     pub expand-many-full : r₁ ≡ Full → Formed normal lim n tags values memo (normalOf lim tags values t polarity) Full tags₁ values₁ memo₁
     expand-many-full = connective-full normal lim n tags values memo t polarity (flip b polarity) many-is r₁ tags₁ values₁ memo₁ j
 
-    pub expand-many : (p m : ℕ) → r₁ ≡ At p m → (r₂ : Built) (tags₂ values₂ : List ℕ)
-        → Puts m tags₁ values₁ (put (poolOf tags₁ values₁ m) (tagOfMany (flip b polarity)) (0 ∷ placesIn memo₁ polarity (runOf lim tags₁ values₁ t))) r₂ tags₂ values₂
+    pub expand-many : (p : TermPlace) (m : ℕ) → r₁ ≡ At p m → (r₂ : Built) (tags₂ values₂ : List ℕ)
+        → Puts m tags₁ values₁ (put (poolOf tags₁ values₁ m) (connectiveTag (flip b polarity)) (0 ∷ placesIn memo₁ polarity (runOf lim tags₁ values₁ t))) r₂ tags₂ values₂
         → Formed normal lim n tags values memo (normalOf lim tags values t polarity) r₂ tags₂ values₂ memo₁
     expand-many = connective-put normal lim n tags values memo t polarity (flip b polarity) many-is r₁ tags₁ values₁ memo₁ j
 
-  module _ (b : Bool) (body : ℕ) (e : v ≡ Quantifier b body) (r₁ : Built) (tags₁ values₁ memo₁ : List ℕ) (j : Known normal lim n tags values memo body polarity r₁ tags₁ values₁ memo₁) where
+  module _ (b : Bool) (body : TermPlace) (e : v ≡ Quantifier b body) (r₁ : Built) (tags₁ values₁ memo₁ : List ℕ) (j : Known normal lim n tags values memo (body .0) polarity r₁ tags₁ values₁ memo₁) where
     abbrev inner : Placed
-    inner = intern (normalOf lim tags values body polarity) (poolOf tags values n)
+    inner = intern (normalOf lim tags values (body .0) polarity) (poolOf tags values n)
 
-    quantifier-is : normalOf lim tags values t polarity ≡ nall (flip b polarity) (drop 1 (runOf lim tags values t)) (normalOf lim tags values body polarity)
+    quantifier-is : normalOf lim tags values t polarity ≡ nall (flip b polarity) (drop 1 (runOf lim tags values t)) (normalOf lim tags values (body .0) polarity)
     unfolding formOf
     quantifier-is = normal-quantifier (take lim tags) (take lim values) t v is polarity b body e
 
@@ -84,19 +85,19 @@ module _ (lim n : ℕ) (tags values memo : List ℕ) (ready : Ready normal lim n
     expand-quantifier-full f =
         rw quantifier-is
         (builds-full (entryForm normal lim tags values) lim tags values memo inner r₁ tags₁ values₁ memo₁ (j .formed) f _
-        (becomes-longer _ _ (put-becomes (inner .pool) (tagOfQuantifier (flip b polarity)) (0 ∷ inner .place ∷ drop 1 (runOf lim tags values t)))))
+        (becomes-longer _ _ (put-becomes (inner .pool) (quantifierTag (flip b polarity)) (0 ∷ inner .place ∷ drop 1 (runOf lim tags values t)))))
 
-    pub expand-quantifier : (p m : ℕ) → r₁ ≡ At p m → (r₂ : Built) (tags₂ values₂ : List ℕ)
-        → Puts m tags₁ values₁ (put (poolOf tags₁ values₁ m) (tagOfQuantifier (flip b polarity)) (0 ∷ p ∷ drop 1 (runOf lim tags₁ values₁ t))) r₂ tags₂ values₂
+    pub expand-quantifier : (p : TermPlace) (m : ℕ) → r₁ ≡ At p m → (r₂ : Built) (tags₂ values₂ : List ℕ)
+        → Puts m tags₁ values₁ (put (poolOf tags₁ values₁ m) (quantifierTag (flip b polarity)) (0 ∷ p .0 ∷ drop 1 (runOf lim tags₁ values₁ t))) r₂ tags₂ values₂
         → Formed normal lim n tags values memo (normalOf lim tags values t polarity) r₂ tags₂ values₂ memo₁
     unfolding intern
     expand-quantifier p m f r₂ tags₂ values₂ y =
         let h = builds-holds (entryForm normal lim tags values) lim tags values memo inner r₁ tags₁ values₁ memo₁ (j .formed) p m f in
         rw (quantifier-is, ← h .place-is, ← run-same lim tags values tags₁ values₁ (j .formed .puts .left) t)
-        (then-put normal lim tags values memo inner r₁ tags₁ values₁ memo₁ (j .formed) p m f (tagOfQuantifier (flip b polarity)) _ r₂ tags₂ values₂ y)
+        (then-put normal lim tags values memo inner r₁ tags₁ values₁ memo₁ (j .formed) p m f (quantifierTag (flip b polarity)) _ r₂ tags₂ values₂ y)
 
   -- what the calls ask of the operands
-  pub many-before : (b : Bool) → v ≡ Many b → Before lim tags values t
+  pub many-before : (b : Bool) → v ≡ AndOr b → Before lim tags values t
   many-before b e = record { operand = many-below (take lim tags) (take lim values) t v is b e }
 
 pub ruleset expands = (expand-opaque, expand-not, expand-implies, expand-ite, expand-iff)

@@ -5,10 +5,12 @@ use mathlib.Core.Path.{_≡_}
 use mathlib.Core.Bool.{Bool, not}
 use mathlib.Core.List.{List, [], _∷_}
 use native.Mathlib.Omega.{arith}
+use Rattle.cells.specs.declared.TermPlace.{TermPlace}
 use Rattle.building.specs.declared.build.Built.{Built}
 use Rattle.building.specs.declared.build.Built.the-variants.{At, Full}
 use Rattle.formulas.specs.Normal.{Normal, pair}
-use Rattle.formulas.specs.Built.{Placed, count, put, tagOfMany, intern, interns}
+use Rattle.formulas.specs.Built.{Placed, count, put, intern, interns}
+use Rattle.formulas.specs.Formula.{connectiveTag}
 use Rattle.building.specs.Arrays.{poolOf}
 use Rattle.building.specs.Walk.{Holds, Puts, Builds, normal, normalOf, entryForm, Formed, Known, twoPairs}
 use Rattle.building.proofs.Interning.{becomes-longer, intern-becomes, put-becomes}
@@ -26,15 +28,15 @@ module _ (lim n : ℕ) (tags values memo : List ℕ) (f : Normal (List ℕ) ℕ)
 
   put-last : count (o₂ .pool) ≤ count (intern (pair both f g) (poolOf tags values n) .pool)
   unfolding intern interns
-  put-last = becomes-longer _ _ (put-becomes (o₂ .pool) (tagOfMany both) (0 ∷ o₁ .place ∷ o₂ .place ∷ []))
+  put-last = becomes-longer _ _ (put-becomes (o₂ .pool) (connectiveTag both) (0 ∷ o₁ .place ∷ o₂ .place ∷ []))
 
   left-full : r₁ ≡ Full → Formed normal lim n tags values memo (pair both f g) Full tags₁ values₁ memo₁
   left-full e =
       builds-full (entryForm normal lim tags values) lim tags values memo o₁ r₁ tags₁ values₁ memo₁ b₁ e (intern (pair both f g) (poolOf tags values n))
       (omega (arith, put-last, becomes-longer _ _ (intern-becomes g (o₁ .pool))))
 
-  module _ (p m : ℕ) (e₁ : r₁ ≡ At p m) (r₂ : Built) (tags₂ values₂ memo₂ : List ℕ) (b₂ : Formed normal lim m tags₁ values₁ memo₁ g r₂ tags₂ values₂ memo₂) where
-    h₁ : Holds lim o₁ p m tags₁ values₁
+  module _ (p : TermPlace) (m : ℕ) (e₁ : r₁ ≡ At p m) (r₂ : Built) (tags₂ values₂ memo₂ : List ℕ) (b₂ : Formed normal lim m tags₁ values₁ memo₁ g r₂ tags₂ values₂ memo₂) where
+    h₁ : Holds lim o₁ (p .0) m tags₁ values₁
     h₁ = builds-holds (entryForm normal lim tags values) lim tags values memo o₁ r₁ tags₁ values₁ memo₁ b₁ p m e₁
 
     second : Builds (entryForm normal lim tags values) lim tags values memo o₂ r₂ tags₂ values₂ memo₂
@@ -45,14 +47,14 @@ module _ (lim n : ℕ) (tags values memo : List ℕ) (f : Normal (List ℕ) ℕ)
     right-full e =
         builds-full (entryForm normal lim tags values) lim tags values memo o₂ r₂ tags₂ values₂ memo₂ second e (intern (pair both f g) (poolOf tags values n)) put-last
 
-    both-put : (q l : ℕ) → r₂ ≡ At q l → (r₃ : Built) (tags₃ values₃ : List ℕ)
-        → Puts l tags₂ values₂ (put (poolOf tags₂ values₂ l) (tagOfMany both) (0 ∷ p ∷ q ∷ [])) r₃ tags₃ values₃
+    both-put : (q : TermPlace) (l : ℕ) → r₂ ≡ At q l → (r₃ : Built) (tags₃ values₃ : List ℕ)
+        → Puts l tags₂ values₂ (put (poolOf tags₂ values₂ l) (connectiveTag both) (0 ∷ p .0 ∷ q .0 ∷ [])) r₃ tags₃ values₃
         → Formed normal lim n tags values memo (pair both f g) r₃ tags₃ values₃ memo₂
     unfolding intern interns
     both-put q l e₂ r₃ tags₃ values₃ y =
         let h₂ = builds-holds (entryForm normal lim tags values) lim tags values memo o₂ r₂ tags₂ values₂ memo₂ second q l e₂ in
         rw (← h₁ .place-is, ← h₂ .place-is)
-        (then-put normal lim tags values memo o₂ r₂ tags₂ values₂ memo₂ second q l e₂ (tagOfMany both) (0 ∷ p ∷ q ∷ []) r₃ tags₃ values₃ y)
+        (then-put normal lim tags values memo o₂ r₂ tags₂ values₂ memo₂ second q l e₂ (connectiveTag both) (0 ∷ p .0 ∷ q .0 ∷ []) r₃ tags₃ values₃ y)
 
 -- pair_of
 module _ (lim n : ℕ) (tags values memo : List ℕ) (both : Bool) (a : ℕ) (a-polarity : Bool) (b : ℕ) (b-polarity : Bool)
@@ -66,15 +68,15 @@ module _ (lim n : ℕ) (tags values memo : List ℕ) (both : Bool) (a : ℕ) (a-
   pub pair-left-full : r₁ ≡ Full → Formed normal lim n tags values memo (pair both (normalOf lim tags values a a-polarity) (normalOf lim tags values b b-polarity)) Full tags₁ values₁ memo₁
   pair-left-full e = left-full lim n tags values memo f r₁ tags₁ values₁ memo₁ (j .formed) both g e
 
-  module _ (p m : ℕ) (e₁ : r₁ ≡ At p m) (r₂ : Built) (tags₂ values₂ memo₂ : List ℕ) (k : Known normal lim m tags₁ values₁ memo₁ b b-polarity r₂ tags₂ values₂ memo₂) where
+  module _ (p : TermPlace) (m : ℕ) (e₁ : r₁ ≡ At p m) (r₂ : Built) (tags₂ values₂ memo₂ : List ℕ) (k : Known normal lim m tags₁ values₁ memo₁ b b-polarity r₂ tags₂ values₂ memo₂) where
     b₂ : Formed normal lim m tags₁ values₁ memo₁ g r₂ tags₂ values₂ memo₂
     b₂ = rw (form-same lim tags values tags₁ values₁ (j .formed .puts .left) normal b b-polarity) at (k .formed)
 
     pub pair-right-full : r₂ ≡ Full → Formed normal lim n tags values memo (pair both (normalOf lim tags values a a-polarity) (normalOf lim tags values b b-polarity)) Full tags₂ values₂ memo₂
     pair-right-full e = right-full lim n tags values memo f r₁ tags₁ values₁ memo₁ (j .formed) both g p m e₁ r₂ tags₂ values₂ memo₂ b₂ e
 
-    pub pair-put : (q l : ℕ) → r₂ ≡ At q l → (r₃ : Built) (tags₃ values₃ : List ℕ)
-        → Puts l tags₂ values₂ (put (poolOf tags₂ values₂ l) (tagOfMany both) (0 ∷ p ∷ q ∷ [])) r₃ tags₃ values₃
+    pub pair-put : (q : TermPlace) (l : ℕ) → r₂ ≡ At q l → (r₃ : Built) (tags₃ values₃ : List ℕ)
+        → Puts l tags₂ values₂ (put (poolOf tags₂ values₂ l) (connectiveTag both) (0 ∷ p .0 ∷ q .0 ∷ [])) r₃ tags₃ values₃
         → Formed normal lim n tags values memo (pair both (normalOf lim tags values a a-polarity) (normalOf lim tags values b b-polarity)) r₃ tags₃ values₃ memo₂
     pair-put q l e₂ r₃ tags₃ values₃ y =
         both-put lim n tags values memo f r₁ tags₁ values₁ memo₁ (j .formed) both g p m e₁ r₂ tags₂ values₂ memo₂ b₂ q l e₂ r₃ tags₃ values₃ y
@@ -93,7 +95,7 @@ module _ (lim n : ℕ) (tags values memo : List ℕ) (polarity : Bool) (a b c : 
   pub two-left-full : r₁ ≡ Full → Formed normal lim n tags values memo (twoPairs polarity (λ t p. normalOf lim tags values t p) a b c c-polarity d) Full tags₁ values₁ memo₁
   two-left-full e = left-full lim n tags values memo one r₁ tags₁ values₁ memo₁ b₁ polarity two e
 
-  module _ (p m : ℕ) (e₁ : r₁ ≡ At p m) (r₂ : Built) (tags₂ values₂ memo₂ : List ℕ)
+  module _ (p : TermPlace) (m : ℕ) (e₁ : r₁ ≡ At p m) (r₂ : Built) (tags₂ values₂ memo₂ : List ℕ)
       (b₂ : Formed normal lim m tags₁ values₁ memo₁ (pair (not polarity) (normalOf lim tags₁ values₁ c c-polarity) (normalOf lim tags₁ values₁ d polarity)) r₂ tags₂ values₂ memo₂) where
     same₂ : Formed normal lim m tags₁ values₁ memo₁ two r₂ tags₂ values₂ memo₂
     same₂ = rw (form-same lim tags values tags₁ values₁ (b₁ .puts .left) normal c c-polarity, form-same lim tags values tags₁ values₁ (b₁ .puts .left) normal d polarity) at b₂
@@ -101,8 +103,8 @@ module _ (lim n : ℕ) (tags values memo : List ℕ) (polarity : Bool) (a b c : 
     pub two-right-full : r₂ ≡ Full → Formed normal lim n tags values memo (twoPairs polarity (λ t p. normalOf lim tags values t p) a b c c-polarity d) Full tags₂ values₂ memo₂
     two-right-full e = right-full lim n tags values memo one r₁ tags₁ values₁ memo₁ b₁ polarity two p m e₁ r₂ tags₂ values₂ memo₂ same₂ e
 
-    pub two-put : (q l : ℕ) → r₂ ≡ At q l → (r₃ : Built) (tags₃ values₃ : List ℕ)
-        → Puts l tags₂ values₂ (put (poolOf tags₂ values₂ l) (tagOfMany polarity) (0 ∷ p ∷ q ∷ [])) r₃ tags₃ values₃
+    pub two-put : (q : TermPlace) (l : ℕ) → r₂ ≡ At q l → (r₃ : Built) (tags₃ values₃ : List ℕ)
+        → Puts l tags₂ values₂ (put (poolOf tags₂ values₂ l) (connectiveTag polarity) (0 ∷ p .0 ∷ q .0 ∷ [])) r₃ tags₃ values₃
         → Formed normal lim n tags values memo (twoPairs polarity (λ t p. normalOf lim tags values t p) a b c c-polarity d) r₃ tags₃ values₃ memo₂
     two-put q l e₂ r₃ tags₃ values₃ y =
         both-put lim n tags values memo one r₁ tags₁ values₁ memo₁ b₁ polarity two p m e₁ r₂ tags₂ values₂ memo₂ same₂ q l e₂ r₃ tags₃ values₃ y

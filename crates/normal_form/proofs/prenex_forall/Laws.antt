@@ -8,15 +8,17 @@ use lib.ListN.{getD, take}
 use lib.Dec.{ltb, eqb}
 use native.Mathlib.Omega.{arith}
 use borrow.Author.Tests.{ltb-true, lt-ltb}
+use Rattle.cells.specs.Place.{termAt}
+use Rattle.cells.specs.declared.TermPlace.{TermPlace}
 use Rattle.cells.specs.ByPlace.{by-test}
 use Rattle.cells.specs.Cell.{operandsOf}
 use Rattle.formulas.specs.declared.view.NormalView.{NormalView}
 use Rattle.formulas.specs.declared.view.NormalView.the-variants.{Literal, Connective, Forall}
 use Rattle.building.specs.declared.build.Built.{Built}
 use Rattle.building.specs.declared.build.Built.the-variants.{At, Full}
-use Rattle.formulas.specs.Formula.{allBefore}
+use Rattle.formulas.specs.Formula.{allBefore, connectiveTag}
 use Rattle.formulas.specs.Normal.{Normal, lit, nmany, prenex, prenexes}
-use Rattle.formulas.specs.Built.{put, tagOfMany, intern, normalsOf, normalView, takenOut}
+use Rattle.formulas.specs.Built.{put, intern, normalsOf, normalView, takenOut}
 use Rattle.building.specs.Arrays.{poolOf}
 use Rattle.building.specs.Walk.{Puts, placesIn, taken-out, formOf, runOf, entryForm, Ready, Formed, Known, operandForms, OperandsKnown, Before, NormalBuilt}
 use Rattle.clauses.proofs.Reading.{before-at, read-literal, read-forall, read-connective, run-before}
@@ -24,12 +26,12 @@ use Rattle.building.proofs.build.Building.{builds-stood}
 use Rattle.building.proofs.build.Walks.{connective-full, connective-put, whole-built}
 
 -- the body of a forall stands before it
-pub body-before : (tags values : List ℕ) (x body : ℕ) → Forall body ≡ normalView tags values x → body < x
+pub body-before : (tags values : List ℕ) (x : ℕ) (body : TermPlace) → Forall body ≡ normalView tags values x → body .0 < x
 unfolding normalView
 body-before tags values x body e =
     by-test (eqb (getD tags x 0) 23)
     (λ q. by-test (ltb (getD (operandsOf tags values x) 0 0) x)
-    (λ l. let z : body ≡ getD (operandsOf tags values x) 0 0 = let y = rw (q, l) at e in cc in rw z (ltb-true _ _ l))
+    (λ l. let z : body ≡ termAt (getD (operandsOf tags values x) 0 0) = let y = rw (q, l) at e in cc in rw z (ltb-true _ _ l))
     (λ l. absurd (other Literal (rw (q, l) at e) refl)))
     (λ q. by-test (allBefore x (operandsOf tags values x))
     (λ l. by-test (eqb (getD tags x 0) 36)
@@ -52,21 +54,21 @@ prenexes-are f (u ∷ us) = rw (prenexes-are f us)
 -- ---- take_out
 module _ (lim n : ℕ) (tags values memo : List ℕ) (ready : Ready taken-out lim n tags values memo) (x : ℕ) (within : x < lim) (v : NormalView)
     (is : v ≡ normalView (take lim tags) (take lim values) x) where
-  pub take-literal : v ≡ Literal → Formed taken-out lim n tags values memo (formOf taken-out lim tags values x true) (At x n) tags values memo
+  pub take-literal : v ≡ Literal → Formed taken-out lim n tags values memo (formOf taken-out lim tags values x true) (At (termAt x) n) tags values memo
   unfolding formOf intern
   take-literal e =
       rw (read-literal (take lim tags) (take lim values) x v is e)
       (builds-stood (entryForm taken-out lim tags values) lim n tags values memo (ready .state) (ready .right) (lit true x) x
       (omega (arith, ready .state .source)) refl)
 
-  pub forall-below : (body : ℕ) → v ≡ Forall body → body < x
+  pub forall-below : (body : TermPlace) → v ≡ Forall body → body .0 < x
   forall-below body e = body-before (take lim tags) (take lim values) x body (sym e ∙ is)
 
-  pub take-forall : (body : ℕ) → v ≡ Forall body → (r : Built) (tags₁ values₁ memo₁ : List ℕ) → Known taken-out lim n tags values memo body true r tags₁ values₁ memo₁
+  pub take-forall : (body : TermPlace) → v ≡ Forall body → (r : Built) (tags₁ values₁ memo₁ : List ℕ) → Known taken-out lim n tags values memo (body .0) true r tags₁ values₁ memo₁
       → Formed taken-out lim n tags values memo (formOf taken-out lim tags values x true) r tags₁ values₁ memo₁
   unfolding formOf
   take-forall body e r tags₁ values₁ memo₁ j =
-      rw (read-forall (take lim tags) (take lim values) x v is body e, lt-ltb body x (forall-below body e)) (j .formed)
+      rw (read-forall (take lim tags) (take lim values) x v is body e, lt-ltb (body .0) x (forall-below body e)) (j .formed)
 
   module _ (b : Bool) (e : v ≡ Connective b) where
     pub connective-before : Before lim tags values x
@@ -80,8 +82,8 @@ module _ (lim n : ℕ) (tags values memo : List ℕ) (ready : Ready taken-out li
       pub take-full : r₁ ≡ Full → Formed taken-out lim n tags values memo (formOf taken-out lim tags values x true) Full tags₁ values₁ memo₁
       take-full = connective-full taken-out lim n tags values memo x true b connective-is r₁ tags₁ values₁ memo₁ j
 
-      pub take-put : (p m : ℕ) → r₁ ≡ At p m → (r₂ : Built) (tags₂ values₂ : List ℕ)
-          → Puts m tags₁ values₁ (put (poolOf tags₁ values₁ m) (tagOfMany b) (0 ∷ placesIn memo₁ true (runOf lim tags₁ values₁ x))) r₂ tags₂ values₂
+      pub take-put : (p : TermPlace) (m : ℕ) → r₁ ≡ At p m → (r₂ : Built) (tags₂ values₂ : List ℕ)
+          → Puts m tags₁ values₁ (put (poolOf tags₁ values₁ m) (connectiveTag b) (0 ∷ placesIn memo₁ true (runOf lim tags₁ values₁ x))) r₂ tags₂ values₂
           → Formed taken-out lim n tags values memo (formOf taken-out lim tags values x true) r₂ tags₂ values₂ memo₁
       take-put = connective-put taken-out lim n tags values memo x true b connective-is r₁ tags₁ values₁ memo₁ j
 

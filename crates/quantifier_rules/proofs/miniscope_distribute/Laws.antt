@@ -8,6 +8,7 @@ use lib.ListN.{length, getD, drop, drop-of-length-le}
 use lib.Seq.{drop-cons}
 use native.Mathlib.Numerals.{add-one}
 use borrow.Author.Tests.{eq-eqb, ne-eqb, not-true, not-false}
+use Rattle.cells.specs.declared.TermPlace.{TermPlace}
 use Rattle.cells.specs.Cell.{operandsOf}
 use Rattle.answers.specs.declared.Answer.{Answer}
 use Rattle.answers.specs.Outcome.{Outcome, pass, refuse, _>>=_, _>>_, need, guard, answerOf}
@@ -32,18 +33,18 @@ module _ (tags values : List ℕ) (s : Places) (t u : ℕ) (r : Quantified)
   unfolding distributed sidesAt quantifierIn need _>>=_
   operand-form e = rw (is, e)
 
-  module _ (k : Bool) (body : ℕ) (e : r ≡ quantified.Is k body) (a b : List ℕ) (left : a ≡ pairsOf tags values (s .left)) (right : b ≡ pairsOf tags values u)
+  module _ (k : Bool) (body : TermPlace) (e : r ≡ quantified.Is k body) (a b : List ℕ) (left : a ≡ pairsOf tags values (s .left .0)) (right : b ≡ pairsOf tags values u)
       (w : Bool) (lists : w ≡ sameAll (bindingsOf a) (bindingsOf b)) where
-    pub operand-list : not w ≡ true → distributed tags values (sidesAt tags values s) t u ≡ refuse 6 (s .left) u
+    pub operand-list : not w ≡ true → distributed tags values (sidesAt tags values s) t u ≡ refuse 6 (s .left .0) u
     unfolding distributed sidesAt quantifierIn need guard _>>=_ _>>_
     operand-list n = rw (is, e, ← left, ← right, ← lists, not-true w n)
 
     module _ (y : not w ≡ false) where
-      pub operand-body : (t ≡ body → ⊥) → distributed tags values (sidesAt tags values s) t u ≡ refuse 5 t body
+      pub operand-body : (t ≡ (body .0) → ⊥) → distributed tags values (sidesAt tags values s) t u ≡ refuse 5 t (body .0)
       unfolding distributed sidesAt quantifierIn need guard _>>=_ _>>_
       operand-body n = rw (is, e, ← left, ← right, ← lists, not-false w y, ne-eqb _ _ n)
 
-      pub operand-passes : t ≡ body → distributed tags values (sidesAt tags values s) t u ≡ pass tt
+      pub operand-passes : t ≡ (body .0) → distributed tags values (sidesAt tags values s) t u ≡ pass tt
       unfolding distributed sidesAt quantifierIn need guard _>>=_ _>>_
       operand-passes m = rw (is, e, ← left, ← right, ← lists, not-false w y, eq-eqb _ _ m)
 
@@ -90,12 +91,12 @@ module _ (tags values : List ℕ) (x : ℕ) (r : Matched) (is : orElse (sidesOf 
   unfolding miniscopeDistribute sidesIn need _>>=_
   rule-form e q = rw (is, e) q
 
-  module _ (s : Places) (e : r ≡ matched.At s) (m k : ℕ) (from-count : m ≡ length (operandsOf tags values (s .body))) (to-count : k ≡ length (operandsOf tags values (s .right))) where
+  module _ (s : Places) (e : r ≡ matched.At s) (m k : ℕ) (from-count : m ≡ length (operandsOf tags values (s .body .0))) (to-count : k ≡ length (operandsOf tags values (s .right .0))) where
     pub rule-counts : (m ≡ k → ⊥) → a ≡ answerOf (refuse 11 m k) → a ≡ answerOf (miniscopeDistribute tags values x)
     unfolding miniscopeDistribute sidesIn sidesAt need guard _>>=_ _>>_
     rule-counts n q = rw (is, e, ← from-count, ← to-count, ne-eqb _ _ n) q
 
-    pub rule-operands : m ≡ k → (from to : List ℕ) → from ≡ operandsOf tags values (s .body) → to ≡ operandsOf tags values (s .right)
+    pub rule-operands : m ≡ k → (from to : List ℕ) → from ≡ operandsOf tags values (s .body .0) → to ≡ operandsOf tags values (s .right .0)
         → a ≡ answerOf (distributedAll tags values (sidesAt tags values s) from to) → a ≡ answerOf (miniscopeDistribute tags values x)
     unfolding miniscopeDistribute sidesIn sidesAt need guard _>>=_ _>>_
     rule-operands c from to f t q = rw (is, e, ← from-count, ← to-count, eq-eqb _ _ c) (rw (f, t) at q)

@@ -9,6 +9,7 @@ use lib.ListN.{getD}
 use lib.Dec.{eqb}
 use native.Mathlib.Omega.{arith}
 use borrow.Author.Tests.{eq-eqb, ne-eqb, not-true, not-false}
+use Rattle.cells.specs.declared.TermPlace.{TermPlace}
 use Rattle.cells.specs.ByPlace.{by-test}
 use Rattle.answers.specs.declared.Answer.{Answer}
 use Rattle.answers.specs.Outcome.{pass, refuse, _>>=_, _>>_, need, guard, answerOf}
@@ -39,7 +40,7 @@ module _ (tags values : List ℕ) (t u : ℕ) (list : List Binding) (r : Quantif
   unfolding forallOver quantifierIn
   over-none e = rw (is, e)
 
-  pub over-is : (k : Bool) (body : ℕ) → r ≡ quantified.Is k body → eqb t body ≡ forallOver tags values t u
+  pub over-is : (k : Bool) (body : TermPlace) → r ≡ quantified.Is k body → eqb t (body .0) ≡ forallOver tags values t u
   unfolding forallOver quantifierIn
   over-is k body e = rw (is, e)
 
@@ -114,52 +115,52 @@ module _ (tags values : List ℕ) (x : ℕ) (s : Two) (is : equality tags values
   unfolding iteSides iteIn twoIn
   ite-form e = rw (is, e)
 
-  module _ (left right : ℕ) (e : s ≡ two.Are left right) (r : Quantified)
-      (q : andThen (quantifier tags values left) (ofKind true) ≡ quantifierIn (bindingsOf (pairsOf tags values left)) r) where
+  module _ (left right : TermPlace) (e : s ≡ two.Are left right) (r : Quantified)
+      (q : andThen (quantifier tags values (left .0)) (ofKind true) ≡ quantifierIn (bindingsOf (pairsOf tags values (left .0))) r) where
     pub ite-quantifier : r ≡ quantified.Not → iteSides tags values x ≡ iteIn tags values matched.Nothing
     unfolding iteSides iteIn twoIn quantifierIn
-    ite-quantifier n = rw (is, e, forall-is (quantifier tags values left), q, n)
+    ite-quantifier n = rw (is, e, forall-is (quantifier tags values (left .0)), q, n)
 
-    module _ (k : Bool) (body : ℕ) (there : r ≡ quantified.Is k body) (f : Three) (from : andThen (operator tags values 41 body) threeOf ≡ threeIn f) where
+    module _ (k : Bool) (body : TermPlace) (there : r ≡ quantified.Is k body) (f : Three) (from : andThen (operator tags values 41 (body .0)) threeOf ≡ threeIn f) where
       pub ite-left : f ≡ three.Not → iteSides tags values x ≡ iteIn tags values matched.Nothing
       unfolding iteSides iteIn twoIn quantifierIn threeIn
-      ite-left n = rw (is, e, forall-is (quantifier tags values left), q, there, from, n)
+      ite-left n = rw (is, e, forall-is (quantifier tags values (left .0)), q, there, from, n)
 
-      module _ (test b c : ℕ) (f-is : f ≡ three.Are test b c) (g : Three) (to : andThen (operator tags values 41 right) threeOf ≡ threeIn g) where
+      module _ (test b c : TermPlace) (f-is : f ≡ three.Are test b c) (g : Three) (to : andThen (operator tags values 41 (right .0)) threeOf ≡ threeIn g) where
         pub ite-right : g ≡ three.Not → iteSides tags values x ≡ iteIn tags values matched.Nothing
         unfolding iteSides iteIn twoIn quantifierIn threeIn
-        ite-right n = rw (is, e, forall-is (quantifier tags values left), q, there, from, f-is, to, n)
+        ite-right n = rw (is, e, forall-is (quantifier tags values (left .0)), q, there, from, f-is, to, n)
 
-        module _ (same yes no : ℕ) (g-is : g ≡ three.Are same yes no) where
+        module _ (same yes no : TermPlace) (g-is : g ≡ three.Are same yes no) where
           found : iteSides tags values x
-              ≡ branches (eqb test same) b c (makes tags values left test yes no)
-              (andThen (quantifier tags values yes) (ofKind true)) (andThen (quantifier tags values no) (ofKind true))
+              ≡ branches (eqb (test .0) (same .0)) (b .0) (c .0) (makes tags values (left .0) (test .0) (yes .0) (no .0))
+              (andThen (quantifier tags values (yes .0)) (ofKind true)) (andThen (quantifier tags values (no .0)) (ofKind true))
           unfolding iteSides twoIn quantifierIn threeIn branches
           found =
               rw
-              (is, e, forall-is (quantifier tags values left), q, there, from, f-is, to, g-is, ← forall-is (quantifier tags values yes), ← forall-is (quantifier tags values no))
+              (is, e, forall-is (quantifier tags values (left .0)), q, there, from, f-is, to, g-is, ← forall-is (quantifier tags values (yes .0)), ← forall-is (quantifier tags values (no .0)))
 
-          pub ite-test : (test ≡ same → ⊥) → iteSides tags values x ≡ iteIn tags values matched.Nothing
+          pub ite-test : ((test .0) ≡ (same .0) → ⊥) → iteSides tags values x ≡ iteIn tags values matched.Nothing
           unfolding iteIn
-          ite-test n = found ∙ rw (ne-eqb _ _ n) (branch-test b c _ _ _)
+          ite-test n = found ∙ rw (ne-eqb _ _ n) (branch-test (b .0) (c .0) _ _ _)
 
-          module _ (t-is : test ≡ same) (v : Bool) (v-is : v ≡ forallOver tags values b yes) where
+          module _ (t-is : (test .0) ≡ (same .0)) (v : Bool) (v-is : v ≡ forallOver tags values (b .0) (yes .0)) where
             pub ite-yes : not v ≡ true → iteSides tags values x ≡ iteIn tags values matched.Nothing
             unfolding iteIn forallOver
-            ite-yes n = found ∙ rw (eq-eqb _ _ t-is) (branch-yes b c _ _ _ (sym v-is ∙ not-true v n))
+            ite-yes n = found ∙ rw (eq-eqb _ _ t-is) (branch-yes (b .0) (c .0) _ _ _ (sym v-is ∙ not-true v n))
 
-            module _ (v-yes : not v ≡ false) (w : Bool) (w-is : w ≡ forallOver tags values c no) where
+            module _ (v-yes : not v ≡ false) (w : Bool) (w-is : w ≡ forallOver tags values (c .0) (no .0)) where
               pub ite-no : not w ≡ true → iteSides tags values x ≡ iteIn tags values matched.Nothing
               unfolding iteIn forallOver
-              ite-no n = found ∙ rw (eq-eqb _ _ t-is) (branch-no b c _ _ _ (sym v-is ∙ not-false v v-yes) (sym w-is ∙ not-true w n))
+              ite-no n = found ∙ rw (eq-eqb _ _ t-is) (branch-no (b .0) (c .0) _ _ _ (sym v-is ∙ not-false v v-yes) (sym w-is ∙ not-true w n))
 
               pub ite-are : not w ≡ false → iteSides tags values x ≡ iteIn tags values (matched.At (record { left = left; test = test; yes = yes; no = no }))
               unfolding iteIn iteAt forallOver
               ite-are w-yes =
                   found
                   ∙ rw (eq-eqb _ _ t-is)
-                  (branch-both b c _ _ _ _ _
-                  (λ p h. list-of tags values yes p (of-some _ p h)) (λ p h. list-of tags values no p (of-some _ p h))
+                  (branch-both (b .0) (c .0) _ _ _ _ _
+                  (λ p h. list-of tags values (yes .0) p (of-some _ p h)) (λ p h. list-of tags values (no .0) p (of-some _ p h))
                   (sym v-is ∙ not-false v v-yes) (sym w-is ∙ not-false w w-yes))
 
 pub ruleset pattern = (ite-form, ite-quantifier, ite-left, ite-right, ite-test, ite-yes, ite-no, ite-are)
@@ -170,28 +171,28 @@ module _ (tags values : List ℕ) (n x : ℕ) (r : IteMatched) (is : iteSides ta
   unfolding miniscopeIte iteIn need _>>=_
   rule-form e q = rw (is, e) q
 
-  module _ (s : ItePlaces) (e : r ≡ matched.At s) (list yes : List ℕ) (l-is : list ≡ pairsOf tags values (s .left)) (y-is : yes ≡ pairsOf tags values (s .yes))
+  module _ (s : ItePlaces) (e : r ≡ matched.At s) (list yes : List ℕ) (l-is : list ≡ pairsOf tags values (s .left .0)) (y-is : yes ≡ pairsOf tags values (s .yes .0))
       (v : Bool) (one : v ≡ sameAll (bindingsOf list) (bindingsOf yes)) where
-    pub rule-yes : not v ≡ true → a ≡ answerOf (refuse 6 (s .left) (s .yes)) → a ≡ answerOf (miniscopeIte tags values n x)
+    pub rule-yes : not v ≡ true → a ≡ answerOf (refuse 6 (s .left .0) (s .yes .0)) → a ≡ answerOf (miniscopeIte tags values n x)
     unfolding miniscopeIte iteIn iteAt need guard _>>=_ _>>_
     rule-yes m q = rw (is, e, ← l-is, ← y-is, ← one, not-true v m) q
 
-    module _ (v-yes : not v ≡ false) (no : List ℕ) (n-is : no ≡ pairsOf tags values (s .no)) (w : Bool) (second : w ≡ sameAll (bindingsOf list) (bindingsOf no)) where
-      pub rule-no : not w ≡ true → a ≡ answerOf (refuse 6 (s .left) (s .no)) → a ≡ answerOf (miniscopeIte tags values n x)
+    module _ (v-yes : not v ≡ false) (no : List ℕ) (n-is : no ≡ pairsOf tags values (s .no .0)) (w : Bool) (second : w ≡ sameAll (bindingsOf list) (bindingsOf no)) where
+      pub rule-no : not w ≡ true → a ≡ answerOf (refuse 6 (s .left .0) (s .no .0)) → a ≡ answerOf (miniscopeIte tags values n x)
       unfolding miniscopeIte iteIn iteAt need guard _>>=_ _>>_
       rule-no m q = rw (is, e, ← l-is, ← y-is, ← one, not-false v v-yes, ← n-is, ← second, not-true w m) q
 
-      module _ (w-yes : not w ≡ false) (f : FirstName) (f-is : f ≡ nameOf (firstOf (bindingFree tags values n (s .test)) (bindingsOf list))) where
-        pub rule-free : (name : ℕ) → f ≡ first.Name name → a ≡ answerOf (refuse 12 name (s .test)) → a ≡ answerOf (miniscopeIte tags values n x)
+      module _ (w-yes : not w ≡ false) (f : FirstName) (f-is : f ≡ nameOf (firstOf (bindingFree tags values n (s .test .0)) (bindingsOf list))) where
+        pub rule-free : (name : ℕ) → f ≡ first.Name name → a ≡ answerOf (refuse 12 name (s .test .0)) → a ≡ answerOf (miniscopeIte tags values n x)
         unfolding miniscopeIte iteIn iteAt need guard _>>=_ _>>_
         rule-free name m q =
             rw
-            (is, e, ← l-is, ← y-is, ← one, not-false v v-yes, ← n-is, ← second, not-false w w-yes, unless-name 12 (s .test) _ name (sym m ∙ f-is)) q
+            (is, e, ← l-is, ← y-is, ← one, not-false v v-yes, ← n-is, ← second, not-false w w-yes, unless-name 12 (s .test .0) _ name (sym m ∙ f-is)) q
 
         pub rule-passes : f ≡ first.Nothing → a ≡ answerOf (pass tt) → a ≡ answerOf (miniscopeIte tags values n x)
         unfolding miniscopeIte iteIn iteAt need guard _>>=_ _>>_
         rule-passes m q =
             rw
-            (is, e, ← l-is, ← y-is, ← one, not-false v v-yes, ← n-is, ← second, not-false w w-yes, unless-none 12 (s .test) _ (sym m ∙ f-is)) q
+            (is, e, ← l-is, ← y-is, ← one, not-false v v-yes, ← n-is, ← second, not-false w w-yes, unless-none 12 (s .test .0) _ (sym m ∙ f-is)) q
 
 pub ruleset rule = (rule-form, rule-yes, rule-no, rule-free, rule-passes)

@@ -10,6 +10,7 @@ use lib.Seq.{drop-cons}
 use native.Mathlib.Omega.{arith}
 use native.Mathlib.Numerals.{add-one}
 use borrow.Author.Tests.{eq-eqb, ne-eqb}
+use Rattle.cells.specs.declared.TermPlace.{TermPlace}
 use Rattle.cells.specs.Cell.{operandsOf}
 use Rattle.answers.specs.declared.Answer.{Answer}
 use Rattle.answers.specs.Outcome.{Outcome, pass, refuse, _>>=_, _>>_, need, guard, unless, answerOf}
@@ -48,12 +49,12 @@ module _ (tags values : List ℕ) (kind : Bool) (rest : List Binding) (t u : ℕ
     unfolding splitOne splitOff quantifierIn need _>>=_
     operand-form e = rw (ne-eqb _ _ other, is, e)
 
-    module _ (k : Bool) (body : ℕ) (e : r ≡ quantified.Is k body) where
-      pub operand-body : (t ≡ body → ⊥) → splitOne tags values kind rest t u ≡ refuse 5 t body
+    module _ (k : Bool) (body : TermPlace) (e : r ≡ quantified.Is k body) where
+      pub operand-body : (t ≡ (body .0) → ⊥) → splitOne tags values kind rest t u ≡ refuse 5 t (body .0)
       unfolding splitOne splitOff quantifierIn need guard _>>=_ _>>_
       operand-body n = rw (ne-eqb _ _ other, is, e, ne-eqb _ _ n)
 
-      pub operand-uses : t ≡ body → (inner : List ℕ) → inner ≡ pairsOf tags values u → (v : Checked) (after : List Binding)
+      pub operand-uses : t ≡ (body .0) → (inner : List ℕ) → inner ≡ pairsOf tags values u → (v : Checked) (after : List Binding)
           → useAll (bindingsOf inner) rest ≡ outcomeOf v after → splitOne tags values kind rest t u ≡ outcomeOf v after
       unfolding splitOne splitOff quantifierIn need guard _>>=_ _>>_
       operand-uses m inner i v after q = rw (ne-eqb _ _ other, is, e, eq-eqb _ _ m, ← i) q
@@ -106,11 +107,11 @@ pub fresh : (tags values : List ℕ) (kind : Bool) (outer from to : List ℕ) (k
 fresh tags values kind outer from to k h o is = rw (all-left k (bindingsOf outer) (omega (arith, pairs-half outer))) at is
 
 -- ---- the operands, then 12
-module _ (tags values : List ℕ) (n : ℕ) (s : Places) (outer from to : List ℕ) (o-is : outer ≡ pairsOf tags values (s .left))
-    (f-is : from ≡ operandsOf tags values (s .body)) (t-is : to ≡ operandsOf tags values (s .right))
+module _ (tags values : List ℕ) (n : ℕ) (s : Places) (outer from to : List ℕ) (o-is : outer ≡ pairsOf tags values (s .left .0))
+    (f-is : from ≡ operandsOf tags values (s .body .0)) (t-is : to ≡ operandsOf tags values (s .right .0))
     (v : Checked) (walk : splitAll tags values (s .kind) (bindingsOf outer) from to ≡ outcomeOf v tt) where
   sides-are : splitSides tags values n (sidesAt tags values s)
-      ≡ outcomeOf v (tt {0}) >> unless 12 (λ (b : Binding). b .name) (s .right) (firstOf (bindingFree tags values n (s .right)) (bindingsOf outer))
+      ≡ outcomeOf v (tt {0}) >> unless 12 (λ (b : Binding). b .name) (s .right .0) (firstOf (bindingFree tags values n (s .right .0)) (bindingsOf outer))
   unfolding splitSides sidesAt
   sides-are = rw (← walk, o-is, f-is, t-is)
 
@@ -119,14 +120,14 @@ module _ (tags values : List ℕ) (n : ℕ) (s : Places) (outer from to : List �
     unfolding _>>_
     sides-operand k p q y z = rw (sides-are, y) z
 
-    module _ (y : v ≡ Passes) (f : FirstName) (free : f ≡ nameOf (firstOf (bindingFree tags values n (s .right)) (bindingsOf outer))) where
-      pub sides-free : (name : ℕ) → f ≡ first.Name name → a ≡ answerOf (refuse 12 name (s .right)) → a ≡ answerOf (splitSides tags values n (sidesAt tags values s))
+    module _ (y : v ≡ Passes) (f : FirstName) (free : f ≡ nameOf (firstOf (bindingFree tags values n (s .right .0)) (bindingsOf outer))) where
+      pub sides-free : (name : ℕ) → f ≡ first.Name name → a ≡ answerOf (refuse 12 name (s .right .0)) → a ≡ answerOf (splitSides tags values n (sidesAt tags values s))
       unfolding _>>_
-      sides-free name g z = rw (sides-are, y, unless-name 12 (s .right) _ name (sym g ∙ free)) z
+      sides-free name g z = rw (sides-are, y, unless-name 12 (s .right .0) _ name (sym g ∙ free)) z
 
       pub sides-pass : f ≡ first.Nothing → a ≡ answerOf (pass tt) → a ≡ answerOf (splitSides tags values n (sidesAt tags values s))
       unfolding _>>_
-      sides-pass g z = rw (sides-are, y, unless-none 12 (s .right) _ (sym g ∙ free)) z
+      sides-pass g z = rw (sides-are, y, unless-none 12 (s .right .0) _ (sym g ∙ free)) z
 
 pub ruleset sides = (sides-operand, sides-free, sides-pass)
 
@@ -136,7 +137,7 @@ module _ (tags values : List ℕ) (n x : ℕ) (r : Matched) (is : orElse (sidesO
   unfolding miniscopeSplit sidesIn need _>>=_
   rule-form e q = rw (is, e) q
 
-  module _ (s : Places) (e : r ≡ matched.At s) (m k : ℕ) (from-count : m ≡ length (operandsOf tags values (s .body))) (to-count : k ≡ length (operandsOf tags values (s .right))) where
+  module _ (s : Places) (e : r ≡ matched.At s) (m k : ℕ) (from-count : m ≡ length (operandsOf tags values (s .body .0))) (to-count : k ≡ length (operandsOf tags values (s .right .0))) where
     pub rule-counts : (m ≡ k → ⊥) → a ≡ answerOf (refuse 11 m k) → a ≡ answerOf (miniscopeSplit tags values n x)
     unfolding miniscopeSplit sidesIn sidesAt need guard _>>=_ _>>_
     rule-counts o q = rw (is, e, ← from-count, ← to-count, ne-eqb _ _ o) q
@@ -158,10 +159,10 @@ module _ (tags values : List ℕ) (x : ℕ) (f : LeftFits tags values x) where
   either-short s (some o) b ha hb e = ha e
 
   pub outer-short : (r : Matched) → orElse (sidesOf tags values true 37 x) (sidesOf tags values false 36 x) ≡ sidesIn tags values r
-      → (s : Places) → r ≡ matched.At s → length (pairsOf tags values (s .left)) ≤ 8192
+      → (s : Places) → r ≡ matched.At s → length (pairsOf tags values (s .left .0)) ≤ 8192
   unfolding sidesIn sidesAt pairsOf
   outer-short r is s e =
-      let h : length (operandsOf tags values (s .left)) ≤ 8192 =
+      let h : length (operandsOf tags values (s .left .0)) ≤ 8192 =
       either-short (sidesAt tags values s) _ _ (left-short true 37 _) (left-short false 36 _) (rw e at is) in
       rw length-drop (omega arith)
 

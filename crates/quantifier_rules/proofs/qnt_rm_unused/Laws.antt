@@ -7,12 +7,14 @@ use mathlib.Core.List.{List}
 use mathlib.Core.Option.{Option, some, none}
 use native.Mathlib.Omega.{arith}
 use borrow.Author.Tests.{eq-eqb, ne-eqb, not-true, not-false}
+use Rattle.cells.specs.declared.TermPlace.{TermPlace}
 use Rattle.answers.specs.declared.Answer.{Answer}
 use Rattle.answers.specs.Outcome.{pass, refuse, _>>=_, _>>_, need, guard, answerOf}
 use Rattle.bindings.specs.Binding.{Binding, bindingsOf, has, firstOf}
 use Rattle.free_variables.specs.BindingFree.{bindingFree}
 use Rattle.bindings.specs.BindingAnswer.{nameOf}
-use Rattle.formulas.specs.Pattern.{tagOf, equality}
+use Rattle.formulas.specs.Pattern.{equality}
+use Rattle.formulas.specs.Formula.{quantifierTag}
 use Rattle.formulas.specs.PatternAnswer.{pairsOf, withList, quantifierIn, twoIn}
 use Rattle.quantifier_rules.specs.QntRmUnused.{isSome, removes, unused, bodyOr, qntRmUnused}
 use Rattle.bindings.specs.declared.binding.FirstName.{FirstName}
@@ -31,18 +33,18 @@ module _ (tags values : List ℕ) (n : ℕ) (kind : Bool) (left : List ℕ) (bod
   unfolding removes quantifierIn need _>>=_
   removes-none e = rw (right, e)
 
-  module _ (k : Bool) (b : ℕ) (q-is : q ≡ quantified.Is k b) where
-    pub removes-kinds : not (Bool·beq kind k) ≡ true → (a a′ : ℕ) → a ≡ tagOf kind → a′ ≡ tagOf k
+  module _ (k : Bool) (b : TermPlace) (q-is : q ≡ quantified.Is k b) where
+    pub removes-kinds : not (Bool·beq kind k) ≡ true → (a a′ : ℕ) → a ≡ quantifierTag kind → a′ ≡ quantifierTag k
         → refuse 4 a a′ ≡ removes tags values n (withList kind (bindingsOf left) body) x
     unfolding removes quantifierIn need guard _>>=_ _>>_
     removes-kinds e a a′ is is′ = rw (right, q-is, not-true (Bool·beq kind k) e, is, is′)
 
     module _ (same : not (Bool·beq kind k) ≡ false) where
-      pub removes-bodies : (body ≡ b → ⊥) → refuse 5 body b ≡ removes tags values n (withList kind (bindingsOf left) body) x
+      pub removes-bodies : (body ≡ (b .0) → ⊥) → refuse 5 body (b .0) ≡ removes tags values n (withList kind (bindingsOf left) body) x
       unfolding removes quantifierIn need guard _>>=_ _>>_
       removes-bodies e = rw (right, q-is, not-false (Bool·beq kind k) same, ne-eqb _ _ e)
 
-      module _ (bodies : body ≡ b) (f : FirstName) (g : List ℕ) (f-is : f ≡ nameOf (firstOf (λ a. not (has (bindingsOf left) a)) (bindingsOf g)))
+      module _ (bodies : body ≡ (b .0)) (f : FirstName) (g : List ℕ) (f-is : f ≡ nameOf (firstOf (λ a. not (has (bindingsOf left) a)) (bindingsOf g)))
           (g-is : g ≡ pairsOf tags values x) where
         pub removes-new : (m : ℕ) → f ≡ Name m → refuse 8 m 0 ≡ removes tags values n (withList kind (bindingsOf left) body) x
         unfolding removes quantifierIn need guard _>>=_ _>>_
@@ -101,13 +103,13 @@ module _ (tags values : List ℕ) (n x : ℕ) (t : Two) (form : equality tags va
   unfolding qntRmUnused twoIn need _>>=_
   unused-form e = rw (form, e)
 
-  module _ (l r : ℕ) (e : t ≡ two.Are l r) (q : Quantified) (left : Reads tags values l q) where
-    pub unused-left : q ≡ quantified.Not → refuse 3 l 0 ≡ qntRmUnused tags values n x
+  module _ (l r : TermPlace) (e : t ≡ two.Are l r) (q : Quantified) (left : Reads tags values (l .0) q) where
+    pub unused-left : q ≡ quantified.Not → refuse 3 (l .0) 0 ≡ qntRmUnused tags values n x
     unfolding qntRmUnused twoIn quantifierIn need _>>=_
     unused-left o = rw (form, e, left, o)
 
-    pub unused-rest : (k : Bool) (b : ℕ) → q ≡ quantified.Is k b → (g : List ℕ) → g ≡ pairsOf tags values l
-        → (a : Answer) → a ≡ answerOf (bodyOr tags values n (withList k (bindingsOf g) b) r) → a ≡ answerOf (qntRmUnused tags values n x)
+    pub unused-rest : (k : Bool) (b : TermPlace) → q ≡ quantified.Is k b → (g : List ℕ) → g ≡ pairsOf tags values (l .0)
+        → (a : Answer) → a ≡ answerOf (bodyOr tags values n (withList k (bindingsOf g) (b .0)) (r .0)) → a ≡ answerOf (qntRmUnused tags values n x)
     unfolding qntRmUnused twoIn quantifierIn need _>>=_
     unused-rest k b q-is g g-is a is = rw (is, form, e, left, q-is, g-is)
 

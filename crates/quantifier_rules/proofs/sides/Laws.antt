@@ -9,6 +9,7 @@ use lib.ListN.{length, getD, length-take, length-drop}
 use lib.Dec.{eqb, ltb}
 use native.Mathlib.Omega.{arith}
 use borrow.Author.Tests.{eq-eqb, ne-eqb}
+use Rattle.cells.specs.declared.TermPlace.{TermPlace}
 use Rattle.cells.specs.ByPlace.{by-test}
 use Rattle.cells.specs.Cell.{cellsOf, operandsOf}
 use Rattle.bindings.specs.Binding.{Binding, bindingsOf}
@@ -30,7 +31,7 @@ module _ (tags values : List ℕ) (x : ℕ) (kind : Bool) (list : List Binding) 
   unfolding quantifierIn
   kind-none e = rw (is, e)
 
-  module _ (k : Bool) (body : ℕ) (e : r ≡ quantified.Is k body) where
+  module _ (k : Bool) (body : TermPlace) (e : r ≡ quantified.Is k body) where
     pub kind-is : Bool·beq k kind ≡ true → andThen (quantifier tags values x) (ofKind kind) ≡ quantifierIn list (quantified.Is k body)
     unfolding quantifierIn
     kind-is t = rw (is, e, t)
@@ -58,22 +59,22 @@ module _ (tags values : List ℕ) (kind : Bool) (tag x : ℕ) (b : Two) (is : eq
   unfolding sidesOf sidesIn twoIn
   sides-form e = rw (is, e)
 
-  module _ (left right : ℕ) (e : b ≡ two.Are left right) (r : Quantified)
-      (q : andThen (quantifier tags values left) (ofKind kind) ≡ quantifierIn (bindingsOf (pairsOf tags values left)) r) where
-    found : sidesOf tags values kind tag x ≡ andThen (quantifierIn (bindingsOf (pairsOf tags values left)) r) (operators tags values kind tag left right)
+  module _ (left right : TermPlace) (e : b ≡ two.Are left right) (r : Quantified)
+      (q : andThen (quantifier tags values (left .0)) (ofKind kind) ≡ quantifierIn (bindingsOf (pairsOf tags values (left .0))) r) where
+    found : sidesOf tags values kind tag x ≡ andThen (quantifierIn (bindingsOf (pairsOf tags values (left .0))) r) (operators tags values kind tag (left .0) (right .0))
     unfolding sidesOf twoIn operators
-    found = rw (is, e, ← q) (assoc (quantifier tags values left) (ofKind kind) (operators tags values kind tag left right))
+    found = rw (is, e, ← q) (assoc (quantifier tags values (left .0)) (ofKind kind) (operators tags values kind tag (left .0) (right .0)))
 
     pub sides-kind : r ≡ quantified.Not → sidesOf tags values kind tag x ≡ sidesIn tags values matched.Nothing
     unfolding sidesIn quantifierIn
     sides-kind n = rw (found, n)
 
-    module _ (k : Bool) (body : ℕ) (there : r ≡ quantified.Is k body) (b-tag : ℕ) (b-is : b-tag ≡ getD tags body 0) where
+    module _ (k : Bool) (body : TermPlace) (there : r ≡ quantified.Is k body) (b-tag : ℕ) (b-is : b-tag ≡ getD tags (body .0) 0) where
       pub sides-left : (b-tag ≡ tag → ⊥) → sidesOf tags values kind tag x ≡ sidesIn tags values matched.Nothing
       unfolding sidesIn quantifierIn operators operator
       sides-left n = rw (found, there, ← b-is, ne-eqb _ _ n)
 
-      module _ (same : b-tag ≡ tag) (r-tag : ℕ) (r-is : r-tag ≡ getD tags right 0) where
+      module _ (same : b-tag ≡ tag) (r-tag : ℕ) (r-is : r-tag ≡ getD tags (right .0) 0) where
         pub sides-right : (r-tag ≡ tag → ⊥) → sidesOf tags values kind tag x ≡ sidesIn tags values matched.Nothing
         unfolding sidesIn quantifierIn operators operator
         sides-right n = rw (found, there, ← b-is, eq-eqb _ _ same, ← r-is, ne-eqb _ _ n)

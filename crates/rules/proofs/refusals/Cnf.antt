@@ -20,7 +20,8 @@ use Rattle.answers.specs.Outcome.{refuse}
 use Rattle.bindings.specs.Binding.{has}
 use Rattle.free_variables.specs.BindingFree.{bindingFree}
 use Rattle.meaning.proofs.patterns.Bindings.{first-some, varOf, varsAt, has-at}
-use Rattle.formulas.specs.Pattern.{Quantifier, tagOf}
+use Rattle.formulas.specs.Pattern.{Quantifier}
+use Rattle.formulas.specs.Formula.{quantifierTag}
 use Rattle.meaning.proofs.patterns.Trees.{Sorted, sorted-has, quantifier-tree, binding-free}
 use Rattle.clausification.specs.QntCnf.{implication, takenFrom, leftAndTaken, clauseFollows, clausified, qntCnf}
 use Rattle.schemas.specs.Schemas.{binder, implies, clausal, clausesOf, IsClause, withTaken, Bounded}
@@ -116,9 +117,9 @@ module _ {tags values rules : List ℕ} {n : ℕ} (c : Passed tags values rules 
       need-refuses _ _ _ _ _ h₂ (λ o. renumber P (not-quantified (sides .1) (s .right) (no-quantifier c (sides .1) (s .right) o))) λ right e₃ h₃.
       let r = quantifier-tree c (sides .1) (s .right) right e₃ in
       guard-refuses _ _ _ _ _ h₃
-      (λ o m. renumber P (not-forall (sides .0) (varsAt tags values (left .list)) (tree tags values (left .body)) (cc (l .tree-is, o))) (m .0, m .1, ap tagOf (sym o) ∙ m .2)) λ e₄ h₄.
+      (λ o m. renumber P (not-forall (sides .0) (varsAt tags values (left .list)) (tree tags values (left .body)) (cc (l .tree-is, o))) (m .0, m .1, ap quantifierTag (sym o) ∙ m .2)) λ e₄ h₄.
       guard-refuses _ _ _ _ _ h₄
-      (λ o m. renumber P (not-forall (sides .1) (varsAt tags values (right .list)) (tree tags values (right .body)) (cc (r .tree-is, o))) (m .0, m .1, ap tagOf (sym o) ∙ m .2)) λ e₅ h₅.
+      (λ o m. renumber P (not-forall (sides .1) (varsAt tags values (right .list)) (tree tags values (right .body)) (cc (r .tree-is, o))) (m .0, m .1, ap quantifierTag (sym o) ∙ m .2)) λ e₅ h₅.
       let shape : tree tags values x
       ≡ implies (s .sort) (s .not-sort) (binder true (varsAt tags values (left .list)) (tree tags values (left .body)))
       (binder true (varsAt tags values (right .list)) (tree tags values (right .body))) = cc (s .tree-is, l .tree-is, r .tree-is, e₄, e₅) in

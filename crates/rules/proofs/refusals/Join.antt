@@ -14,7 +14,7 @@ use Rattle.meaning.proofs.truth.Over.{not-both}
 use Rattle.answers.specs.Outcome.{refuse}
 use Rattle.meaning.proofs.patterns.Bindings.{varsAt}
 use Rattle.meaning.proofs.patterns.Sound.{beq-eq}
-use Rattle.formulas.specs.Pattern.{tagOf}
+use Rattle.formulas.specs.Formula.{quantifierTag}
 use Rattle.meaning.proofs.patterns.Trees.{quantifier-tree, equality-tree}
 use Rattle.quantifier_rules.specs.QntJoin.{joined, qntJoin}
 use Rattle.schemas.specs.Schemas.{equal, binder, joinedOnce}
@@ -27,7 +27,7 @@ use Rattle.rules.proofs.refusals.Reasons.{NoEquality, NoQuantifier, no-
 pub data JoinRefused (tags values : List ℕ) (n x : ℕ) : ℕ → ℕ → ℕ → Type 0 where
   form : NoEquality (tree tags values x) → JoinRefused tags values n x 2 x 0
   not-quantified : (p : ℕ) → isTerm tags n p ≡ true → NoQuantifier (tree tags values p) → JoinRefused tags values n x 3 p 0
-  kinds : (Q R : Bool) → (Q ≡ R → ⊥) → JoinRefused tags values n x 4 (tagOf Q) (tagOf R)
+  kinds : (Q R : Bool) → (Q ≡ R → ⊥) → JoinRefused tags values n x 4 (quantifierTag Q) (quantifierTag R)
   bodies : (p q : ℕ) → isTerm tags n p ≡ true → isTerm tags n q ≡ true → (tree tags values p ≡ tree tags values q → ⊥) → JoinRefused tags values n x 5 p q
   list : (l r : ℕ) (s : Sort) (Q : Bool) (xs ys zs : Vars) (t : Term)
       → tree tags values l ≡ binder Q xs (binder Q ys t) → tree tags values r ≡ binder Q zs t

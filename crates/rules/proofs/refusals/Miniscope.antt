@@ -16,7 +16,7 @@ use Rattle.meaning.specs.Term.{Var, Vars, Term, Terms, quant, op}
 use Rattle.meaning.specs.Tree.{termsOf, tree}
 use Rattle.meaning.specs.FreeTree.{has as hasVar, free}
 use Rattle.meaning.proofs.trees.Passed.{Passed}
-use Rattle.formulas.specs.Built.{tagOfMany}
+use Rattle.formulas.specs.Formula.{connectiveTag}
 use Rattle.meaning.proofs.truth.Over.{bool-cases}
 use Rattle.answers.specs.Outcome.{pass, refuse}
 use Rattle.bindings.specs.Binding.{Binding}
@@ -39,7 +39,7 @@ use Rattle.rules.proofs.refusals.Reasons.{terms-differ, lists-differ, f
 
 -- `(= (Q xs (op t ..)) (op u ..))`; many says which of `and` (true) and `or` goes with Q
 abbrev pub sideStep : (Bool → Bool) → Sort → Sort → Sort → Bool → Vars → Terms → Terms → Term
-sideStep many s s′ s″ Q xs ts us = equal s (binder Q xs (op (tagOfMany (many Q)) s′ ts)) (op (tagOfMany (many Q)) s″ us)
+sideStep many s s′ s″ Q xs ts us = equal s (binder Q xs (op (connectiveTag (many Q)) s′ ts)) (op (connectiveTag (many Q)) s″ us)
 
 -- the code, and the two numbers that it carries
 pub data WalkRefused (many : Bool → Bool) (tags values : List ℕ) (n x : ℕ) : ℕ → ℕ → ℕ → Type 0 where
@@ -54,7 +54,7 @@ pub data WalkRefused (many : Bool → Bool) (tags values : List ℕ) (n x : ℕ)
   -- rest is what is left of the outer variables
   not-left : (v : Var) (rest : Vars) → hasVar rest v ≡ false → WalkRefused many tags values n x 8 (v .name) 0
   still-free : (s s′ s″ : Sort) (Q : Bool) (xs : Vars) (ts us : Terms) (r : ℕ) → tree tags values x ≡ sideStep many s s′ s″ Q xs ts us
-      → tree tags values r ≡ op (tagOfMany (many Q)) s″ us → (v : Var) → hasVar xs v ≡ true → free (tree tags values r) v ≡ true
+      → tree tags values r ≡ op (connectiveTag (many Q)) s″ us → (v : Var) → hasVar xs v ≡ true → free (tree tags values r) v ≡ true
       → WalkRefused many tags values n x 12 (v .name) r
 
 module _ {tags values rules : List ℕ} {n : ℕ} (c : Passed tags values rules n) (many : Bool → Bool) (x : ℕ) (t : isTerm tags n x ≡ true) where
@@ -62,7 +62,7 @@ module _ {tags values rules : List ℕ} {n : ℕ} (c : Passed tags values rules 
   P = WalkRefused many tags values n x
 
   abbrev both-sides : Option Sides
-  both-sides = orElse (sidesOf tags values true (tagOfMany (many true)) x) (sidesOf tags values false (tagOfMany (many false)) x)
+  both-sides = orElse (sidesOf tags values true (connectiveTag (many true)) x) (sidesOf tags values false (connectiveTag (many false)) x)
 
   no-sides : both-sides ≡ none → (s s′ s″ : Sort) (Q : Bool) (xs : Vars) (ts us : Terms) → tree tags values x ≡ sideStep many s s′ s″ Q xs ts us → ⊥
   no-sides e s s′ s″ Q xs ts us is =
@@ -80,7 +80,7 @@ module _ {tags values rules : List ℕ} {n : ℕ} (c : Passed tags values rules 
       let z : _≡_ {A = ℕ} 0 1 = cc in
       omega arith
 
-  counts-refused : (s : Sides) → AreSides tags values n (tagOfMany (many (s .kind))) x s → eqb (length (s .from)) (length (s .to)) ≡ false → P 11 (length (s .from)) (length (s .to))
+  counts-refused : (s : Sides) → AreSides tags values n (connectiveTag (many (s .kind))) x s → eqb (length (s .from)) (length (s .to)) ≡ false → P 11 (length (s .from)) (length (s .to))
   counts-refused s a o =
       let f = terms-count (tree tags values) (s .from) in
       let g = terms-count (tree tags values) (s .to) in

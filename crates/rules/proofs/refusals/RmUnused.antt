@@ -17,7 +17,7 @@ use Rattle.meaning.proofs.truth.Over.{bool-cases}
 use Rattle.answers.specs.Outcome.{pass, refuse}
 use Rattle.meaning.proofs.patterns.Bindings.{varOf, varsAt}
 use Rattle.meaning.proofs.patterns.Sound.{beq-eq}
-use Rattle.formulas.specs.Pattern.{tagOf}
+use Rattle.formulas.specs.Formula.{quantifierTag}
 use Rattle.meaning.proofs.patterns.Trees.{quantifier-tree, equality-tree}
 use Rattle.quantifier_rules.specs.QntRmUnused.{removes, unused, bodyOr, qntRmUnused}
 use Rattle.schemas.specs.Schemas.{equal, binder}
@@ -28,7 +28,7 @@ use Rattle.rules.proofs.refusals.Reasons.{NoEquality, NoQuantifier, no-
 pub data RmRefused (tags values : List ℕ) (n x : ℕ) : ℕ → ℕ → ℕ → Type 0 where
   form : NoEquality (tree tags values x) → RmRefused tags values n x 2 x 0
   not-quantified : (p : ℕ) → isTerm tags n p ≡ true → NoQuantifier (tree tags values p) → RmRefused tags values n x 3 p 0
-  kinds : (Q R : Bool) → (Q ≡ R → ⊥) → RmRefused tags values n x 4 (tagOf Q) (tagOf R)
+  kinds : (Q R : Bool) → (Q ≡ R → ⊥) → RmRefused tags values n x 4 (quantifierTag Q) (quantifierTag R)
   bodies : (p q : ℕ) → isTerm tags n p ≡ true → isTerm tags n q ≡ true → (tree tags values p ≡ tree tags values q → ⊥) → RmRefused tags values n x 5 p q
   new : (s : Sort) (Q : Bool) (xs zs : Vars) (t : Term) → tree tags values x ≡ equal s (binder Q xs t) (binder Q zs t)
       → (v : Var) → has zs v ≡ true → has xs v ≡ false → RmRefused tags values n x 8 (v .name) 0

@@ -15,7 +15,7 @@ use Rattle.meaning.specs.Sort.{Sort, bool}
 use Rattle.meaning.specs.Term.{Vars, Term, Terms, op, tnil, tcons}
 use Rattle.meaning.specs.Tree.{termsOf, tree}
 use Rattle.meaning.proofs.trees.Passed.{Passed}
-use Rattle.formulas.specs.Built.{tagOfMany}
+use Rattle.formulas.specs.Formula.{connectiveTag}
 use Rattle.answers.specs.Outcome.{pass, _>>=_, _>>_, need, guard}
 use Rattle.meaning.proofs.patterns.Bindings.{varsAt}
 use Rattle.meaning.proofs.patterns.Passes.{need-passes, guard-passes, then-passes}
@@ -86,22 +86,22 @@ module _ {tags values rules : List ℕ} {n : ℕ} (c : Passed tags values rules 
 
     -- many says which operator goes with forall (true) and with exists
     pub sides-back : (many : Bool → Bool) (s s′ s″ : Sort) (Q : Bool) (xs : Vars) (ts us : Terms)
-        → tree tags values x ≡ equal s (binder Q xs (op (tagOfMany (many Q)) s′ ts)) (op (tagOfMany (many Q)) s″ us)
-        → SidesBack (orElse (sidesOf tags values true (tagOfMany (many true)) x) (sidesOf tags values false (tagOfMany (many false)) x)) Q xs ts us (op (tagOfMany (many Q)) s″ us)
+        → tree tags values x ≡ equal s (binder Q xs (op (connectiveTag (many Q)) s′ ts)) (op (connectiveTag (many Q)) s″ us)
+        → SidesBack (orElse (sidesOf tags values true (connectiveTag (many true)) x) (sidesOf tags values false (connectiveTag (many false)) x)) Q xs ts us (op (connectiveTag (many Q)) s″ us)
     sides-back many s s′ s″ Q xs ts us e = by-kind Q e
       where
-        bounds : (b : Bool) → (32 ≤ tagOfMany b) × (tagOfMany b < 167)
+        bounds : (b : Bool) → (32 ≤ connectiveTag b) × (connectiveTag b < 167)
         bounds true = (omega arith, omega arith)
         bounds false = (omega arith, omega arith)
 
-        by-kind : (Q : Bool) → tree tags values x ≡ equal s (binder Q xs (op (tagOfMany (many Q)) s′ ts)) (op (tagOfMany (many Q)) s″ us)
-            → SidesBack (orElse (sidesOf tags values true (tagOfMany (many true)) x) (sidesOf tags values false (tagOfMany (many false)) x)) Q xs ts us (op (tagOfMany (many Q)) s″ us)
+        by-kind : (Q : Bool) → tree tags values x ≡ equal s (binder Q xs (op (connectiveTag (many Q)) s′ ts)) (op (connectiveTag (many Q)) s″ us)
+            → SidesBack (orElse (sidesOf tags values true (connectiveTag (many true)) x) (sidesOf tags values false (connectiveTag (many false)) x)) Q xs ts us (op (connectiveTag (many Q)) s″ us)
         by-kind true e =
-            let b = one-side-back (tagOfMany (many true)) (bounds (many true) .0) (bounds (many true) .1) s s′ s″ true xs ts us e in
+            let b = one-side-back (connectiveTag (many true)) (bounds (many true) .0) (bounds (many true) .1) s s′ s″ true xs ts us e in
             record { s = b .s; found = rw (b .found); kind = b .kind; list = b .list; from-is = b .from-is; to-is = b .to-is; sorts = b .sorts; from = b .from; to = b .to; right-is = b .right-is; right = b .right }
         by-kind false e =
-            let b = one-side-back (tagOfMany (many false)) (bounds (many false) .0) (bounds (many false) .1) s s′ s″ false xs ts us e in
-            rw (not-forall (tagOfMany (many true)) s xs _ _ e) b
+            let b = one-side-back (connectiveTag (many false)) (bounds (many false) .0) (bounds (many false) .1) s s′ s″ false xs ts us e in
+            rw (not-forall (connectiveTag (many true)) s xs _ _ e) b
 
   -- ---- the operands
   operands-tree : (s : Sides) (ts us : List ℕ) → length ts ≡ length us → AllTerms tags n us → distributedAll tags values s ts us ≡ pass tt

@@ -12,7 +12,7 @@ use Rattle.meaning.specs.Sort.{Sort, bool}
 use Rattle.meaning.specs.Term.{Vars, Terms, quant, op, tnil, tcons, stated}
 use Rattle.meaning.specs.Tree.{termsOf, tree}
 use Rattle.meaning.proofs.trees.Passed.{Passed}
-use Rattle.formulas.specs.Built.{tagOfMany}
+use Rattle.formulas.specs.Formula.{connectiveTag}
 use Rattle.meaning.specs.Skeleton.{skeleton, skeletons, formOf}
 use Rattle.meaning.specs.Truth.{Assignment, Reading, Local, andOr, over, truth, truths, True}
 use Rattle.meaning.proofs.truth.Over.{same-at, andOr-intro, andOr-left, andOr-right, over-elim, over-intro}
@@ -51,12 +51,12 @@ module _ (R : Reading) where
       over-andOr b vs (truth R (skeleton t)) (truths R b (skeletons ts)) ρ ∙ ap (andOr b (over R b vs (truth R (skeleton t)) ρ)) (over-each b vs ts ρ)
 
   pub distribute-true : (b : Bool) (vs : Vars) (ts : Terms) (s s′ s″ : Sort) (ρ : A)
-      → True R (op 39 s (tcons (quant b bool vs (op (tagOfMany b) s′ ts)) (tcons (op (tagOfMany b) s″ (quantEach b vs ts)) tnil))) ρ ≡ true
+      → True R (op 39 s (tcons (quant b bool vs (op (connectiveTag b) s′ ts)) (tcons (op (connectiveTag b) s″ (quantEach b vs ts)) tnil))) ρ ≡ true
   unfolding True skeleton formOf stated
   distribute-true b vs ts s s′ s″ ρ =
-      equality-true R s (quant b bool vs (op (tagOfMany b) s′ ts)) (op (tagOfMany b) s″ (quantEach b vs ts)) ρ refl (sides b)
+      equality-true R s (quant b bool vs (op (connectiveTag b) s′ ts)) (op (connectiveTag b) s″ (quantEach b vs ts)) ρ refl (sides b)
     where
-      sides : (b : Bool) → True R (quant b bool vs (op (tagOfMany b) s′ ts)) ρ ≡ True R (op (tagOfMany b) s″ (quantEach b vs ts)) ρ
+      sides : (b : Bool) → True R (quant b bool vs (op (connectiveTag b) s′ ts)) ρ ≡ True R (op (connectiveTag b) s″ (quantEach b vs ts)) ρ
       sides true = over-each true vs ts ρ
       sides false = over-each false vs ts ρ
 

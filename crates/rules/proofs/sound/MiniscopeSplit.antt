@@ -14,7 +14,7 @@ use Rattle.meaning.specs.Term.{Var, Vars, Term, Terms, quant, op, tnil, tcons, 
 use Rattle.meaning.specs.Tree.{termsOf, tree}
 use Rattle.meaning.specs.FreeTree.{has, free, frees}
 use Rattle.meaning.proofs.trees.Passed.{Passed}
-use Rattle.formulas.specs.Built.{tagOfMany}
+use Rattle.formulas.specs.Formula.{connectiveTag}
 use Rattle.meaning.specs.Skeleton.{skeleton, skeletons, formOf}
 use Rattle.meaning.specs.Truth.{Assignment, Reading, Local, andOr, over, truths, True}
 use Rattle.meaning.proofs.truth.Over.{bool-cases, not-both, or-left, or-right, or-cases, same-at, andOr-intro, andOr-left, andOr-right, Subset, outside, Within, over-elim, over-intro}
@@ -146,11 +146,11 @@ module _ (R : Reading) (local : Local R) (b : Bool) where
 module _ (R : Reading) (local : Local R) where
   -- no outer variable is free on the right
   pub split-true : (b : Bool) (vs : Vars) (ts us : Terms) (s s′ s″ : Sort) → Split b vs ts us → Unfree vs (frees us) → (ρ : Assignment (R .Value))
-      → True R (op 39 s (tcons (quant b bool vs (op (tagOfMany (not b)) s′ ts)) (tcons (op (tagOfMany (not b)) s″ us) tnil))) ρ ≡ true
+      → True R (op 39 s (tcons (quant b bool vs (op (connectiveTag (not b)) s′ ts)) (tcons (op (connectiveTag (not b)) s″ us) tnil))) ρ ≡ true
   unfolding True skeleton formOf stated
   split-true b vs ts us s s′ s″ d unfree ρ = equality-true R s _ _ ρ refl (sides b d)
     where
-      sides : (b : Bool) → Split b vs ts us → True R (quant b bool vs (op (tagOfMany (not b)) s′ ts)) ρ ≡ True R (op (tagOfMany (not b)) s″ us) ρ
+      sides : (b : Bool) → Split b vs ts us → True R (quant b bool vs (op (connectiveTag (not b)) s′ ts)) ρ ≡ True R (op (connectiveTag (not b)) s″ us) ρ
       sides true d = over-split R local true vs ts us d unfree ρ
       sides false d = over-split R local false vs ts us d unfree ρ
 

@@ -11,7 +11,7 @@ use Rattle.meaning.specs.Sort.{Sort, bool}
 use Rattle.meaning.specs.Term.{quant, op, tnil, tcons}
 use Rattle.meaning.specs.Tree.{termsOf, tree}
 use Rattle.meaning.proofs.trees.Passed.{Passed}
-use Rattle.formulas.specs.Built.{tagOfMany}
+use Rattle.formulas.specs.Formula.{connectiveTag}
 use Rattle.formulas.specs.Pattern.{Quantifier, quantifier, operator, equality, andThen}
 use Rattle.quantifier_rules.specs.MiniscopeDistribute.{Sides, sidesOf, orElse, ofKind}
 use Rattle.meaning.proofs.patterns.Passes.{then-some, by-option, cond-some}
@@ -75,18 +75,18 @@ module _ {tags values rules : List ℕ} {n : ℕ} (c : Passed tags values rules 
 
   -- one of the two forms of a rule: many says which operator goes with forall (true) and with exists, `and` (true) or `or`
   pub either-sides : (many : Bool → Bool) (s : Sides)
-      → orElse (sidesOf tags values true (tagOfMany (many true)) x) (sidesOf tags values false (tagOfMany (many false)) x) ≡ some s
-      → AreSides tags values n (tagOfMany (many (s .kind))) x s
+      → orElse (sidesOf tags values true (connectiveTag (many true)) x) (sidesOf tags values false (connectiveTag (many false)) x) ≡ some s
+      → AreSides tags values n (connectiveTag (many (s .kind))) x s
   either-sides many s e =
-      by-option (sidesOf tags values true (tagOfMany (many true)) x)
+      by-option (sidesOf tags values true (connectiveTag (many true)) x)
       (λ s′ o. let d : some s′ ≡ some s = rw o at e in is true (o ∙ d))
       (λ o. is false (rw o at e))
     where
-      bounds : (b : Bool) → (32 ≤ tagOfMany b) × (tagOfMany b < 167)
+      bounds : (b : Bool) → (32 ≤ connectiveTag b) × (connectiveTag b < 167)
       bounds true = (omega arith, omega arith)
       bounds false = (omega arith, omega arith)
 
-      is : (b : Bool) → sidesOf tags values b (tagOfMany (many b)) x ≡ some s → AreSides tags values n (tagOfMany (many (s .kind))) x s
+      is : (b : Bool) → sidesOf tags values b (connectiveTag (many b)) x ≡ some s → AreSides tags values n (connectiveTag (many (s .kind))) x s
       is b o =
-          let (k, a) = sides-tree b (tagOfMany (many b)) (bounds (many b) .0) (bounds (many b) .1) s o in
-          subst (λ (b : Bool). AreSides tags values n (tagOfMany (many b)) x s) (sym k) a
+          let (k, a) = sides-tree b (connectiveTag (many b)) (bounds (many b) .0) (bounds (many b) .1) s o in
+          subst (λ (b : Bool). AreSides tags values n (connectiveTag (many b)) x s) (sym k) a

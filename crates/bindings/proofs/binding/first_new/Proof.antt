@@ -27,23 +27,23 @@ mul-lacks c = search needs
 shared-slice-read-lacks : tie.Need-shared-slice-read-lacks Inv-loop μ-loop
 shared-slice-read-lacks c = search needs
 
-add-lacks : tie.Need-add-lacks Inv-loop μ-loop
-add-lacks c = search needs
+add-t5 : tie.Need-add-t5 Inv-loop μ-loop
+add-t5 c = search needs
 
-mul-lacks-2 : tie.Need-mul-lacks-2 Inv-loop μ-loop
-mul-lacks-2 c = search needs
+mul-t10 : tie.Need-mul-t10 Inv-loop μ-loop
+mul-t10 c = search needs
 
-shared-slice-read-lacks-2 : tie.Need-shared-slice-read-lacks-2 Inv-loop μ-loop
-shared-slice-read-lacks-2 c = search needs
+shared-slice-read-t12 : tie.Need-shared-slice-read-t12 Inv-loop μ-loop
+shared-slice-read-t12 c = search needs
 
 lacks-requires : tie.Need-lacks-requires Inv-loop μ-loop
 lacks-requires c κs = search needs
 
-mul-t13 : tie.Need-mul-t13 Inv-loop μ-loop
-mul-t13 c = search needs
+mul-t14 : tie.Need-mul-t14 Inv-loop μ-loop
+mul-t14 c = search needs
 
-shared-slice-read-t15 : tie.Need-shared-slice-read-t15 Inv-loop μ-loop
-shared-slice-read-t15 c = search needs
+shared-slice-read-t16 : tie.Need-shared-slice-read-t16 Inv-loop μ-loop
+shared-slice-read-t16 c = search needs
 
 returns : tie.Need-returns Inv-loop μ-loop
 returns c =
@@ -72,12 +72,12 @@ first-new-spec =
     sub-loop
     mul-lacks
     shared-slice-read-lacks
-    add-lacks
-    mul-lacks-2
-    shared-slice-read-lacks-2
+    add-t5
+    mul-t10
+    shared-slice-read-t12
     lacks-requires
-    mul-t13
-    shared-slice-read-t15
+    mul-t14
+    shared-slice-read-t16
     returns
     add-i
     loop-less

@@ -9,7 +9,7 @@ use Rattle.bindings.proofs.binding.has.Statement.{statement}
 use Rattle.bindings.proofs.binding.has.Tie as tie
 
 abbrev Inv-loop : tie.InvT-loop
-Inv-loop list name sort i₀ i = (i ≤ length list) × (has (bindingsOf list) (pair name sort) ≡ has (bindingsOf (drop i list)) (pair name sort))
+Inv-loop list name sort i₀ i = (i ≤ length list) × (has (bindingsOf list) (pair name (sort .0)) ≡ has (bindingsOf (drop i list)) (pair name (sort .0)))
 
 abbrev μ-loop : tie.MeasureT-loop
 μ-loop list name sort i₀ i = length list - i
@@ -26,14 +26,14 @@ mul-same-pair c = search needs
 shared-slice-read-same-pair : tie.Need-shared-slice-read-same-pair Inv-loop μ-loop
 shared-slice-read-same-pair c = search needs
 
-add-same-pair : tie.Need-add-same-pair Inv-loop μ-loop
-add-same-pair c = search needs
+add-t6 : tie.Need-add-t6 Inv-loop μ-loop
+add-t6 c = search needs
 
-mul-same-pair-2 : tie.Need-mul-same-pair-2 Inv-loop μ-loop
-mul-same-pair-2 c = search needs
+mul-t11 : tie.Need-mul-t11 Inv-loop μ-loop
+mul-t11 c = search needs
 
-shared-slice-read-same-pair-2 : tie.Need-shared-slice-read-same-pair-2 Inv-loop μ-loop
-shared-slice-read-same-pair-2 c = search needs
+shared-slice-read-t13 : tie.Need-shared-slice-read-t13 Inv-loop μ-loop
+shared-slice-read-t13 c = search needs
 
 same-pair-requires : tie.Need-same-pair-requires Inv-loop μ-loop
 same-pair-requires c κs = search needs
@@ -63,9 +63,9 @@ has-spec =
     sub-loop
     mul-same-pair
     shared-slice-read-same-pair
-    add-same-pair
-    mul-same-pair-2
-    shared-slice-read-same-pair-2
+    add-t6
+    mul-t11
+    shared-slice-read-t13
     same-pair-requires
     returns
     add-i

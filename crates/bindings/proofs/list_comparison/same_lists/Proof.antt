@@ -31,8 +31,14 @@ mul-same-pair c = search needs
 shared-slice-read-same-pair : tie.Need-shared-slice-read-same-pair Inv-loop μ-loop
 shared-slice-read-same-pair c = search needs
 
-add-same-pair : tie.Need-add-same-pair Inv-loop μ-loop
-add-same-pair c = search needs
+add-t5 : tie.Need-add-t5 Inv-loop μ-loop
+add-t5 c = search needs
+
+mul-t9 : tie.Need-mul-t9 Inv-loop μ-loop
+mul-t9 c = search needs
+
+shared-slice-read-t11 : tie.Need-shared-slice-read-t11 Inv-loop μ-loop
+shared-slice-read-t11 c = search needs
 
 mul-same-pair-2 : tie.Need-mul-same-pair-2 Inv-loop μ-loop
 mul-same-pair-2 c = search needs
@@ -40,20 +46,14 @@ mul-same-pair-2 c = search needs
 shared-slice-read-same-pair-2 : tie.Need-shared-slice-read-same-pair-2 Inv-loop μ-loop
 shared-slice-read-same-pair-2 c = search needs
 
-mul-same-pair-3 : tie.Need-mul-same-pair-3 Inv-loop μ-loop
-mul-same-pair-3 c = search needs
+add-t16 : tie.Need-add-t16 Inv-loop μ-loop
+add-t16 c = search needs
 
-shared-slice-read-same-pair-3 : tie.Need-shared-slice-read-same-pair-3 Inv-loop μ-loop
-shared-slice-read-same-pair-3 c = search needs
+mul-t17 : tie.Need-mul-t17 Inv-loop μ-loop
+mul-t17 c = search needs
 
-add-same-pair-2 : tie.Need-add-same-pair-2 Inv-loop μ-loop
-add-same-pair-2 c = search needs
-
-mul-same-pair-4 : tie.Need-mul-same-pair-4 Inv-loop μ-loop
-mul-same-pair-4 c = search needs
-
-shared-slice-read-same-pair-4 : tie.Need-shared-slice-read-same-pair-4 Inv-loop μ-loop
-shared-slice-read-same-pair-4 c = search needs
+shared-slice-read-t19 : tie.Need-shared-slice-read-t19 Inv-loop μ-loop
+shared-slice-read-t19 c = search needs
 
 same-pair-requires : tie.Need-same-pair-requires Inv-loop μ-loop
 same-pair-requires c κs = search needs
@@ -89,14 +89,14 @@ same-lists-spec =
     returns
     mul-same-pair
     shared-slice-read-same-pair
-    add-same-pair
+    add-t5
+    mul-t9
+    shared-slice-read-t11
     mul-same-pair-2
     shared-slice-read-same-pair-2
-    mul-same-pair-3
-    shared-slice-read-same-pair-3
-    add-same-pair-2
-    mul-same-pair-4
-    shared-slice-read-same-pair-4
+    add-t16
+    mul-t17
+    shared-slice-read-t19
     same-pair-requires
     returns-2
     add-i

@@ -10,7 +10,7 @@ use Rattle.bindings.proofs.used_pairs.is_left.Statement.{statement}
 use Rattle.bindings.proofs.used_pairs.is_left.Tie as tie
 
 abbrev Inv-loop : tie.InvT-loop
-Inv-loop outer used name sort i₀ k₀ i k = (i ≤ length outer) × (has (leftOf used (bindingsOf outer)) (pair name sort) ≡ has (leftFrom used k outer i) (pair name sort))
+Inv-loop outer used name sort i₀ k₀ i k = (i ≤ length outer) × (has (leftOf used (bindingsOf outer)) (pair name (sort .0)) ≡ has (leftFrom used k outer i) (pair name (sort .0)))
 
 abbrev μ-loop : tie.MeasureT-loop
 μ-loop outer used name sort i₀ k₀ i k = length used - k
@@ -33,14 +33,14 @@ mul-is-left-pair c = search needs
 shared-slice-read-is-left-pair-2 : tie.Need-shared-slice-read-is-left-pair-2 Inv-loop μ-loop
 shared-slice-read-is-left-pair-2 c = search needs
 
-add-is-left-pair : tie.Need-add-is-left-pair Inv-loop μ-loop
-add-is-left-pair c = search needs
+add-t9 : tie.Need-add-t9 Inv-loop μ-loop
+add-t9 c = search needs
 
-mul-is-left-pair-2 : tie.Need-mul-is-left-pair-2 Inv-loop μ-loop
-mul-is-left-pair-2 c = search needs
+mul-t15 : tie.Need-mul-t15 Inv-loop μ-loop
+mul-t15 c = search needs
 
-shared-slice-read-is-left-pair-3 : tie.Need-shared-slice-read-is-left-pair-3 Inv-loop μ-loop
-shared-slice-read-is-left-pair-3 c = search needs
+shared-slice-read-t17 : tie.Need-shared-slice-read-t17 Inv-loop μ-loop
+shared-slice-read-t17 c = search needs
 
 is-left-pair-requires : tie.Need-is-left-pair-requires Inv-loop μ-loop
 is-left-pair-requires c κs = search needs
@@ -75,9 +75,9 @@ is-left-spec =
     shared-slice-read-is-left-pair
     mul-is-left-pair
     shared-slice-read-is-left-pair-2
-    add-is-left-pair
-    mul-is-left-pair-2
-    shared-slice-read-is-left-pair-3
+    add-t9
+    mul-t15
+    shared-slice-read-t17
     is-left-pair-requires
     returns-2
     add-i

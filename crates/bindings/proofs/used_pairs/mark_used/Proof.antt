@@ -10,7 +10,7 @@ use Rattle.bindings.proofs.used_pairs.mark_used.Statement.{statement}
 use Rattle.bindings.proofs.used_pairs.mark_used.Tie as tie
 
 abbrev Inv-loop : tie.InvT-loop
-Inv-loop outer used₀ name sort i₀ k₀ used i k = (length used ≡ length used₀) × ((i ≤ length outer) × (marked (pair name sort) used₀ (bindingsOf outer) ≡ markedFrom (pair name sort) used k outer i))
+Inv-loop outer used₀ name sort i₀ k₀ used i k = (length used ≡ length used₀) × ((i ≤ length outer) × (marked (pair name (sort .0)) used₀ (bindingsOf outer) ≡ markedFrom (pair name (sort .0)) used k outer i))
 
 abbrev μ-loop : tie.MeasureT-loop
 μ-loop outer used₀ name sort i₀ k₀ used i k = length used₀ - k
@@ -36,14 +36,14 @@ mul-mark-of c = search needs
 shared-slice-read-mark-of : tie.Need-shared-slice-read-mark-of Inv-loop μ-loop
 shared-slice-read-mark-of c = search needs
 
-add-mark-of : tie.Need-add-mark-of Inv-loop μ-loop
-add-mark-of c = search needs
+add-t9 : tie.Need-add-t9 Inv-loop μ-loop
+add-t9 c = search needs
 
-mul-mark-of-2 : tie.Need-mul-mark-of-2 Inv-loop μ-loop
-mul-mark-of-2 c = search needs
+mul-t15 : tie.Need-mul-t15 Inv-loop μ-loop
+mul-t15 c = search needs
 
-shared-slice-read-mark-of-2 : tie.Need-shared-slice-read-mark-of-2 Inv-loop μ-loop
-shared-slice-read-mark-of-2 c = search needs
+shared-slice-read-t17 : tie.Need-shared-slice-read-t17 Inv-loop μ-loop
+shared-slice-read-t17 c = search needs
 
 mark-of-requires : tie.Need-mark-of-requires Inv-loop μ-loop
 mark-of-requires c κs = search needs
@@ -82,9 +82,9 @@ mark-used-spec =
     slice-read-mark-of
     mul-mark-of
     shared-slice-read-mark-of
-    add-mark-of
-    mul-mark-of-2
-    shared-slice-read-mark-of-2
+    add-t9
+    mul-t15
+    shared-slice-read-t17
     mark-of-requires
     slice-write-used
     add-i

@@ -26,23 +26,23 @@ mul-use-pair c = search needs
 shared-slice-read-use-pair : tie.Need-shared-slice-read-use-pair Inv-loop μ-loop
 shared-slice-read-use-pair c = search needs
 
-add-use-pair : tie.Need-add-use-pair Inv-loop μ-loop
-add-use-pair c = search needs
+add-t6 : tie.Need-add-t6 Inv-loop μ-loop
+add-t6 c = search needs
 
-mul-use-pair-2 : tie.Need-mul-use-pair-2 Inv-loop μ-loop
-mul-use-pair-2 c = search needs
+mul-t12 : tie.Need-mul-t12 Inv-loop μ-loop
+mul-t12 c = search needs
 
-shared-slice-read-use-pair-2 : tie.Need-shared-slice-read-use-pair-2 Inv-loop μ-loop
-shared-slice-read-use-pair-2 c = search needs
+shared-slice-read-t14 : tie.Need-shared-slice-read-t14 Inv-loop μ-loop
+shared-slice-read-t14 c = search needs
 
 use-pair-requires : tie.Need-use-pair-requires Inv-loop μ-loop
 use-pair-requires c κs = search needs
 
-mul-t16 : tie.Need-mul-t16 Inv-loop μ-loop
-mul-t16 c = search needs
+mul-t17 : tie.Need-mul-t17 Inv-loop μ-loop
+mul-t17 c = search needs
 
-shared-slice-read-t18 : tie.Need-shared-slice-read-t18 Inv-loop μ-loop
-shared-slice-read-t18 c = search needs
+shared-slice-read-t19 : tie.Need-shared-slice-read-t19 Inv-loop μ-loop
+shared-slice-read-t19 c = search needs
 
 same-length : tie.Need-same-length Inv-loop μ-loop
 same-length c = search needs
@@ -75,12 +75,12 @@ use-all-spec =
     sub-loop
     mul-use-pair
     shared-slice-read-use-pair
-    add-use-pair
-    mul-use-pair-2
-    shared-slice-read-use-pair-2
+    add-t6
+    mul-t12
+    shared-slice-read-t14
     use-pair-requires
-    mul-t16
-    shared-slice-read-t18
+    mul-t17
+    shared-slice-read-t19
     same-length
     returns
     add-i

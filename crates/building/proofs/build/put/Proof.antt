@@ -18,8 +18,8 @@ cast-t17 c =
 enum-known-added-2 : tie.Need-enum-known-added-2
 enum-known-added-2 c = search needs
 
-cast-t18 : tie.Need-cast-t18
-cast-t18 c =
+cast-t19 : tie.Need-cast-t19
+cast-t19 c =
     let h = put-new-small _ _ _ (c .before .before .before .before .before .before .before .before .before .before .before .before .before .before .pre .0) _ _ _ _ _ (c .before .before .before .before .before .before .before .add .ensures .0) _ _ (c .before .added2 .given .1) in
     search needs
 
@@ -61,7 +61,7 @@ put-spec =
     enum-known-added
     cast-t17
     enum-known-added-2
-    cast-t18
+    cast-t19
     enum-told
     same-length
     same-length-2

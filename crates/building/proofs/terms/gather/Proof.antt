@@ -7,34 +7,34 @@ use Rattle.building.proofs.terms.gather.Statement.{statement}
 use Rattle.building.proofs.terms.gather.Tie as tie
 
 abbrev Inv-loop : tie.InvT-loop
-Inv-loop run memo row₀ polarity j₀ row j = Gathering memo polarity run row₀ row j
+Inv-loop run memo scratch₀ polarity j₀ scratch j = Gathering memo polarity run scratch₀ scratch j
 
 abbrev μ-loop : tie.MeasureT-loop
-μ-loop run memo row₀ polarity j₀ row j = length run - j
+μ-loop run memo scratch₀ polarity j₀ scratch j = length run - j
 
-slice-write-row : tie.Need-slice-write-row Inv-loop μ-loop
-slice-write-row c = search needs
+slice-write-scratch : tie.Need-slice-write-scratch Inv-loop μ-loop
+slice-write-scratch c = search needs
 
 loop-holds : tie.Need-loop-holds Inv-loop μ-loop
 loop-holds c = search gatherings
 
-mul-place-in : tie.Need-mul-place-in Inv-loop μ-loop
-mul-place-in c = search needs
+mul-t8 : tie.Need-mul-t8 Inv-loop μ-loop
+mul-t8 c = search needs
 
-shared-slice-read-place-in : tie.Need-shared-slice-read-place-in Inv-loop μ-loop
-shared-slice-read-place-in c = search needs
+shared-slice-read-t11 : tie.Need-shared-slice-read-t11 Inv-loop μ-loop
+shared-slice-read-t11 c = search needs
 
 place-in-requires : tie.Need-place-in-requires Inv-loop μ-loop
 place-in-requires c κs = search needs
 
-add-row : tie.Need-add-row Inv-loop μ-loop
-add-row c = search needs
+add-scratch : tie.Need-add-scratch Inv-loop μ-loop
+add-scratch c = search needs
 
-mul-row : tie.Need-mul-row Inv-loop μ-loop
-mul-row c = search needs
+mul-scratch : tie.Need-mul-scratch Inv-loop μ-loop
+mul-scratch c = search needs
 
-slice-write-row-2 : tie.Need-slice-write-row-2 Inv-loop μ-loop
-slice-write-row-2 c = search needs
+slice-write-scratch-2 : tie.Need-slice-write-scratch-2 Inv-loop μ-loop
+slice-write-scratch-2 c = search needs
 
 add-j : tie.Need-add-j Inv-loop μ-loop
 add-j c = search needs
@@ -60,14 +60,14 @@ gather-spec =
     (tie.spec
     Inv-loop
     μ-loop
-    slice-write-row
+    slice-write-scratch
     loop-holds
-    mul-place-in
-    shared-slice-read-place-in
+    mul-t8
+    shared-slice-read-t11
     place-in-requires
-    add-row
-    mul-row
-    slice-write-row-2
+    add-scratch
+    mul-scratch
+    slice-write-scratch-2
     add-j
     loop-less
     loop-again

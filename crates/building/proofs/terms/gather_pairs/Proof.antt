@@ -7,34 +7,34 @@ use Rattle.building.proofs.terms.gather_pairs.Statement.{statement}
 use Rattle.building.proofs.terms.gather_pairs.Tie as tie
 
 abbrev Inv-loop : tie.InvT-loop
-Inv-loop run body row₀ j₀ row j = Pairing body run row₀ row j
+Inv-loop run scratch₀ j₀ scratch j = Pairing run scratch₀ scratch j
 
 abbrev μ-loop : tie.MeasureT-loop
-μ-loop run body row₀ j₀ row j = length run - j
+μ-loop run scratch₀ j₀ scratch j = length run - j
 
-slice-write-row : tie.Need-slice-write-row Inv-loop μ-loop
-slice-write-row c = search needs
+slice-write-scratch : tie.Need-slice-write-scratch Inv-loop μ-loop
+slice-write-scratch c = search needs
 
-slice-write-row-2 : tie.Need-slice-write-row-2 Inv-loop μ-loop
-slice-write-row-2 c = search needs
+slice-write-scratch-2 : tie.Need-slice-write-scratch-2 Inv-loop μ-loop
+slice-write-scratch-2 c = search needs
 
 loop-holds : tie.Need-loop-holds Inv-loop μ-loop
 loop-holds c = search pairings
 
-mul-row : tie.Need-mul-row Inv-loop μ-loop
-mul-row c = search needs
+mul-scratch : tie.Need-mul-scratch Inv-loop μ-loop
+mul-scratch c = search needs
 
-shared-slice-read-row : tie.Need-shared-slice-read-row Inv-loop μ-loop
-shared-slice-read-row c = search needs
+shared-slice-read-scratch : tie.Need-shared-slice-read-scratch Inv-loop μ-loop
+shared-slice-read-scratch c = search needs
 
-add-row : tie.Need-add-row Inv-loop μ-loop
-add-row c = search needs
+add-scratch : tie.Need-add-scratch Inv-loop μ-loop
+add-scratch c = search needs
 
-mul-row-2 : tie.Need-mul-row-2 Inv-loop μ-loop
-mul-row-2 c = search needs
+mul-scratch-2 : tie.Need-mul-scratch-2 Inv-loop μ-loop
+mul-scratch-2 c = search needs
 
-slice-write-row-3 : tie.Need-slice-write-row-3 Inv-loop μ-loop
-slice-write-row-3 c = search needs
+slice-write-scratch-3 : tie.Need-slice-write-scratch-3 Inv-loop μ-loop
+slice-write-scratch-3 c = search needs
 
 add-j : tie.Need-add-j Inv-loop μ-loop
 add-j c = search needs
@@ -60,14 +60,14 @@ gather-pairs-spec =
     (tie.spec
     Inv-loop
     μ-loop
-    slice-write-row
-    slice-write-row-2
+    slice-write-scratch
+    slice-write-scratch-2
     loop-holds
-    mul-row
-    shared-slice-read-row
-    add-row
-    mul-row-2
-    slice-write-row-3
+    mul-scratch
+    shared-slice-read-scratch
+    add-scratch
+    mul-scratch-2
+    slice-write-scratch-3
     add-j
     loop-less
     loop-again

@@ -12,11 +12,11 @@ cell-requires c κs = search needs
 returns : tie.Need-returns
 returns c = search places
 
-sub-result : tie.Need-sub-result
-sub-result c = search needs
+sub-t7 : tie.Need-sub-t7
+sub-t7 c = search needs
 
 returns-2 : tie.Need-returns-2
 returns-2 c = search places
 
 pub place-in-spec : {M : Type 1} → statement M
-place-in-spec = tie.close (tie.spec slot-requires cell-requires returns sub-result returns-2)
+place-in-spec = tie.close (tie.spec slot-requires cell-requires returns sub-t7 returns-2)

@@ -4,8 +4,8 @@ use borrow.Author.Needs.{needs}
 use Rattle.building.proofs.terms.put_pair.Statement.{statement}
 use Rattle.building.proofs.terms.put_pair.Tie as tie
 
-tag-of-many-requires : tie.Need-tag-of-many-requires
-tag-of-many-requires c κs = search needs
+connective-tag-requires : tie.Need-connective-tag-requires
+connective-tag-requires c κs = search needs
 
 slice-aggregate-put : tie.Need-slice-aggregate-put
 slice-aggregate-put c = search needs
@@ -26,7 +26,7 @@ pub put-pair-spec : {M : Type 1} → statement M
 put-pair-spec =
     tie.close
     (tie.spec
-    tag-of-many-requires
+    connective-tag-requires
     slice-aggregate-put
     put-requires
     same-length

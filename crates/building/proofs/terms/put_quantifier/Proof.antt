@@ -26,8 +26,8 @@ gather-pairs-requires c κs = let h = run-short _ _ _ _ (c .before .before .befo
 flip-requires : tie.Need-flip-requires
 flip-requires c κs = search needs
 
-tag-of-quantifier-requires : tie.Need-tag-of-quantifier-requires
-tag-of-quantifier-requires c κs = search needs
+quantifier-tag-requires : tie.Need-quantifier-tag-requires
+quantifier-tag-requires c κs = search needs
 
 slice-reshare-prefix-put : tie.Need-slice-reshare-prefix-put
 slice-reshare-prefix-put c = search needs
@@ -45,7 +45,7 @@ same-length-2 : tie.Need-same-length-2
 same-length-2 c = c .before .values .given
 
 same-length-3 : tie.Need-same-length-3
-same-length-3 c = c .before .before .before .before .before .before .before .before .before .before .before .before .row .given
+same-length-3 c = c .before .before .before .before .before .before .before .before .before .before .before .before .scratch .given
 
 returns : tie.Need-returns
 returns c = search (terms, indexings)
@@ -61,7 +61,7 @@ put-quantifier-spec =
     operands-requires
     gather-pairs-requires
     flip-requires
-    tag-of-quantifier-requires
+    quantifier-tag-requires
     slice-reshare-prefix-put
     slice-aggregate-put
     put-requires

@@ -3,6 +3,9 @@ use borrow.Author.Needs.{needs}
 use Rattle.cells.proofs.marks.set_mark.Statement.{statement}
 use Rattle.cells.proofs.marks.set_mark.Tie as tie
 
+cast-i : tie.Need-cast-i
+cast-i c = search needs
+
 slice-write-marks : tie.Need-slice-write-marks
 slice-write-marks c = search needs
 
@@ -16,4 +19,4 @@ returns-2 : tie.Need-returns-2
 returns-2 c = search set-past
 
 pub set-mark-spec : {M : Type 1} → statement M
-set-mark-spec = tie.close (tie.spec slice-write-marks same-length returns returns-2)
+set-mark-spec = tie.close (tie.spec cast-i slice-write-marks same-length returns returns-2)

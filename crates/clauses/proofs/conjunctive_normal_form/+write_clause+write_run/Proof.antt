@@ -114,8 +114,8 @@ write-clause-returns-4 t c = search writes
 write-run-returns : (t : ℕ) → write-run-lts.Need-returns (write-run-calls t) (write-run-at t) write-run.Post
 write-run-returns t c = search writes
 
-write-run-shared-slice-read-u : (t : ℕ) → write-run-lts.Need-shared-slice-read-u (write-run-calls t) (write-run-at t) write-run.Post
-write-run-shared-slice-read-u t c = search needs
+write-run-shared-slice-read-t17 : (t : ℕ) → write-run-lts.Need-shared-slice-read-t17 (write-run-calls t) (write-run-at t) write-run.Post
+write-run-shared-slice-read-t17 t c = search needs
 
 write-run-count-at-requires : (t : ℕ) → write-run-lts.Need-count-at-requires (write-run-calls t) (write-run-at t) write-run.Post
 write-run-count-at-requires t c κs = search needs
@@ -179,7 +179,7 @@ pub +write-clause+write-run-spec : {M : Type 1} → statement M
     (write-run-at t)
     write-run.Post
     (write-run-returns t)
-    (write-run-shared-slice-read-u t)
+    (write-run-shared-slice-read-t17 t)
     (write-run-count-at-requires t)
     (write-run-take-apart-requires t)
     (write-run-write-clause-requires t)

@@ -51,8 +51,8 @@ from-term-calls t = (mark-at-reads.Asked, mark-at-reads.Learnt, normal-view-read
 from-run-returns : (t : ℕ) → from-run-lts.Need-returns (from-run-calls t) (from-run-at t) from-run.Post
 from-run-returns t c = search walks
 
-from-run-shared-slice-read-u : (t : ℕ) → from-run-lts.Need-shared-slice-read-u (from-run-calls t) (from-run-at t) from-run.Post
-from-run-shared-slice-read-u t c = search needs
+from-run-shared-slice-read-t12 : (t : ℕ) → from-run-lts.Need-shared-slice-read-t12 (from-run-calls t) (from-run-at t) from-run.Post
+from-run-shared-slice-read-t12 t c = search needs
 
 from-run-from-term-requires : (t : ℕ) → from-run-lts.Need-from-term-requires (from-run-calls t) (from-run-at t) from-run.Post
 from-run-from-term-requires t c κs = (search head-falls, search needs)
@@ -152,7 +152,7 @@ pub +from-run+from-term-spec : {M : Type 1} → statement M
     (from-run-at t)
     from-run.Post
     (from-run-returns t)
-    (from-run-shared-slice-read-u t)
+    (from-run-shared-slice-read-t12 t)
     (from-run-from-term-requires t)
     (from-run-same-length t)
     (from-run-returns-2 t)

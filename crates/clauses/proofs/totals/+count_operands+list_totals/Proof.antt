@@ -64,8 +64,8 @@ list-totals-calls t = (cell-reads.Asked, cell-reads.Learnt, noted-reads.Asked, n
 count-operands-returns : (t : ℕ) → count-operands-lts.Need-returns (count-operands-calls t) (count-operands-at t) count-operands.Post
 count-operands-returns t c = search walks
 
-count-operands-shared-slice-read-u : (t : ℕ) → count-operands-lts.Need-shared-slice-read-u (count-operands-calls t) (count-operands-at t) count-operands.Post
-count-operands-shared-slice-read-u t c = search needs
+count-operands-shared-slice-read-t15 : (t : ℕ) → count-operands-lts.Need-shared-slice-read-t15 (count-operands-calls t) (count-operands-at t) count-operands.Post
+count-operands-shared-slice-read-t15 t c = search needs
 
 count-operands-list-totals-requires : (t : ℕ) → count-operands-lts.Need-list-totals-requires (count-operands-calls t) (count-operands-at t) count-operands.Post
 count-operands-list-totals-requires t c κs = (search head-falls, search needs)
@@ -194,7 +194,7 @@ pub +count-operands+list-totals-spec : {M : Type 1} → statement M
     (count-operands-at t)
     count-operands.Post
     (count-operands-returns t)
-    (count-operands-shared-slice-read-u t)
+    (count-operands-shared-slice-read-t15 t)
     (count-operands-list-totals-requires t)
     (count-operands-sub-count-operands t)
     (count-operands-part-count-operands-start t)

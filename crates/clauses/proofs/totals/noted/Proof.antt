@@ -3,6 +3,9 @@ use borrow.Author.Needs.{needs}
 use Rattle.clauses.proofs.totals.noted.Statement.{statement}
 use Rattle.clauses.proofs.totals.noted.Tie as tie
 
+cast-at : tie.Need-cast-at
+cast-at c = search needs
+
 cell-requires : tie.Need-cell-requires
 cell-requires c κs = search needs
 
@@ -16,4 +19,4 @@ returns : tie.Need-returns
 returns c = search steps
 
 pub noted-spec : {M : Type 1} → statement M
-noted-spec = tie.close (tie.spec cell-requires cell-requires-2 sub-t7 returns)
+noted-spec = tie.close (tie.spec cast-at cell-requires cell-requires-2 sub-t7 returns)

@@ -19,11 +19,11 @@ loop-holds c = search folds
 sub-i : tie.Need-sub-i Inv-loop μ-loop
 sub-i c = search needs
 
-mul-noted : tie.Need-mul-noted Inv-loop μ-loop
-mul-noted c = search needs
+mul-t9 : tie.Need-mul-t9 Inv-loop μ-loop
+mul-t9 c = search needs
 
-shared-slice-read-noted : tie.Need-shared-slice-read-noted Inv-loop μ-loop
-shared-slice-read-noted c = search needs
+shared-slice-read-t11 : tie.Need-shared-slice-read-t11 Inv-loop μ-loop
+shared-slice-read-t11 c = search needs
 
 noted-requires : tie.Need-noted-requires Inv-loop μ-loop
 noted-requires c κs = search fold-counted
@@ -49,8 +49,8 @@ run-totals-spec =
     start-requires
     loop-holds
     sub-i
-    mul-noted
-    shared-slice-read-noted
+    mul-t9
+    shared-slice-read-t11
     noted-requires
     combine-requires
     loop-less

@@ -10,7 +10,7 @@ use Rattle.clausification.proofs.clause_search.any_clause.Tie as tie
 
 abbrev Inv-loop : tie.InvT-loop
 Inv-loop tags values x literals ends count i₀ start₀ i start =
-    anyClause (isClause tags values x) (clausesIn literals ends 0 count) ≡ anyClause (isClause tags values x) (clausesIn literals (drop i ends) start (count - i))
+    anyClause (isClause tags values (x .0)) (clausesIn literals ends 0 count) ≡ anyClause (isClause tags values (x .0)) (clausesIn literals (drop i ends) start (count - i))
 
 abbrev μ-loop : tie.MeasureT-loop
 μ-loop tags values x literals ends count i₀ start₀ i start = count - i

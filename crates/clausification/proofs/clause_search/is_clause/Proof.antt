@@ -9,6 +9,9 @@ shared-slice-read-result c = search needs
 returns : tie.Need-returns
 returns c = search one-clause
 
+cast-at : tie.Need-cast-at
+cast-at c = search needs
+
 cell-requires : tie.Need-cell-requires
 cell-requires c κs = search needs
 
@@ -30,6 +33,7 @@ is-clause-spec =
     (tie.spec
     shared-slice-read-result
     returns
+    cast-at
     cell-requires
     returns-2
     operands-requires

@@ -83,15 +83,15 @@ clause-follows-requires : tie.Need-clause-follows-requires
 clause-follows-requires c κs = search needs
 
 same-length-5 : tie.Need-same-length-5
-same-length-5 c = omega (arith, c .before .before .before .before .before .before .before .before .before .before .before .before .before .before .before .before .before .before .before .before .before .tags .given)
+same-length-5 c = omega (arith, c .before .before .before .before .before .before .before .before .before .before .before .before .before .before .before .before .before .before .before .before .before .before .tags .given)
 
 same-length-6 : tie.Need-same-length-6
-same-length-6 c = c .before .before .before .before .before .before .before .before .before .before .before .before .before .before .before .before .before .before .before .values .given
+same-length-6 c = c .before .before .before .before .before .before .before .before .before .before .before .before .before .before .before .before .before .before .before .before .values .given
 
 returns-3 : tie.Need-returns-3
 returns-3 c = (
-  clausified-follows _ _ _ _ _ _ _ (c .before .before .before .before .before .before .before .before .before .before .before .before .before .before .before .before .before .before .before .before .before .before .before .before .before .before .before .before .pre .1) _ _ _ (c .before .before .before .before .before .before .before .before .before .before .before .before .before .before .before .before .before .before .before .before .before .before .build-forms .ensures .0) _ _ _ _ (c .before .before .before .before .before .before .before .before .before .before .before .before .before .before .before .before .x .given .1) _ _ _ (c .before .before .before .before .before .before .before .before .before .before .list-clauses .ensures) (c .before .before .before .before .before .before .if1 .left) _ (c .clause-follows .ensures),
-  c .before .before .before .before .before .before .before .before .before .before .before .before .before .before .before .before .before .before .before .before .before .before .build-forms .ensures .1,
+  clausified-follows _ _ _ _ _ _ _ (c .before .before .before .before .before .before .before .before .before .before .before .before .before .before .before .before .before .before .before .before .before .before .before .before .before .before .before .before .before .pre .1) _ _ _ (c .before .before .before .before .before .before .before .before .before .before .before .before .before .before .before .before .before .before .before .before .before .before .before .build-forms .ensures .0) _ _ _ _ (c .before .before .before .before .before .before .before .before .before .before .before .before .before .before .before .before .before .x .given .1) _ _ _ (c .before .before .before .before .before .before .before .before .before .before .before .list-clauses .ensures) (c .before .before .before .before .before .before .before .if1 .left) _ (c .clause-follows .ensures),
+  c .before .before .before .before .before .before .before .before .before .before .before .before .before .before .before .before .before .before .before .before .before .before .before .build-forms .ensures .1,
 )
 
 pub clausified-spec : {M : Type 1} → statement M

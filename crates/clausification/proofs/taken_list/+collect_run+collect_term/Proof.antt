@@ -23,10 +23,10 @@ use Rattle.clausification.proofs.taken_list.+collect_run+collect_term.{
 use Rattle.clausification.proofs.taken_list.+collect_run+collect_term.Tie.{close}
 
 abbrev μ-collect-run : Measures 5 collect-run-kinds.ps ℕ
-μ-collect-run κs a = a .1 .1 .1 .1 .1 .0 * 2 ^ 65 + length (a .1 .1 .1 .1 .1 .1 .0 .now)
+μ-collect-run κs a = a .1 .1 .1 .1 .1 .0 .0 * 2 ^ 65 + length (a .1 .1 .1 .1 .1 .1 .0 .now)
 
 abbrev μ-collect-term : Measures 4 collect-term-kinds.ps ℕ
-μ-collect-term κs a = a .1 .1 .1 .1 .1 .0 * 2 ^ 65 + 2 ^ 64
+μ-collect-term κs a = a .1 .1 .1 .1 .1 .0 .0 * 2 ^ 65 + 2 ^ 64
 
 abbrev collect-run-at : ℕ → In 5 collect-run-kinds.ps
 collect-run-at t =
@@ -55,14 +55,14 @@ collect-run-calls t = (collect-term-below t, collect-term.Post, collect-run-belo
 collect-run-returns : (t : ℕ) → collect-run-lts.Need-returns (collect-run-calls t) (collect-run-at t) collect-run.Post
 collect-run-returns t c = search walks
 
-collect-run-shared-slice-read-collect-term :
-    (t : ℕ) → collect-run-lts.Need-shared-slice-read-collect-term (
+collect-run-shared-slice-read-t17 :
+    (t : ℕ) → collect-run-lts.Need-shared-slice-read-t17 (
       collect-term-below t,
       collect-term.Post,
       collect-run-below t,
       collect-run.Post,
     ) (collect-run-at t) collect-run.Post
-collect-run-shared-slice-read-collect-term t c = search needs
+collect-run-shared-slice-read-t17 t c = search needs
 
 collect-run-collect-term-requires : (t : ℕ) → collect-run-lts.Need-collect-term-requires (collect-run-calls t) (collect-run-at t) collect-run.Post
 collect-run-collect-term-requires t c κs =
@@ -234,7 +234,7 @@ pub +collect-run+collect-term-spec : {M : Type 1} → statement M
     (collect-run-at t)
     collect-run.Post
     (collect-run-returns t)
-    (collect-run-shared-slice-read-collect-term t)
+    (collect-run-shared-slice-read-t17 t)
     (collect-run-collect-term-requires t)
     (collect-run-enum-known-first t)
     (collect-run-enum-told t)

@@ -28,23 +28,23 @@ mul-is-in-neither c = search needs
 shared-slice-read-is-in-neither : tie.Need-shared-slice-read-is-in-neither Inv-loop μ-loop
 shared-slice-read-is-in-neither c = search needs
 
-add-is-in-neither : tie.Need-add-is-in-neither Inv-loop μ-loop
-add-is-in-neither c = search needs
+add-t6 : tie.Need-add-t6 Inv-loop μ-loop
+add-t6 c = search needs
 
-mul-is-in-neither-2 : tie.Need-mul-is-in-neither-2 Inv-loop μ-loop
-mul-is-in-neither-2 c = search needs
+mul-t11 : tie.Need-mul-t11 Inv-loop μ-loop
+mul-t11 c = search needs
 
-shared-slice-read-is-in-neither-2 : tie.Need-shared-slice-read-is-in-neither-2 Inv-loop μ-loop
-shared-slice-read-is-in-neither-2 c = search needs
+shared-slice-read-t13 : tie.Need-shared-slice-read-t13 Inv-loop μ-loop
+shared-slice-read-t13 c = search needs
 
 is-in-neither-requires : tie.Need-is-in-neither-requires Inv-loop μ-loop
 is-in-neither-requires c κs = search needs
 
-mul-t14 : tie.Need-mul-t14 Inv-loop μ-loop
-mul-t14 c = search needs
+mul-t15 : tie.Need-mul-t15 Inv-loop μ-loop
+mul-t15 c = search needs
 
-shared-slice-read-t16 : tie.Need-shared-slice-read-t16 Inv-loop μ-loop
-shared-slice-read-t16 c = search needs
+shared-slice-read-t17 : tie.Need-shared-slice-read-t17 Inv-loop μ-loop
+shared-slice-read-t17 c = search needs
 
 returns : tie.Need-returns Inv-loop μ-loop
 returns c =
@@ -73,12 +73,12 @@ first-in-neither-spec =
     sub-loop
     mul-is-in-neither
     shared-slice-read-is-in-neither
-    add-is-in-neither
-    mul-is-in-neither-2
-    shared-slice-read-is-in-neither-2
+    add-t6
+    mul-t11
+    shared-slice-read-t13
     is-in-neither-requires
-    mul-t14
-    shared-slice-read-t16
+    mul-t15
+    shared-slice-read-t17
     returns
     add-i
     loop-less

@@ -19,10 +19,10 @@ use Rattle.clausification.proofs.taken_search.+from_run+from_term.{stat
 use Rattle.clausification.proofs.taken_search.+from_run+from_term.Tie.{close}
 
 abbrev μ-from-run : Measures 6 from-run-kinds.ps ℕ
-μ-from-run κs a = a .1 .1 .1 .1 .1 .1 .1 .0 * 2 ^ 65 + length (a .1 .1 .1 .1 .1 .1 .1 .1 .0 .now)
+μ-from-run κs a = a .1 .1 .1 .1 .1 .1 .1 .0 .0 * 2 ^ 65 + length (a .1 .1 .1 .1 .1 .1 .1 .1 .0 .now)
 
 abbrev μ-from-term : Measures 5 from-term-kinds.ps ℕ
-μ-from-term κs a = a .1 .1 .1 .1 .1 .1 .1 .0 * 2 ^ 65 + 2 ^ 64
+μ-from-term κs a = a .1 .1 .1 .1 .1 .1 .1 .0 .0 * 2 ^ 65 + 2 ^ 64
 
 abbrev from-run-at : ℕ → In 6 from-run-kinds.ps
 from-run-at t = and 6 from-run-kinds.ps (is 6 from-run-kinds.ps μ-from-run t) from-run.Pre
@@ -49,8 +49,8 @@ from-run-calls t = (from-term-below t, from-term.Post, from-run-below t, from-ru
 from-run-returns : (t : ℕ) → from-run-lts.Need-returns (from-run-calls t) (from-run-at t) from-run.Post
 from-run-returns t c = search walks
 
-from-run-shared-slice-read-from-term : (t : ℕ) → from-run-lts.Need-shared-slice-read-from-term (from-run-calls t) (from-run-at t) from-run.Post
-from-run-shared-slice-read-from-term t c = search needs
+from-run-shared-slice-read-t17 : (t : ℕ) → from-run-lts.Need-shared-slice-read-t17 (from-run-calls t) (from-run-at t) from-run.Post
+from-run-shared-slice-read-t17 t c = search needs
 
 from-run-from-term-requires : (t : ℕ) → from-run-lts.Need-from-term-requires (from-run-calls t) (from-run-at t) from-run.Post
 from-run-from-term-requires t c κs =
@@ -166,7 +166,7 @@ pub +from-run+from-term-spec : {M : Type 1} → statement M
     (from-run-at t)
     from-run.Post
     (from-run-returns t)
-    (from-run-shared-slice-read-from-term t)
+    (from-run-shared-slice-read-t17 t)
     (from-run-from-term-requires t)
     (from-run-enum-known-f t)
     (from-run-enum-told t)

@@ -13,7 +13,7 @@ use Rattle.clausification.proofs.taken_search.first_unbound_by_walks.St
 use Rattle.clausification.proofs.taken_search.first_unbound_by_walks.Tie as tie
 
 abbrev Inv-loop : tie.InvT-loop
-Inv-loop tags values x left right i₀ i = (i ≤ length right) × (nameOf (firstOf (λ a. not (has (bindingsOf left ++ taken bindingsOf (formAt tags values x)) a)) (bindingsOf right)) ≡ nameOf (firstOf (λ a. not (has (bindingsOf left ++ taken bindingsOf (formAt tags values x)) a)) (bindingsOf (drop i right))))
+Inv-loop tags values x left right i₀ i = (i ≤ length right) × (nameOf (firstOf (λ a. not (has (bindingsOf left ++ taken bindingsOf (formAt tags values (x .0))) a)) (bindingsOf right)) ≡ nameOf (firstOf (λ a. not (has (bindingsOf left ++ taken bindingsOf (formAt tags values (x .0))) a)) (bindingsOf (drop i right))))
 
 abbrev μ-loop : tie.MeasureT-loop
 μ-loop tags values x left right i₀ i = length right - i
@@ -30,23 +30,23 @@ mul-is-unbound c = search needs
 shared-slice-read-is-unbound : tie.Need-shared-slice-read-is-unbound Inv-loop μ-loop
 shared-slice-read-is-unbound c = search needs
 
-add-is-unbound : tie.Need-add-is-unbound Inv-loop μ-loop
-add-is-unbound c = search needs
+add-t8 : tie.Need-add-t8 Inv-loop μ-loop
+add-t8 c = search needs
 
-mul-is-unbound-2 : tie.Need-mul-is-unbound-2 Inv-loop μ-loop
-mul-is-unbound-2 c = search needs
+mul-t13 : tie.Need-mul-t13 Inv-loop μ-loop
+mul-t13 c = search needs
 
-shared-slice-read-is-unbound-2 : tie.Need-shared-slice-read-is-unbound-2 Inv-loop μ-loop
-shared-slice-read-is-unbound-2 c = search needs
+shared-slice-read-t15 : tie.Need-shared-slice-read-t15 Inv-loop μ-loop
+shared-slice-read-t15 c = search needs
 
 is-unbound-requires : tie.Need-is-unbound-requires Inv-loop μ-loop
 is-unbound-requires c κs = search needs
 
-mul-t16 : tie.Need-mul-t16 Inv-loop μ-loop
-mul-t16 c = search needs
+mul-t17 : tie.Need-mul-t17 Inv-loop μ-loop
+mul-t17 c = search needs
 
-shared-slice-read-t18 : tie.Need-shared-slice-read-t18 Inv-loop μ-loop
-shared-slice-read-t18 c = search needs
+shared-slice-read-t19 : tie.Need-shared-slice-read-t19 Inv-loop μ-loop
+shared-slice-read-t19 c = search needs
 
 returns : tie.Need-returns Inv-loop μ-loop
 returns c =
@@ -75,12 +75,12 @@ first-unbound-by-walks-spec =
     sub-loop
     mul-is-unbound
     shared-slice-read-is-unbound
-    add-is-unbound
-    mul-is-unbound-2
-    shared-slice-read-is-unbound-2
+    add-t8
+    mul-t13
+    shared-slice-read-t15
     is-unbound-requires
-    mul-t16
-    shared-slice-read-t18
+    mul-t17
+    shared-slice-read-t19
     returns
     add-i
     loop-less

@@ -3,6 +3,9 @@ use borrow.Author.Needs.{needs}
 use Rattle.clausification.proofs.taken_search.note.Statement.{statement}
 use Rattle.clausification.proofs.taken_search.note.Tie as tie
 
+cast-at : tie.Need-cast-at
+cast-at c = search needs
+
 enum-known-f : tie.Need-enum-known-f
 enum-known-f c = search needs
 
@@ -27,4 +30,12 @@ returns-3 c = search notes
 pub note-spec : {M : Type 1} → statement M
 note-spec =
     tie.close
-    (tie.spec enum-known-f enum-told slice-write-seen same-length returns returns-2 returns-3)
+    (tie.spec
+    cast-at
+    enum-known-f
+    enum-told
+    slice-write-seen
+    same-length
+    returns
+    returns-2
+    returns-3)

@@ -3,6 +3,9 @@ use borrow.Author.Needs.{needs}
 use Rattle.formulas.proofs.matching.one_operand.Statement.{statement}
 use Rattle.formulas.proofs.matching.one_operand.Tie as tie
 
+cast-at : tie.Need-cast-at
+cast-at c = search needs
+
 cell-requires : tie.Need-cell-requires
 cell-requires c κs = search needs
 
@@ -15,8 +18,8 @@ operands-requires c κs = search needs
 returns-2 : tie.Need-returns-2
 returns-2 c = search ones
 
-shared-slice-read-t6 : tie.Need-shared-slice-read-t6
-shared-slice-read-t6 c = search needs
+shared-slice-read-t7 : tie.Need-shared-slice-read-t7
+shared-slice-read-t7 c = search needs
 
 returns-3 : tie.Need-returns-3
 returns-3 c = search ones
@@ -24,4 +27,11 @@ returns-3 c = search ones
 pub one-operand-spec : {M : Type 1} → statement M
 one-operand-spec =
     tie.close
-    (tie.spec cell-requires returns operands-requires returns-2 shared-slice-read-t6 returns-3)
+    (tie.spec
+    cast-at
+    cell-requires
+    returns
+    operands-requires
+    returns-2
+    shared-slice-read-t7
+    returns-3)

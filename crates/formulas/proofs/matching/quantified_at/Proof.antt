@@ -3,6 +3,9 @@ use borrow.Author.Needs.{needs}
 use Rattle.formulas.proofs.matching.quantified_at.Statement.{statement}
 use Rattle.formulas.proofs.matching.quantified_at.Tie as tie
 
+cast-at : tie.Need-cast-at
+cast-at c = search needs
+
 cell-requires : tie.Need-cell-requires
 cell-requires c κs = search needs
 
@@ -24,4 +27,4 @@ returns-3 c = search quantifiers
 pub quantified-at-spec : {M : Type 1} → statement M
 quantified-at-spec =
     tie.close
-    (tie.spec cell-requires operands-requires cell-requires-2 returns returns-2 returns-3)
+    (tie.spec cast-at cell-requires operands-requires cell-requires-2 returns returns-2 returns-3)

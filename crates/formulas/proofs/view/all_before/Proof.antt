@@ -8,7 +8,7 @@ use Rattle.formulas.proofs.view.all_before.Statement.{statement}
 use Rattle.formulas.proofs.view.all_before.Tie as tie
 
 abbrev Inv-loop : tie.InvT-loop
-Inv-loop t os i₀ i = allBefore t os ≡ allBefore t (drop i os)
+Inv-loop t os i₀ i = allBefore (t .0) os ≡ allBefore (t .0) (drop i os)
 
 abbrev μ-loop : tie.MeasureT-loop
 μ-loop t os i₀ i = length os - i

@@ -27,11 +27,11 @@ returns-5 c = search connectives
 returns-6 : tie.Need-returns-6
 returns-6 c = search connectives
 
-shared-slice-read-t12 : tie.Need-shared-slice-read-t12
-shared-slice-read-t12 c = search needs
+shared-slice-read-t13 : tie.Need-shared-slice-read-t13
+shared-slice-read-t13 c = search needs
 
-shared-slice-read-t14 : tie.Need-shared-slice-read-t14
-shared-slice-read-t14 c = search needs
+shared-slice-read-t16 : tie.Need-shared-slice-read-t16
+shared-slice-read-t16 c = search needs
 
 returns-7 : tie.Need-returns-7
 returns-7 c = search connectives
@@ -39,14 +39,14 @@ returns-7 c = search connectives
 returns-8 : tie.Need-returns-8
 returns-8 c = search connectives
 
-shared-slice-read-t18 : tie.Need-shared-slice-read-t18
-shared-slice-read-t18 c = search needs
+shared-slice-read-t21 : tie.Need-shared-slice-read-t21
+shared-slice-read-t21 c = search needs
 
-shared-slice-read-t20 : tie.Need-shared-slice-read-t20
-shared-slice-read-t20 c = search needs
+shared-slice-read-t24 : tie.Need-shared-slice-read-t24
+shared-slice-read-t24 c = search needs
 
-shared-slice-read-t22 : tie.Need-shared-slice-read-t22
-shared-slice-read-t22 c = search needs
+shared-slice-read-t27 : tie.Need-shared-slice-read-t27
+shared-slice-read-t27 c = search needs
 
 returns-9 : tie.Need-returns-9
 returns-9 c = search connectives
@@ -66,12 +66,12 @@ connective-spec =
     shared-slice-read-t8
     returns-5
     returns-6
-    shared-slice-read-t12
-    shared-slice-read-t14
+    shared-slice-read-t13
+    shared-slice-read-t16
     returns-7
     returns-8
-    shared-slice-read-t18
-    shared-slice-read-t20
-    shared-slice-read-t22
+    shared-slice-read-t21
+    shared-slice-read-t24
+    shared-slice-read-t27
     returns-9
     returns-10)

@@ -6,8 +6,8 @@ use Rattle.formulas.proofs.view.equality.Tie as tie
 returns : tie.Need-returns
 returns c = search equalities
 
-shared-slice-read-left : tie.Need-shared-slice-read-left
-shared-slice-read-left c = search needs
+shared-slice-read-t8 : tie.Need-shared-slice-read-t8
+shared-slice-read-t8 c = search needs
 
 sort-of-requires : tie.Need-sort-of-requires
 sort-of-requires c κs = search needs
@@ -15,8 +15,8 @@ sort-of-requires c κs = search needs
 returns-2 : tie.Need-returns-2
 returns-2 c = search equalities
 
-shared-slice-read-t8 : tie.Need-shared-slice-read-t8
-shared-slice-read-t8 c = search needs
+shared-slice-read-t8-2 : tie.Need-shared-slice-read-t8-2
+shared-slice-read-t8-2 c = search needs
 
 returns-3 : tie.Need-returns-3
 returns-3 c = search equalities
@@ -26,8 +26,8 @@ equality-spec =
     tie.close
     (tie.spec
     returns
-    shared-slice-read-left
+    shared-slice-read-t8
     sort-of-requires
     returns-2
-    shared-slice-read-t8
+    shared-slice-read-t8-2
     returns-3)

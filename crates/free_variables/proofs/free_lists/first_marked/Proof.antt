@@ -28,23 +28,23 @@ mul-is-marked c = search needs
 shared-slice-read-is-marked : tie.Need-shared-slice-read-is-marked Inv-loop μ-loop
 shared-slice-read-is-marked c = search needs
 
-add-is-marked : tie.Need-add-is-marked Inv-loop μ-loop
-add-is-marked c = search needs
+add-t7 : tie.Need-add-t7 Inv-loop μ-loop
+add-t7 c = search needs
 
-mul-is-marked-2 : tie.Need-mul-is-marked-2 Inv-loop μ-loop
-mul-is-marked-2 c = search needs
+mul-t12 : tie.Need-mul-t12 Inv-loop μ-loop
+mul-t12 c = search needs
 
-shared-slice-read-is-marked-2 : tie.Need-shared-slice-read-is-marked-2 Inv-loop μ-loop
-shared-slice-read-is-marked-2 c = search needs
+shared-slice-read-t14 : tie.Need-shared-slice-read-t14 Inv-loop μ-loop
+shared-slice-read-t14 c = search needs
 
 is-marked-requires : tie.Need-is-marked-requires Inv-loop μ-loop
 is-marked-requires c κs = search needs
 
-mul-t15 : tie.Need-mul-t15 Inv-loop μ-loop
-mul-t15 c = search needs
+mul-t16 : tie.Need-mul-t16 Inv-loop μ-loop
+mul-t16 c = search needs
 
-shared-slice-read-t17 : tie.Need-shared-slice-read-t17 Inv-loop μ-loop
-shared-slice-read-t17 c = search needs
+shared-slice-read-t18 : tie.Need-shared-slice-read-t18 Inv-loop μ-loop
+shared-slice-read-t18 c = search needs
 
 returns : tie.Need-returns Inv-loop μ-loop
 returns c = mark-here _ _ (c .before .before .before .before .before .before .loop .m) (c .before .before .before .before .before .before .before .before .before .args .list .now) (c .before .before .before .before .before .before .loop .i) (c .before .before .before .before .before .before .loop .inv .1) (c .before .before .before .before .before .loop-test .taken) _ (c .before .before .is-marked .ensures) (c .before .if1 .taken)
@@ -71,12 +71,12 @@ first-marked-spec =
     sub-loop
     mul-is-marked
     shared-slice-read-is-marked
-    add-is-marked
-    mul-is-marked-2
-    shared-slice-read-is-marked-2
+    add-t7
+    mul-t12
+    shared-slice-read-t14
     is-marked-requires
-    mul-t15
-    shared-slice-read-t17
+    mul-t16
+    shared-slice-read-t18
     returns
     add-i
     loop-less

@@ -12,7 +12,7 @@ use Rattle.free_variables.proofs.free_lists.first_missing_by.Tie as tie
 
 abbrev Inv-loop : tie.InvT-loop
 Inv-loop tags values n names t list other i₀ i =
-    (i ≤ length list) × (nameOf (firstOf (isMissing tags values n t (bindingsOf other)) (bindingsOf list)) ≡ nameOf (firstOf (isMissing tags values n t (bindingsOf other)) (bindingsOf (drop i list))))
+    (i ≤ length list) × (nameOf (firstOf (isMissing tags values n (t .0) (bindingsOf other)) (bindingsOf list)) ≡ nameOf (firstOf (isMissing tags values n (t .0) (bindingsOf other)) (bindingsOf (drop i list))))
 
 abbrev μ-loop : tie.MeasureT-loop
 μ-loop tags values n names t list other i₀ i = length list - i
@@ -29,14 +29,14 @@ mul-may-be-missing c = search needs
 shared-slice-read-may-be-missing : tie.Need-shared-slice-read-may-be-missing Inv-loop μ-loop
 shared-slice-read-may-be-missing c = search needs
 
-add-may-be-missing : tie.Need-add-may-be-missing Inv-loop μ-loop
-add-may-be-missing c = search needs
+add-t13 : tie.Need-add-t13 Inv-loop μ-loop
+add-t13 c = search needs
 
-mul-may-be-missing-2 : tie.Need-mul-may-be-missing-2 Inv-loop μ-loop
-mul-may-be-missing-2 c = search needs
+mul-t18 : tie.Need-mul-t18 Inv-loop μ-loop
+mul-t18 c = search needs
 
-shared-slice-read-may-be-missing-2 : tie.Need-shared-slice-read-may-be-missing-2 Inv-loop μ-loop
-shared-slice-read-may-be-missing-2 c = search needs
+shared-slice-read-t20 : tie.Need-shared-slice-read-t20 Inv-loop μ-loop
+shared-slice-read-t20 c = search needs
 
 may-be-missing-requires : tie.Need-may-be-missing-requires Inv-loop μ-loop
 may-be-missing-requires c κs = search needs
@@ -101,9 +101,9 @@ first-missing-by-spec =
     sub-loop
     mul-may-be-missing
     shared-slice-read-may-be-missing
-    add-may-be-missing
-    mul-may-be-missing-2
-    shared-slice-read-may-be-missing-2
+    add-t13
+    mul-t18
+    shared-slice-read-t20
     may-be-missing-requires
     mul-rest
     sub-rest

@@ -44,8 +44,8 @@ equal-pairs-equal-pairs-requires t c κs = search needs
 equal-pairs-shared-slice-read-same-pair : (t : ℕ) → equal-pairs-lts.Need-shared-slice-read-same-pair (equal-pairs-calls t) (equal-pairs-at t) equal-pairs.Post
 equal-pairs-shared-slice-read-same-pair t c = search needs
 
-equal-pairs-shared-slice-read-same-pair-2 : (t : ℕ) → equal-pairs-lts.Need-shared-slice-read-same-pair-2 (equal-pairs-calls t) (equal-pairs-at t) equal-pairs.Post
-equal-pairs-shared-slice-read-same-pair-2 t c = search needs
+equal-pairs-shared-slice-read-t14 : (t : ℕ) → equal-pairs-lts.Need-shared-slice-read-t14 (equal-pairs-calls t) (equal-pairs-at t) equal-pairs.Post
+equal-pairs-shared-slice-read-t14 t c = search needs
 
 equal-pairs-same-pair-requires : (t : ℕ) → equal-pairs-lts.Need-same-pair-requires (equal-pairs-calls t) (equal-pairs-at t) equal-pairs.Post
 equal-pairs-same-pair-requires t c κs = search needs
@@ -74,7 +74,7 @@ pub +equal-pairs-spec : {M : Type 1} → statement M
     (equal-pairs-part-equal-pairs-end t)
     (equal-pairs-equal-pairs-requires t)
     (equal-pairs-shared-slice-read-same-pair t)
-    (equal-pairs-shared-slice-read-same-pair-2 t)
+    (equal-pairs-shared-slice-read-t14 t)
     (equal-pairs-same-pair-requires t)
     (equal-pairs-mul-result t)
     (equal-pairs-add-result t)

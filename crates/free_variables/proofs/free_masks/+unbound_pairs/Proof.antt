@@ -54,8 +54,8 @@ unbound-pairs-returns-2 t c = search unbound
 unbound-pairs-shared-slice-read-has-pair : (t : ℕ) → unbound-pairs-lts.Need-shared-slice-read-has-pair (unbound-pairs-calls t) (unbound-pairs-at t) unbound-pairs.Post
 unbound-pairs-shared-slice-read-has-pair t c = search needs
 
-unbound-pairs-shared-slice-read-has-pair-2 : (t : ℕ) → unbound-pairs-lts.Need-shared-slice-read-has-pair-2 (unbound-pairs-calls t) (unbound-pairs-at t) unbound-pairs.Post
-unbound-pairs-shared-slice-read-has-pair-2 t c = search needs
+unbound-pairs-shared-slice-read-t16 : (t : ℕ) → unbound-pairs-lts.Need-shared-slice-read-t16 (unbound-pairs-calls t) (unbound-pairs-at t) unbound-pairs.Post
+unbound-pairs-shared-slice-read-t16 t c = search needs
 
 unbound-pairs-has-pair-requires : (t : ℕ) → unbound-pairs-lts.Need-has-pair-requires (unbound-pairs-calls t) (unbound-pairs-at t) unbound-pairs.Post
 unbound-pairs-has-pair-requires t c κs = search needs
@@ -86,7 +86,7 @@ pub +unbound-pairs-spec : {M : Type 1} → statement M
     (unbound-pairs-mul-result t)
     (unbound-pairs-returns-2 t)
     (unbound-pairs-shared-slice-read-has-pair t)
-    (unbound-pairs-shared-slice-read-has-pair-2 t)
+    (unbound-pairs-shared-slice-read-t16 t)
     (unbound-pairs-has-pair-requires t)
     (unbound-pairs-mul-result-2 t)
     (unbound-pairs-returns-3 t)

@@ -10,7 +10,7 @@ use Rattle.free_variables.proofs.free_vars.has_pair.Tie as tie
 
 abbrev Inv-loop : tie.InvT-loop
 Inv-loop values lets name sort run i₀ i =
-    pairIn (pairSort values lets) name sort (drop 1 run) ≡ pairIn (pairSort values lets) name sort (drop i run)
+    pairIn (pairSort values lets) name (sort .0) (drop 1 run) ≡ pairIn (pairSort values lets) name (sort .0) (drop i run)
 
 abbrev μ-loop : tie.MeasureT-loop
 μ-loop values lets name sort run i₀ i = length run - i

@@ -1,5 +1,5 @@
 use Rattle.headers.specs.WellFormed.{isSortTag, isTermTag, valueFits}
-use Rattle.cells.proofs.term_tags.Laws.{below, not-below}
+use Rattle.cells.proofs.tags.Laws.{below, not-below}
 use Rattle.headers.proofs.well_formed.Laws.{value-of}
 use borrow.Author.Needs.{needs}
 use Rattle.headers.proofs.well_formed.value_fits.Statement.{statement}

@@ -6,7 +6,7 @@ use Rattle.normal_form.proofs.negation_normal_form.Forms.{not-below, im
 use Rattle.building.specs.Walk.{normal}
 use Rattle.building.proofs.build.Walks.{slot-within, before-same, operand-before, state-after, own-ready, own-after, place-small, ready-after, one-term, form-full, form-kept, operand-walks, operands-next}
 use Rattle.normal_form.proofs.negation_normal_form.Steps.{pairs, pair-right-full, pair-put, twos, two-right-full, two-put}
-use Rattle.normal_form.proofs.negation_normal_form.Laws.{maxOf, max-left, max-right, max-below, many-before, expands, expand-many-full, expand-many, expand-quantifier-full, expand-quantifier}
+use Rattle.normal_form.proofs.negation_normal_form.Laws.{expand-ite, maxOf, max-left, max-right, max-below, many-before, expands, expand-many-full, expand-many, expand-quantifier-full, expand-quantifier}
 use Prim.Native.Nat.{ℕ, _<_, _+_, _*_, _-_}
 use borrow.Fn.Kinds.{In}
 use borrow.Fn.PlainCycle.{Measures, is, falls, and}
@@ -32,7 +32,7 @@ use Rattle.normal_form.proofs.negation_normal_form.two_pairs.Reads as t
 use Rattle.normal_form.proofs.negation_normal_form.two_pairs.Kinds as two-pairs-kinds
 use Rattle.normal_form.proofs.negation_normal_form.+connective_form+expand+negation_normal_form+operand_forms+pair_of+quantifier_form+two_pairs.Lts-two_pairs as two-pairs-lts
 use Rattle.building.proofs.terms.literal.Reads as literal-reads
-use Rattle.building.proofs.terms.put_many.Reads as put-many-reads
+use Rattle.building.proofs.terms.put_connective.Reads as put-connective-reads
 use Rattle.building.proofs.terms.put_pair.Reads as put-pair-reads
 use Rattle.building.proofs.terms.put_quantifier.Reads as put-quantifier-reads
 use Rattle.building.proofs.terms.slot.Reads as slot-reads
@@ -47,25 +47,25 @@ use Rattle.normal_form.proofs.negation_normal_form.+connective_form+exp
 use Rattle.building.proofs.build.Indexing.{indexings, index-at}
 
 abbrev μ-connective-form : Measures 5 connective-form-kinds.ps ℕ
-μ-connective-form κs a = a .1 .1 .1 .1 .1 .1 .1 .0 * 32768 + 12288
+μ-connective-form κs a = a .1 .1 .1 .1 .1 .1 .1 .0 .0 * 32768 + 12288
 
 abbrev μ-expand : Measures 5 expand-kinds.ps ℕ
-μ-expand κs a = a .1 .1 .1 .1 .1 .1 .1 .0 * 32768 + 16384
+μ-expand κs a = a .1 .1 .1 .1 .1 .1 .1 .0 .0 * 32768 + 16384
 
 abbrev μ-negation-normal-form : Measures 5 negation-normal-form-kinds.ps ℕ
-μ-negation-normal-form κs a = a .1 .1 .1 .1 .1 .1 .1 .0 * 32768 + 24576
+μ-negation-normal-form κs a = a .1 .1 .1 .1 .1 .1 .1 .0 .0 * 32768 + 24576
 
 abbrev μ-operand-forms : Measures 5 operand-forms-kinds.ps ℕ
-μ-operand-forms κs a = a .1 .1 .1 .1 .1 .1 .1 .0 * 32768 + (8192 - a .1 .1 .1 .1 .1 .1 .1 .1 .0)
+μ-operand-forms κs a = a .1 .1 .1 .1 .1 .1 .1 .0 .0 * 32768 + (8192 - a .1 .1 .1 .1 .1 .1 .1 .1 .0)
 
 abbrev μ-pair-of : Measures 5 pair-of-kinds.ps ℕ
-μ-pair-of κs a = maxOf (a .1 .1 .1 .1 .1 .1 .1 .1 .0 .0) (a .1 .1 .1 .1 .1 .1 .1 .1 .1 .0) * 32768 + 24577
+μ-pair-of κs a = maxOf (a .1 .1 .1 .1 .1 .1 .1 .1 .0 .0 .0) (a .1 .1 .1 .1 .1 .1 .1 .1 .1 .0 .0) * 32768 + 24577
 
 abbrev μ-quantifier-form : Measures 5 quantifier-form-kinds.ps ℕ
-μ-quantifier-form κs a = a .1 .1 .1 .1 .1 .1 .1 .0 * 32768 + 12288
+μ-quantifier-form κs a = a .1 .1 .1 .1 .1 .1 .1 .0 .0 * 32768 + 12288
 
 abbrev μ-two-pairs : Measures 5 two-pairs-kinds.ps ℕ
-μ-two-pairs κs a = maxOf (maxOf (a .1 .1 .1 .1 .1 .1 .1 .1 .0) (a .1 .1 .1 .1 .1 .1 .1 .1 .1 .0)) (maxOf (a .1 .1 .1 .1 .1 .1 .1 .1 .1 .1 .0 .0) (a .1 .1 .1 .1 .1 .1 .1 .1 .1 .1 .1 .0)) * 32768 + 24578
+μ-two-pairs κs a = maxOf (maxOf (a .1 .1 .1 .1 .1 .1 .1 .1 .0 .0) (a .1 .1 .1 .1 .1 .1 .1 .1 .1 .0 .0)) (maxOf (a .1 .1 .1 .1 .1 .1 .1 .1 .1 .1 .0 .0 .0) (a .1 .1 .1 .1 .1 .1 .1 .1 .1 .1 .1 .0 .0)) * 32768 + 24578
 
 abbrev connective-form-at : ℕ → In 5 connective-form-kinds.ps
 connective-form-at t =
@@ -172,7 +172,7 @@ expand-calls t = (view-of-reads.Asked, view-of-reads.Learnt, literal-reads.Asked
 
 -- what the calls in `connective-form` ask and tell, below the measure t
 abbrev connective-form-calls : ℕ → connective-form-lts.Claims
-connective-form-calls t = (operand-forms-below t, operand-forms.Post, put-many-reads.Asked, put-many-reads.Learnt)
+connective-form-calls t = (operand-forms-below t, operand-forms.Post, put-connective-reads.Asked, put-connective-reads.Learnt)
 
 connective-form-operand-forms-requires : (t : ℕ) → connective-form-lts.Need-operand-forms-requires (connective-form-calls t) (connective-form-at t) connective-form.Post
 connective-form-operand-forms-requires t c κs =
@@ -195,7 +195,7 @@ connective-form-same-length-3 : (t : ℕ) → connective-form-lts.Need-same-leng
 connective-form-same-length-3 t c = c .before .before .before .before .before .memo .given
 
 connective-form-same-length-4 : (t : ℕ) → connective-form-lts.Need-same-length-4 (connective-form-calls t) (connective-form-at t) connective-form.Post
-connective-form-same-length-4 t c = c .before .before .before .row .given
+connective-form-same-length-4 t c = c .before .before .before .scratch .given
 
 connective-form-returns : (t : ℕ) → connective-form-lts.Need-returns (connective-form-calls t) (connective-form-at t) connective-form.Post
 connective-form-returns t c =
@@ -203,13 +203,13 @@ connective-form-returns t c =
     let start = at-operand-forms .before .before .before .before .before .before .before .before .before .before in
     (expand-many-full _ _ _ _ _ (start .pre .1 .0) _ _ _ refl _ (start .pre .1 .1 .1 .1 .0) _ _ _ _ (at-operand-forms .operand-forms .ensures .0) (c .enum-told .given .1), tt)
 
-connective-form-put-many-requires : (t : ℕ) → connective-form-lts.Need-put-many-requires (connective-form-calls t) (connective-form-at t) connective-form.Post
-connective-form-put-many-requires t c κs =
+connective-form-put-connective-requires : (t : ℕ) → connective-form-lts.Need-put-connective-requires (connective-form-calls t) (connective-form-at t) connective-form.Post
+connective-form-put-connective-requires t c κs =
     let at-m = c .before .before .before .before .before .before in
     let at-row = at-m .before .before .before in
     let at-operand-forms = at-row .before .before .before .before .before .before .before in
     let start = at-operand-forms .before .before .before .before .before .before .before .before .before .before in
-    (state-after normal _ _ _ _ _ _ _ _ _ (at-operand-forms .operand-forms .ensures .0 .builds) _ _ (at-m .m .given .1), (omega (arith, at-row .row .given, start .pre .1 .1 .0), (start .pre .1 .1 .1 .0, index-at _ _ _ _ _ _ (at-m .m .given .1) (at-operand-forms .operand-forms .ensures .1))))
+    (state-after normal _ _ _ _ _ _ _ _ _ (at-operand-forms .operand-forms .ensures .0 .builds) _ _ (at-m .m .given .1), (omega (arith, at-row .scratch .given, start .pre .1 .1 .0), (start .pre .1 .1 .1 .0, index-at _ _ _ _ _ _ (at-m .m .given .1) (at-operand-forms .operand-forms .ensures .1))))
 
 connective-form-same-length-5 : (t : ℕ) → connective-form-lts.Need-same-length-5 (connective-form-calls t) (connective-form-at t) connective-form.Post
 connective-form-same-length-5 t c =
@@ -230,15 +230,15 @@ connective-form-same-length-8 : (t : ℕ) → connective-form-lts.Need-same-leng
 connective-form-same-length-8 t c =
     let at-row2 = c .before in
     let at-row = at-row2 .before .before .before .before .before .before .before .before .before .before .before .before .before .before .before in
-    at-row2 .row2 .given ∙ at-row .row .given
+    at-row2 .scratch2 .given ∙ at-row .scratch .given
 
 connective-form-returns-2 : (t : ℕ) → connective-form-lts.Need-returns-2 (connective-form-calls t) (connective-form-at t) connective-form.Post
 connective-form-returns-2 t c =
-    let at-put-many = c .before .before .before .before .before .before in
-    let at-m = at-put-many .before .before .before .before .before .before .before in
+    let at-put-connective = c .before .before .before .before .before .before in
+    let at-m = at-put-connective .before .before .before .before .before .before .before in
     let at-operand-forms = at-m .before .before .before .before .before .before .before .before .before .before in
     let start = at-operand-forms .before .before .before .before .before .before .before .before .before .before in
-    (expand-many _ _ _ _ _ (start .pre .1 .0) _ _ _ refl _ (start .pre .1 .1 .1 .1 .0) _ _ _ _ (at-operand-forms .operand-forms .ensures .0) _ _ (at-m .m .given .1) _ _ _ (at-put-many .put-many .ensures .0), at-put-many .put-many .ensures .1)
+    (expand-many _ _ _ _ _ (start .pre .1 .0) _ _ _ refl _ (start .pre .1 .1 .1 .1 .0) _ _ _ _ (at-operand-forms .operand-forms .ensures .0) _ _ (at-m .m .given .1) _ _ _ (at-put-connective .put-connective .ensures .0), at-put-connective .put-connective .ensures .1)
 
 expand-slice-reshare-prefix-view-of : (t : ℕ) → expand-lts.Need-slice-reshare-prefix-view-of (expand-calls t) (expand-at t) expand.Post
 expand-slice-reshare-prefix-view-of t c = search needs
@@ -346,7 +346,7 @@ expand-same-length-5 : (t : ℕ) → expand-lts.Need-same-length-5 (expand-calls
 expand-same-length-5 t c = c .before .before .before .memo .given
 
 expand-same-length-6 : (t : ℕ) → expand-lts.Need-same-length-6 (expand-calls t) (expand-at t) expand.Post
-expand-same-length-6 t c = c .before .row .given
+expand-same-length-6 t c = c .before .scratch .given
 
 expand-returns-2 : (t : ℕ) → expand-lts.Need-returns-2 (expand-calls t) (expand-at t) expand.Post
 expand-returns-2 t c = search (expands, indexings)
@@ -361,7 +361,7 @@ expand-same-length-9 : (t : ℕ) → expand-lts.Need-same-length-9 (expand-calls
 expand-same-length-9 t c = c .before .before .before .memo2 .given
 
 expand-same-length-10 : (t : ℕ) → expand-lts.Need-same-length-10 (expand-calls t) (expand-at t) expand.Post
-expand-same-length-10 t c = c .before .row2 .given
+expand-same-length-10 t c = c .before .scratch2 .given
 
 expand-returns-3 : (t : ℕ) → expand-lts.Need-returns-3 (expand-calls t) (expand-at t) expand.Post
 expand-returns-3 t c =
@@ -378,7 +378,7 @@ expand-same-length-13 : (t : ℕ) → expand-lts.Need-same-length-13 (expand-cal
 expand-same-length-13 t c = c .before .before .before .memo3 .given
 
 expand-same-length-14 : (t : ℕ) → expand-lts.Need-same-length-14 (expand-calls t) (expand-at t) expand.Post
-expand-same-length-14 t c = c .before .row3 .given
+expand-same-length-14 t c = c .before .scratch3 .given
 
 expand-returns-4 : (t : ℕ) → expand-lts.Need-returns-4 (expand-calls t) (expand-at t) expand.Post
 expand-returns-4 t c = search (expands, indexings)
@@ -393,10 +393,15 @@ expand-same-length-17 : (t : ℕ) → expand-lts.Need-same-length-17 (expand-cal
 expand-same-length-17 t c = c .before .before .before .memo4 .given
 
 expand-same-length-18 : (t : ℕ) → expand-lts.Need-same-length-18 (expand-calls t) (expand-at t) expand.Post
-expand-same-length-18 t c = c .before .row4 .given
+expand-same-length-18 t c = c .before .scratch4 .given
 
 expand-returns-5 : (t : ℕ) → expand-lts.Need-returns-5 (expand-calls t) (expand-at t) expand.Post
-expand-returns-5 t c = search (expands, indexings)
+expand-returns-5 t c =
+    let at-call = c .before .before .before .before .before .before .before .before in
+    let at-view = at-call .before .before .before .before .before .before .before in
+    let at-view-of = at-view .before .before in
+    let start = at-view-of .before .before .before .before .before .before .before in
+    (expand-ite _ _ _ _ _ (start .pre .1 .0) _ _ _ (at-view-of .view-of .ensures) _ _ _ (at-view .view4 .given .1) _ _ _ _ (at-call .two-pairs .ensures .0), at-call .two-pairs .ensures .1)
 
 expand-same-length-19 : (t : ℕ) → expand-lts.Need-same-length-19 (expand-calls t) (expand-at t) expand.Post
 expand-same-length-19 t c = c .before .before .before .before .before .before .before .tags6 .given
@@ -408,7 +413,7 @@ expand-same-length-21 : (t : ℕ) → expand-lts.Need-same-length-21 (expand-cal
 expand-same-length-21 t c = c .before .before .before .memo5 .given
 
 expand-same-length-22 : (t : ℕ) → expand-lts.Need-same-length-22 (expand-calls t) (expand-at t) expand.Post
-expand-same-length-22 t c = c .before .row5 .given
+expand-same-length-22 t c = c .before .scratch5 .given
 
 expand-returns-6 : (t : ℕ) → expand-lts.Need-returns-6 (expand-calls t) (expand-at t) expand.Post
 expand-returns-6 t c = search (expands, indexings)
@@ -423,7 +428,7 @@ expand-same-length-25 : (t : ℕ) → expand-lts.Need-same-length-25 (expand-cal
 expand-same-length-25 t c = c .before .before .before .memo6 .given
 
 expand-same-length-26 : (t : ℕ) → expand-lts.Need-same-length-26 (expand-calls t) (expand-at t) expand.Post
-expand-same-length-26 t c = c .before .row6 .given
+expand-same-length-26 t c = c .before .scratch6 .given
 
 expand-returns-7 : (t : ℕ) → expand-lts.Need-returns-7 (expand-calls t) (expand-at t) expand.Post
 expand-returns-7 t c =
@@ -470,7 +475,7 @@ negation-normal-form-same-length-3 : (t : ℕ) → negation-normal-form-lts.Need
 negation-normal-form-same-length-3 t c = c .before .before .before .before .before .memo .given
 
 negation-normal-form-same-length-4 : (t : ℕ) → negation-normal-form-lts.Need-same-length-4 (negation-normal-form-calls t) (negation-normal-form-at t) negation-normal-form.Post
-negation-normal-form-same-length-4 t c = c .before .before .before .row .given
+negation-normal-form-same-length-4 t c = c .before .before .before .scratch .given
 
 negation-normal-form-returns-2 : (t : ℕ) → negation-normal-form-lts.Need-returns-2 (negation-normal-form-calls t) (negation-normal-form-at t) negation-normal-form.Post
 negation-normal-form-returns-2 t c =
@@ -481,43 +486,43 @@ negation-normal-form-returns-2 t c =
 
 negation-normal-form-add-memo : (t : ℕ) → negation-normal-form-lts.Need-add-memo (negation-normal-form-calls t) (negation-normal-form-at t) negation-normal-form.Post
 negation-normal-form-add-memo t c =
-    let at-expand = c .before .before .before .before .before .before .before .before .before .before .before in
-    let h = place-small normal _ _ _ _ _ _ _ _ _ (at-expand .expand .ensures .0) _ _ (c .before .p .given .1) in
+    let at-expand = c .before .before .before .before .before .before .before .before .before .before .before .before in
+    let h = place-small normal _ _ _ _ _ _ _ _ _ (at-expand .expand .ensures .0) _ _ (c .before .before .p .given .1) in
     search needs
 
 negation-normal-form-mul-memo : (t : ℕ) → negation-normal-form-lts.Need-mul-memo (negation-normal-form-calls t) (negation-normal-form-at t) negation-normal-form.Post
 negation-normal-form-mul-memo t c =
-    let at-slot = c .before .before .before .before .before .before .before .before .before .before .before .before .before .before .before .before .before .before .before in
+    let at-slot = c .before .before .before .before .before .before .before .before .before .before .before .before .before .before .before .before .before .before .before .before in
     let start = at-slot .before .before .before .before .before in
     let h = slot-within normal _ _ _ _ _ (start .pre .1 .0) _ _ (start .pre .1 .1 .1 .0) _ (at-slot .slot .ensures) in
     search needs
 
 negation-normal-form-slice-write-memo : (t : ℕ) → negation-normal-form-lts.Need-slice-write-memo (negation-normal-form-calls t) (negation-normal-form-at t) negation-normal-form.Post
 negation-normal-form-slice-write-memo t c =
-    let at-slot = c .before .before .before .before .before .before .before .before .before .before .before .before .before .before .before .before .before .before .before in
+    let at-slot = c .before .before .before .before .before .before .before .before .before .before .before .before .before .before .before .before .before .before .before .before in
     let start = at-slot .before .before .before .before .before in
     let h = slot-within normal _ _ _ _ _ (start .pre .1 .0) _ _ (start .pre .1 .1 .1 .0) _ (at-slot .slot .ensures) in
     search needs
 
 negation-normal-form-same-length-5 : (t : ℕ) → negation-normal-form-lts.Need-same-length-5 (negation-normal-form-calls t) (negation-normal-form-at t) negation-normal-form.Post
-negation-normal-form-same-length-5 t c = c .before .before .before .before .before .before .before .before .before .before .tags .given
+negation-normal-form-same-length-5 t c = c .before .before .before .before .before .before .before .before .before .before .before .tags .given
 
 negation-normal-form-same-length-6 : (t : ℕ) → negation-normal-form-lts.Need-same-length-6 (negation-normal-form-calls t) (negation-normal-form-at t) negation-normal-form.Post
-negation-normal-form-same-length-6 t c = c .before .before .before .before .before .before .before .before .values .given
+negation-normal-form-same-length-6 t c = c .before .before .before .before .before .before .before .before .before .values .given
 
 negation-normal-form-same-length-7 : (t : ℕ) → negation-normal-form-lts.Need-same-length-7 (negation-normal-form-calls t) (negation-normal-form-at t) negation-normal-form.Post
 negation-normal-form-same-length-7 t c = search needs
 
 negation-normal-form-same-length-8 : (t : ℕ) → negation-normal-form-lts.Need-same-length-8 (negation-normal-form-calls t) (negation-normal-form-at t) negation-normal-form.Post
-negation-normal-form-same-length-8 t c = c .before .before .before .before .row .given
+negation-normal-form-same-length-8 t c = c .before .before .before .before .before .scratch .given
 
 negation-normal-form-returns-3 : (t : ℕ) → negation-normal-form-lts.Need-returns-3 (negation-normal-form-calls t) (negation-normal-form-at t) negation-normal-form.Post
 negation-normal-form-returns-3 t c =
-    let at-expand = c .before .before .before .before .before .before .before .before .before .before .before in
+    let at-expand = c .before .before .before .before .before .before .before .before .before .before .before .before in
     let at-if1 = at-expand .before .before .before .before .before .before in
     let at-slot = at-if1 .before .before in
     let start = at-slot .before .before .before .before .before in
-    (form-kept normal _ _ _ _ _ (start .pre .1 .0) _ _ (start .pre .1 .1 .1 .0) _ (at-slot .slot .ensures) _ refl _ _ _ _ (at-expand .expand .ensures .0) (at-if1 .if1 .left) _ _ (c .before .p .given .1) (omega (arith, slot-within normal _ _ _ _ _ (start .pre .1 .0) _ _ (start .pre .1 .1 .1 .0) _ (at-slot .slot .ensures))), index-at _ _ _ _ _ _ (c .before .p .given .1) (at-expand .expand .ensures .1))
+    (form-kept normal _ _ _ _ _ (start .pre .1 .0) _ _ (start .pre .1 .1 .1 .0) _ (at-slot .slot .ensures) _ refl _ _ _ _ (at-expand .expand .ensures .0) (at-if1 .if1 .left) _ _ (c .before .before .p .given .1) (omega (arith, slot-within normal _ _ _ _ _ (start .pre .1 .0) _ _ (start .pre .1 .1 .1 .0) _ (at-slot .slot .ensures))), index-at _ _ _ _ _ _ (c .before .before .p .given .1) (at-expand .expand .ensures .1))
 
 operand-forms-slice-reshare-prefix-operands : (t : ℕ) → operand-forms-lts.Need-slice-reshare-prefix-operands (operand-forms-calls t) (operand-forms-at t) operand-forms.Post
 operand-forms-slice-reshare-prefix-operands t c = search needs
@@ -543,11 +548,11 @@ operand-forms-same-length-2 t c = search needs
 operand-forms-returns : (t : ℕ) → operand-forms-lts.Need-returns (operand-forms-calls t) (operand-forms-at t) operand-forms.Post
 operand-forms-returns t c = search (operand-walks, indexings)
 
-operand-forms-mul-u : (t : ℕ) → operand-forms-lts.Need-mul-u (operand-forms-calls t) (operand-forms-at t) operand-forms.Post
-operand-forms-mul-u t c = search needs
+operand-forms-mul-t18 : (t : ℕ) → operand-forms-lts.Need-mul-t18 (operand-forms-calls t) (operand-forms-at t) operand-forms.Post
+operand-forms-mul-t18 t c = search needs
 
-operand-forms-shared-slice-read-u : (t : ℕ) → operand-forms-lts.Need-shared-slice-read-u (operand-forms-calls t) (operand-forms-at t) operand-forms.Post
-operand-forms-shared-slice-read-u t c = search needs
+operand-forms-shared-slice-read-t22 : (t : ℕ) → operand-forms-lts.Need-shared-slice-read-t22 (operand-forms-calls t) (operand-forms-at t) operand-forms.Post
+operand-forms-shared-slice-read-t22 t c = search needs
 
 operand-forms-negation-normal-form-requires : (t : ℕ) → operand-forms-lts.Need-negation-normal-form-requires (operand-forms-calls t) (operand-forms-at t) operand-forms.Post
 operand-forms-negation-normal-form-requires t c κs =
@@ -573,7 +578,7 @@ operand-forms-same-length-5 : (t : ℕ) → operand-forms-lts.Need-same-length-5
 operand-forms-same-length-5 t c = c .before .before .before .before .before .memo .given
 
 operand-forms-same-length-6 : (t : ℕ) → operand-forms-lts.Need-same-length-6 (operand-forms-calls t) (operand-forms-at t) operand-forms.Post
-operand-forms-same-length-6 t c = c .before .before .before .row .given
+operand-forms-same-length-6 t c = c .before .before .before .scratch .given
 
 operand-forms-returns-2 : (t : ℕ) → operand-forms-lts.Need-returns-2 (operand-forms-calls t) (operand-forms-at t) operand-forms.Post
 operand-forms-returns-2 t c = search (operand-walks, indexings)
@@ -591,7 +596,7 @@ operand-forms-operand-forms-requires t c κs =
     let at-operands = at-if1 .before in
     let start = at-operands .before .before .before .before .before .before .before in
     let j = at-negation-normal-form .negation-normal-form .ensures .0 in
-    (omega (arith, run-short _ _ _ _ (start .pre .1 .0 .state) _ (start .pre .1 .1 .1 .0) _ (at-operands .operands .ensures), at-if1 .if1 .left, start .pre .0), (ready-after normal _ _ _ _ _ _ _ _ _ (j .formed) _ _ (at-m .m .given .1) (omega (arith, at-memo .memo .given, start .pre .1 .0 .room)), (omega (arith, at-row .row .given, start .pre .1 .1 .0), (start .pre .1 .1 .1 .0, (before-same _ _ _ _ _ (j .formed .puts .left) _ (start .pre .1 .1 .1 .1 .0), index-at _ _ _ _ _ _ (at-m .m .given .1) (at-negation-normal-form .negation-normal-form .ensures .1))))))
+    (omega (arith, run-short _ _ _ _ (start .pre .1 .0 .state) _ (start .pre .1 .1 .1 .0) _ (at-operands .operands .ensures), at-if1 .if1 .left, start .pre .0), (ready-after normal _ _ _ _ _ _ _ _ _ (j .formed) _ _ (at-m .m .given .1) (omega (arith, at-memo .memo .given, start .pre .1 .0 .room)), (omega (arith, at-row .scratch .given, start .pre .1 .1 .0), (start .pre .1 .1 .1 .0, (before-same _ _ _ _ _ (j .formed .puts .left) _ (start .pre .1 .1 .1 .1 .0), index-at _ _ _ _ _ _ (at-m .m .given .1) (at-negation-normal-form .negation-normal-form .ensures .1))))))
 
 operand-forms-same-length-7 : (t : ℕ) → operand-forms-lts.Need-same-length-7 (operand-forms-calls t) (operand-forms-at t) operand-forms.Post
 operand-forms-same-length-7 t c =
@@ -615,7 +620,7 @@ operand-forms-same-length-10 : (t : ℕ) → operand-forms-lts.Need-same-length-
 operand-forms-same-length-10 t c =
     let at-row2 = c .before in
     let at-row = at-row2 .before .before .before .before .before .before .before .before .before .before .before .before .before .before .before .before .before in
-    at-row2 .row2 .given ∙ at-row .row .given
+    at-row2 .scratch2 .given ∙ at-row .scratch .given
 
 operand-forms-returns-3 : (t : ℕ) → operand-forms-lts.Need-returns-3 (operand-forms-calls t) (operand-forms-at t) operand-forms.Post
 operand-forms-returns-3 t c =
@@ -629,7 +634,7 @@ operand-forms-returns-3 t c =
 pair-of-negation-normal-form-requires : (t : ℕ) → pair-of-lts.Need-negation-normal-form-requires (pair-of-calls t) (pair-of-at t) pair-of.Post
 pair-of-negation-normal-form-requires t c κs =
     let start = c .before .before .before .before .before .before .before .before .before in
-    (omega (arith, max-left (start .args .a .0) (start .args .b), start .pre .0), (start .pre .1 .0, (start .pre .1 .1 .0, (start .pre .1 .1 .1 .0, start .pre .1 .1 .1 .1 .1))))
+    (omega (arith, max-left (start .args .a .0 .0) (start .args .b .0), start .pre .0), (start .pre .1 .0, (start .pre .1 .1 .0, (start .pre .1 .1 .1 .0, start .pre .1 .1 .1 .1 .1))))
 
 pair-of-enum-known-p : (t : ℕ) → pair-of-lts.Need-enum-known-p (pair-of-calls t) (pair-of-at t) pair-of.Post
 pair-of-enum-known-p t c = search needs
@@ -647,7 +652,7 @@ pair-of-same-length-3 : (t : ℕ) → pair-of-lts.Need-same-length-3 (pair-of-ca
 pair-of-same-length-3 t c = c .before .before .before .before .before .memo .given
 
 pair-of-same-length-4 : (t : ℕ) → pair-of-lts.Need-same-length-4 (pair-of-calls t) (pair-of-at t) pair-of.Post
-pair-of-same-length-4 t c = c .before .before .before .row .given
+pair-of-same-length-4 t c = c .before .before .before .scratch .given
 
 pair-of-returns : (t : ℕ) → pair-of-lts.Need-returns (pair-of-calls t) (pair-of-at t) pair-of.Post
 pair-of-returns t c = search (pairs, indexings)
@@ -660,7 +665,7 @@ pair-of-negation-normal-form-requires-2 t c κs =
     let at-negation-normal-form = at-memo .before .before .before .before .before in
     let start = at-negation-normal-form .before .before .before .before .before .before .before .before .before .before in
     let j = at-negation-normal-form .negation-normal-form .ensures .0 in
-    (omega (arith, max-right (start .args .a .0) (start .args .b), start .pre .0), (ready-after normal _ _ _ _ _ _ _ _ _ (j .formed) _ _ (at-p .p .given .1) (omega (arith, at-memo .memo .given, start .pre .1 .0 .room)), (omega (arith, at-row .row .given, start .pre .1 .1 .0), (start .pre .1 .1 .1 .1 .0, index-at _ _ _ _ _ _ (at-p .p .given .1) (at-negation-normal-form .negation-normal-form .ensures .1)))))
+    (omega (arith, max-right (start .args .a .0 .0) (start .args .b .0), start .pre .0), (ready-after normal _ _ _ _ _ _ _ _ _ (j .formed) _ _ (at-p .p .given .1) (omega (arith, at-memo .memo .given, start .pre .1 .0 .room)), (omega (arith, at-row .scratch .given, start .pre .1 .1 .0), (start .pre .1 .1 .1 .1 .0, index-at _ _ _ _ _ _ (at-p .p .given .1) (at-negation-normal-form .negation-normal-form .ensures .1)))))
 
 pair-of-enum-known-q : (t : ℕ) → pair-of-lts.Need-enum-known-q (pair-of-calls t) (pair-of-at t) pair-of.Post
 pair-of-enum-known-q t c = search needs
@@ -690,7 +695,7 @@ pair-of-same-length-8 : (t : ℕ) → pair-of-lts.Need-same-length-8 (pair-of-ca
 pair-of-same-length-8 t c =
     let at-row2 = c .before .before .before in
     let at-row = at-row2 .before .before .before .before .before .before .before .before .before .before .before .before .before .before .before .before .before in
-    at-row2 .row2 .given ∙ at-row .row .given
+    at-row2 .scratch2 .given ∙ at-row .scratch .given
 
 pair-of-returns-2 : (t : ℕ) → pair-of-lts.Need-returns-2 (pair-of-calls t) (pair-of-at t) pair-of.Post
 pair-of-returns-2 t c =
@@ -729,7 +734,7 @@ pair-of-same-length-12 : (t : ℕ) → pair-of-lts.Need-same-length-12 (pair-of-
 pair-of-same-length-12 t c =
     let at-row2 = c .before .before .before .before .before .before .before .before .before .before .before .before in
     let at-row = at-row2 .before .before .before .before .before .before .before .before .before .before .before .before .before .before .before .before .before in
-    at-row2 .row2 .given ∙ at-row .row .given
+    at-row2 .scratch2 .given ∙ at-row .scratch .given
 
 pair-of-returns-3 : (t : ℕ) → pair-of-lts.Need-returns-3 (pair-of-calls t) (pair-of-at t) pair-of.Post
 pair-of-returns-3 t c =
@@ -762,7 +767,7 @@ quantifier-form-same-length-3 : (t : ℕ) → quantifier-form-lts.Need-same-leng
 quantifier-form-same-length-3 t c = c .before .before .before .before .before .memo .given
 
 quantifier-form-same-length-4 : (t : ℕ) → quantifier-form-lts.Need-same-length-4 (quantifier-form-calls t) (quantifier-form-at t) quantifier-form.Post
-quantifier-form-same-length-4 t c = c .before .before .before .row .given
+quantifier-form-same-length-4 t c = c .before .before .before .scratch .given
 
 quantifier-form-returns : (t : ℕ) → quantifier-form-lts.Need-returns (quantifier-form-calls t) (quantifier-form-at t) quantifier-form.Post
 quantifier-form-returns t c =
@@ -776,7 +781,7 @@ quantifier-form-put-quantifier-requires t c κs =
     let at-row = at-form .before .before .before in
     let at-body = at-row .before .before .before .before .before .before .before in
     let start = at-body .before .before .before .before .before .before .before .before .before .before in
-    (state-after normal _ _ _ _ _ _ _ _ _ (at-body .negation-normal-form .ensures .0 .formed) _ _ (at-form .form .given .1), (omega (arith, at-row .row .given, start .pre .1 .1 .0), (start .pre .1 .1 .1 .0, index-at _ _ _ _ _ _ (at-form .form .given .1) (at-body .negation-normal-form .ensures .1))))
+    (state-after normal _ _ _ _ _ _ _ _ _ (at-body .negation-normal-form .ensures .0 .formed) _ _ (at-form .form .given .1), (omega (arith, at-row .scratch .given, start .pre .1 .1 .0), (start .pre .1 .1 .1 .0, index-at _ _ _ _ _ _ (at-form .form .given .1) (at-body .negation-normal-form .ensures .1))))
 
 quantifier-form-same-length-5 : (t : ℕ) → quantifier-form-lts.Need-same-length-5 (quantifier-form-calls t) (quantifier-form-at t) quantifier-form.Post
 quantifier-form-same-length-5 t c =
@@ -797,7 +802,7 @@ quantifier-form-same-length-8 : (t : ℕ) → quantifier-form-lts.Need-same-leng
 quantifier-form-same-length-8 t c =
     let at-row2 = c .before in
     let at-row = at-row2 .before .before .before .before .before .before .before .before .before .before .before .before .before .before in
-    at-row2 .row2 .given ∙ at-row .row .given
+    at-row2 .scratch2 .given ∙ at-row .scratch .given
 
 quantifier-form-returns-2 : (t : ℕ) → quantifier-form-lts.Need-returns-2 (quantifier-form-calls t) (quantifier-form-at t) quantifier-form.Post
 quantifier-form-returns-2 t c =
@@ -810,7 +815,7 @@ quantifier-form-returns-2 t c =
 two-pairs-pair-of-requires : (t : ℕ) → two-pairs-lts.Need-pair-of-requires (two-pairs-calls t) (two-pairs-at t) two-pairs.Post
 two-pairs-pair-of-requires t c κs =
     let start = c .before .before .before .before .before .before .before .before .before in
-    (omega (arith, max-left (maxOf (start .args .a) (start .args .b)) (maxOf (start .args .c .0) (start .args .d)), start .pre .0), (start .pre .1 .0, (start .pre .1 .1 .0, (start .pre .1 .1 .1 .0 .first, (start .pre .1 .1 .1 .0 .second, start .pre .1 .1 .1 .1)))))
+    (omega (arith, max-left (maxOf (start .args .a .0) (start .args .b .0)) (maxOf (start .args .c .0 .0) (start .args .d .0)), start .pre .0), (start .pre .1 .0, (start .pre .1 .1 .0, (start .pre .1 .1 .1 .0 .first, (start .pre .1 .1 .1 .0 .second, start .pre .1 .1 .1 .1)))))
 
 two-pairs-enum-known-p : (t : ℕ) → two-pairs-lts.Need-enum-known-p (two-pairs-calls t) (two-pairs-at t) two-pairs.Post
 two-pairs-enum-known-p t c = search needs
@@ -828,7 +833,7 @@ two-pairs-same-length-3 : (t : ℕ) → two-pairs-lts.Need-same-length-3 (two-pa
 two-pairs-same-length-3 t c = c .before .before .before .before .before .memo .given
 
 two-pairs-same-length-4 : (t : ℕ) → two-pairs-lts.Need-same-length-4 (two-pairs-calls t) (two-pairs-at t) two-pairs.Post
-two-pairs-same-length-4 t c = c .before .before .before .row .given
+two-pairs-same-length-4 t c = c .before .before .before .scratch .given
 
 two-pairs-returns : (t : ℕ) → two-pairs-lts.Need-returns (two-pairs-calls t) (two-pairs-at t) two-pairs.Post
 two-pairs-returns t c = search (twos, indexings)
@@ -841,7 +846,7 @@ two-pairs-pair-of-requires-2 t c κs =
     let at-pair-of = at-memo .before .before .before .before .before in
     let start = at-pair-of .before .before .before .before .before .before .before .before .before .before in
     let j = at-pair-of .pair-of .ensures .0 in
-    (omega (arith, max-right (maxOf (start .args .a) (start .args .b)) (maxOf (start .args .c .0) (start .args .d)), start .pre .0), (ready-after normal _ _ _ _ _ _ _ _ _ j _ _ (at-p .p .given .1) (omega (arith, at-memo .memo .given, start .pre .1 .0 .room)), (omega (arith, at-row .row .given, start .pre .1 .1 .0), (start .pre .1 .1 .1 .0 .third, (start .pre .1 .1 .1 .0 .fourth, index-at _ _ _ _ _ _ (at-p .p .given .1) (at-pair-of .pair-of .ensures .1))))))
+    (omega (arith, max-right (maxOf (start .args .a .0) (start .args .b .0)) (maxOf (start .args .c .0 .0) (start .args .d .0)), start .pre .0), (ready-after normal _ _ _ _ _ _ _ _ _ j _ _ (at-p .p .given .1) (omega (arith, at-memo .memo .given, start .pre .1 .0 .room)), (omega (arith, at-row .scratch .given, start .pre .1 .1 .0), (start .pre .1 .1 .1 .0 .third, (start .pre .1 .1 .1 .0 .fourth, index-at _ _ _ _ _ _ (at-p .p .given .1) (at-pair-of .pair-of .ensures .1))))))
 
 two-pairs-enum-known-q : (t : ℕ) → two-pairs-lts.Need-enum-known-q (two-pairs-calls t) (two-pairs-at t) two-pairs.Post
 two-pairs-enum-known-q t c = search needs
@@ -871,7 +876,7 @@ two-pairs-same-length-8 : (t : ℕ) → two-pairs-lts.Need-same-length-8 (two-pa
 two-pairs-same-length-8 t c =
     let at-row2 = c .before .before .before in
     let at-row = at-row2 .before .before .before .before .before .before .before .before .before .before .before .before .before .before .before .before .before in
-    at-row2 .row2 .given ∙ at-row .row .given
+    at-row2 .scratch2 .given ∙ at-row .scratch .given
 
 two-pairs-returns-2 : (t : ℕ) → two-pairs-lts.Need-returns-2 (two-pairs-calls t) (two-pairs-at t) two-pairs.Post
 two-pairs-returns-2 t c =
@@ -911,7 +916,7 @@ two-pairs-same-length-12 : (t : ℕ) → two-pairs-lts.Need-same-length-12 (two-
 two-pairs-same-length-12 t c =
     let at-row2 = c .before .before .before .before .before .before .before .before .before .before .before .before in
     let at-row = at-row2 .before .before .before .before .before .before .before .before .before .before .before .before .before .before .before .before .before in
-    at-row2 .row2 .given ∙ at-row .row .given
+    at-row2 .scratch2 .given ∙ at-row .scratch .given
 
 two-pairs-returns-3 : (t : ℕ) → two-pairs-lts.Need-returns-3 (two-pairs-calls t) (two-pairs-at t) two-pairs.Post
 two-pairs-returns-3 t c =
@@ -945,7 +950,7 @@ pub +connective-form+expand+negation-normal-form+operand-forms+pair-of+quantifie
     (connective-form-same-length-3 t)
     (connective-form-same-length-4 t)
     (connective-form-returns t)
-    (connective-form-put-many-requires t)
+    (connective-form-put-connective-requires t)
     (connective-form-same-length-5 t)
     (connective-form-same-length-6 t)
     (connective-form-same-length-7 t)
@@ -1041,8 +1046,8 @@ pub +connective-form+expand+negation-normal-form+operand-forms+pair-of+quantifie
     (operand-forms-same-length t)
     (operand-forms-same-length-2 t)
     (operand-forms-returns t)
-    (operand-forms-mul-u t)
-    (operand-forms-shared-slice-read-u t)
+    (operand-forms-mul-t18 t)
+    (operand-forms-shared-slice-read-t22 t)
     (operand-forms-negation-normal-form-requires t)
     (operand-forms-enum-known-m t)
     (operand-forms-enum-told t)

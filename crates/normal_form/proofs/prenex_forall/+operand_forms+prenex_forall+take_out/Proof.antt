@@ -4,7 +4,7 @@ use mathlib.Core.Path.{refl, _∙_}
 use Rattle.building.specs.Walk.{taken-out}
 use Rattle.building.proofs.terms.Cells.{parts, run-short}
 use Rattle.building.proofs.build.Walks.{slot-first, before-same, operand-before, state-after, place-small, ready-after, one-term, form-full, form-kept, operand-walks, operands-next}
-use Rattle.normal_form.proofs.prenex_forall.Laws.{takes, take-full, take-put, forall-below, connective-before}
+use Rattle.normal_form.proofs.prenex_forall.Laws.{take-forall, takes, take-full, take-put, forall-below, connective-before}
 use Prim.Native.Nat.{ℕ, _<_, _+_, _*_, _-_}
 use borrow.Fn.Kinds.{In}
 use borrow.Fn.PlainCycle.{Measures, is, falls, and}
@@ -18,7 +18,7 @@ use Rattle.normal_form.proofs.prenex_forall.take_out.Reads as take-out
 use Rattle.normal_form.proofs.prenex_forall.take_out.Kinds as take-out-kinds
 use Rattle.normal_form.proofs.prenex_forall.+operand_forms+prenex_forall+take_out.Lts-take_out as take-out-lts
 use Rattle.cells.proofs.run.operands.Reads as operands-reads
-use Rattle.building.proofs.terms.put_many.Reads as put-many-reads
+use Rattle.building.proofs.terms.put_connective.Reads as put-connective-reads
 use Rattle.building.proofs.terms.slot.Reads as slot-reads
 use Rattle.formulas.proofs.view.normal_view.Reads as normal-view-reads
 use Rattle.normal_form.proofs.prenex_forall.+operand_forms+prenex_forall+take_out.{
@@ -30,13 +30,13 @@ use Rattle.normal_form.proofs.prenex_forall.+operand_forms+prenex_foral
 use Rattle.building.proofs.build.Indexing.{indexings, index-at}
 
 abbrev μ-operand-forms : Measures 5 operand-forms-kinds.ps ℕ
-μ-operand-forms κs a = a .1 .1 .1 .1 .1 .1 .1 .0 * 32768 + (8192 - a .1 .1 .1 .1 .1 .1 .1 .1 .0)
+μ-operand-forms κs a = a .1 .1 .1 .1 .1 .1 .1 .0 .0 * 32768 + (8192 - a .1 .1 .1 .1 .1 .1 .1 .1 .0)
 
 abbrev μ-prenex-forall : Measures 5 prenex-forall-kinds.ps ℕ
-μ-prenex-forall κs a = a .1 .1 .1 .1 .1 .1 .1 .0 * 32768 + 24576
+μ-prenex-forall κs a = a .1 .1 .1 .1 .1 .1 .1 .0 .0 * 32768 + 24576
 
 abbrev μ-take-out : Measures 5 take-out-kinds.ps ℕ
-μ-take-out κs a = a .1 .1 .1 .1 .1 .1 .1 .0 * 32768 + 16384
+μ-take-out κs a = a .1 .1 .1 .1 .1 .1 .1 .0 .0 * 32768 + 16384
 
 abbrev operand-forms-at : ℕ → In 5 operand-forms-kinds.ps
 operand-forms-at t =
@@ -71,7 +71,7 @@ take-out-below t =
 
 -- what the calls in `take-out` ask and tell, below the measure t
 abbrev take-out-calls : ℕ → take-out-lts.Claims
-take-out-calls t = (normal-view-reads.Asked, normal-view-reads.Learnt, prenex-forall-below t, prenex-forall.Post, operand-forms-below t, operand-forms.Post, put-many-reads.Asked, put-many-reads.Learnt)
+take-out-calls t = (normal-view-reads.Asked, normal-view-reads.Learnt, prenex-forall-below t, prenex-forall.Post, operand-forms-below t, operand-forms.Post, put-connective-reads.Asked, put-connective-reads.Learnt)
 
 -- what the calls in `prenex-forall` ask and tell, below the measure t
 abbrev prenex-forall-calls : ℕ → prenex-forall-lts.Claims
@@ -108,11 +108,11 @@ operand-forms-same-length-2 t c = search needs
 operand-forms-returns : (t : ℕ) → operand-forms-lts.Need-returns (operand-forms-calls t) (operand-forms-at t) operand-forms.Post
 operand-forms-returns t c = search (operand-walks, indexings)
 
-operand-forms-mul-u : (t : ℕ) → operand-forms-lts.Need-mul-u (operand-forms-calls t) (operand-forms-at t) operand-forms.Post
-operand-forms-mul-u t c = search needs
+operand-forms-mul-t17 : (t : ℕ) → operand-forms-lts.Need-mul-t17 (operand-forms-calls t) (operand-forms-at t) operand-forms.Post
+operand-forms-mul-t17 t c = search needs
 
-operand-forms-shared-slice-read-u : (t : ℕ) → operand-forms-lts.Need-shared-slice-read-u (operand-forms-calls t) (operand-forms-at t) operand-forms.Post
-operand-forms-shared-slice-read-u t c = search needs
+operand-forms-shared-slice-read-t21 : (t : ℕ) → operand-forms-lts.Need-shared-slice-read-t21 (operand-forms-calls t) (operand-forms-at t) operand-forms.Post
+operand-forms-shared-slice-read-t21 t c = search needs
 
 operand-forms-prenex-forall-requires : (t : ℕ) → operand-forms-lts.Need-prenex-forall-requires (operand-forms-calls t) (operand-forms-at t) operand-forms.Post
 operand-forms-prenex-forall-requires t c κs =
@@ -138,7 +138,7 @@ operand-forms-same-length-5 : (t : ℕ) → operand-forms-lts.Need-same-length-5
 operand-forms-same-length-5 t c = c .before .before .before .before .before .memo .given
 
 operand-forms-same-length-6 : (t : ℕ) → operand-forms-lts.Need-same-length-6 (operand-forms-calls t) (operand-forms-at t) operand-forms.Post
-operand-forms-same-length-6 t c = c .before .before .before .row .given
+operand-forms-same-length-6 t c = c .before .before .before .scratch .given
 
 operand-forms-returns-2 : (t : ℕ) → operand-forms-lts.Need-returns-2 (operand-forms-calls t) (operand-forms-at t) operand-forms.Post
 operand-forms-returns-2 t c = search (operand-walks, indexings)
@@ -156,7 +156,7 @@ operand-forms-operand-forms-requires t c κs =
     let at-operands = at-if1 .before in
     let start = at-operands .before .before .before .before .before .before .before in
     let j = at-prenex-forall .prenex-forall .ensures .0 in
-    (omega (arith, run-short _ _ _ _ (start .pre .1 .0 .state) _ (start .pre .1 .1 .1 .0) _ (at-operands .operands .ensures), at-if1 .if1 .left, start .pre .0), (ready-after taken-out _ _ _ _ _ _ _ _ _ (j .formed) _ _ (at-m .m .given .1) (omega (arith, at-memo .memo .given, start .pre .1 .0 .room)), (omega (arith, at-row .row .given, start .pre .1 .1 .0), (start .pre .1 .1 .1 .0, (before-same _ _ _ _ _ (j .formed .puts .left) _ (start .pre .1 .1 .1 .1 .0), index-at _ _ _ _ _ _ (at-m .m .given .1) (at-prenex-forall .prenex-forall .ensures .1))))))
+    (omega (arith, run-short _ _ _ _ (start .pre .1 .0 .state) _ (start .pre .1 .1 .1 .0) _ (at-operands .operands .ensures), at-if1 .if1 .left, start .pre .0), (ready-after taken-out _ _ _ _ _ _ _ _ _ (j .formed) _ _ (at-m .m .given .1) (omega (arith, at-memo .memo .given, start .pre .1 .0 .room)), (omega (arith, at-row .scratch .given, start .pre .1 .1 .0), (start .pre .1 .1 .1 .0, (before-same _ _ _ _ _ (j .formed .puts .left) _ (start .pre .1 .1 .1 .1 .0), index-at _ _ _ _ _ _ (at-m .m .given .1) (at-prenex-forall .prenex-forall .ensures .1))))))
 
 operand-forms-same-length-7 : (t : ℕ) → operand-forms-lts.Need-same-length-7 (operand-forms-calls t) (operand-forms-at t) operand-forms.Post
 operand-forms-same-length-7 t c =
@@ -180,7 +180,7 @@ operand-forms-same-length-10 : (t : ℕ) → operand-forms-lts.Need-same-length-
 operand-forms-same-length-10 t c =
     let at-row2 = c .before in
     let at-row = at-row2 .before .before .before .before .before .before .before .before .before .before .before .before .before .before .before .before .before in
-    at-row2 .row2 .given ∙ at-row .row .given
+    at-row2 .scratch2 .given ∙ at-row .scratch .given
 
 operand-forms-returns-3 : (t : ℕ) → operand-forms-lts.Need-returns-3 (operand-forms-calls t) (operand-forms-at t) operand-forms.Post
 operand-forms-returns-3 t c =
@@ -231,7 +231,7 @@ prenex-forall-same-length-3 : (t : ℕ) → prenex-forall-lts.Need-same-length-3
 prenex-forall-same-length-3 t c = c .before .before .before .before .before .memo .given
 
 prenex-forall-same-length-4 : (t : ℕ) → prenex-forall-lts.Need-same-length-4 (prenex-forall-calls t) (prenex-forall-at t) prenex-forall.Post
-prenex-forall-same-length-4 t c = c .before .before .before .row .given
+prenex-forall-same-length-4 t c = c .before .before .before .scratch .given
 
 prenex-forall-returns-2 : (t : ℕ) → prenex-forall-lts.Need-returns-2 (prenex-forall-calls t) (prenex-forall-at t) prenex-forall.Post
 prenex-forall-returns-2 t c =
@@ -242,43 +242,43 @@ prenex-forall-returns-2 t c =
 
 prenex-forall-add-memo : (t : ℕ) → prenex-forall-lts.Need-add-memo (prenex-forall-calls t) (prenex-forall-at t) prenex-forall.Post
 prenex-forall-add-memo t c =
-    let at-take-out = c .before .before .before .before .before .before .before .before .before .before .before in
-    let h = place-small taken-out _ _ _ _ _ _ _ _ _ (at-take-out .take-out .ensures .0) _ _ (c .before .p .given .1) in
+    let at-take-out = c .before .before .before .before .before .before .before .before .before .before .before .before in
+    let h = place-small taken-out _ _ _ _ _ _ _ _ _ (at-take-out .take-out .ensures .0) _ _ (c .before .before .p .given .1) in
     search needs
 
 prenex-forall-mul-memo : (t : ℕ) → prenex-forall-lts.Need-mul-memo (prenex-forall-calls t) (prenex-forall-at t) prenex-forall.Post
 prenex-forall-mul-memo t c =
-    let at-slot = c .before .before .before .before .before .before .before .before .before .before .before .before .before .before .before .before .before .before .before in
+    let at-slot = c .before .before .before .before .before .before .before .before .before .before .before .before .before .before .before .before .before .before .before .before in
     let start = at-slot .before .before .before .before .before in
     let h = slot-first taken-out _ _ _ _ _ (start .pre .1 .0) _ (start .pre .1 .1 .1 .0) _ (at-slot .slot .ensures) in
     search needs
 
 prenex-forall-slice-write-memo : (t : ℕ) → prenex-forall-lts.Need-slice-write-memo (prenex-forall-calls t) (prenex-forall-at t) prenex-forall.Post
 prenex-forall-slice-write-memo t c =
-    let at-slot = c .before .before .before .before .before .before .before .before .before .before .before .before .before .before .before .before .before .before .before in
+    let at-slot = c .before .before .before .before .before .before .before .before .before .before .before .before .before .before .before .before .before .before .before .before in
     let start = at-slot .before .before .before .before .before in
     let h = slot-first taken-out _ _ _ _ _ (start .pre .1 .0) _ (start .pre .1 .1 .1 .0) _ (at-slot .slot .ensures) in
     search needs
 
 prenex-forall-same-length-5 : (t : ℕ) → prenex-forall-lts.Need-same-length-5 (prenex-forall-calls t) (prenex-forall-at t) prenex-forall.Post
-prenex-forall-same-length-5 t c = c .before .before .before .before .before .before .before .before .before .before .tags .given
+prenex-forall-same-length-5 t c = c .before .before .before .before .before .before .before .before .before .before .before .tags .given
 
 prenex-forall-same-length-6 : (t : ℕ) → prenex-forall-lts.Need-same-length-6 (prenex-forall-calls t) (prenex-forall-at t) prenex-forall.Post
-prenex-forall-same-length-6 t c = c .before .before .before .before .before .before .before .before .values .given
+prenex-forall-same-length-6 t c = c .before .before .before .before .before .before .before .before .before .values .given
 
 prenex-forall-same-length-7 : (t : ℕ) → prenex-forall-lts.Need-same-length-7 (prenex-forall-calls t) (prenex-forall-at t) prenex-forall.Post
 prenex-forall-same-length-7 t c = search needs
 
 prenex-forall-same-length-8 : (t : ℕ) → prenex-forall-lts.Need-same-length-8 (prenex-forall-calls t) (prenex-forall-at t) prenex-forall.Post
-prenex-forall-same-length-8 t c = c .before .before .before .before .row .given
+prenex-forall-same-length-8 t c = c .before .before .before .before .before .scratch .given
 
 prenex-forall-returns-3 : (t : ℕ) → prenex-forall-lts.Need-returns-3 (prenex-forall-calls t) (prenex-forall-at t) prenex-forall.Post
 prenex-forall-returns-3 t c =
-    let at-take-out = c .before .before .before .before .before .before .before .before .before .before .before in
+    let at-take-out = c .before .before .before .before .before .before .before .before .before .before .before .before in
     let at-if1 = at-take-out .before .before .before .before .before .before in
     let at-slot = at-if1 .before .before in
     let start = at-slot .before .before .before .before .before in
-    (form-kept taken-out _ _ _ _ _ (start .pre .1 .0) _ _ (start .pre .1 .1 .1 .0) _ (at-slot .slot .ensures) _ refl _ _ _ _ (at-take-out .take-out .ensures .0) (at-if1 .if1 .left) _ _ (c .before .p .given .1) (omega (arith, slot-first taken-out _ _ _ _ _ (start .pre .1 .0) _ (start .pre .1 .1 .1 .0) _ (at-slot .slot .ensures))), index-at _ _ _ _ _ _ (c .before .p .given .1) (at-take-out .take-out .ensures .1))
+    (form-kept taken-out _ _ _ _ _ (start .pre .1 .0) _ _ (start .pre .1 .1 .1 .0) _ (at-slot .slot .ensures) _ refl _ _ _ _ (at-take-out .take-out .ensures .0) (at-if1 .if1 .left) _ _ (c .before .before .p .given .1) (omega (arith, slot-first taken-out _ _ _ _ _ (start .pre .1 .0) _ (start .pre .1 .1 .1 .0) _ (at-slot .slot .ensures))), index-at _ _ _ _ _ _ (c .before .before .p .given .1) (at-take-out .take-out .ensures .1))
 
 take-out-slice-reshare-prefix-normal-view :
     (t : ℕ) → take-out-lts.Need-slice-reshare-prefix-normal-view (take-out-calls t) (take-out-at t) take-out.Post
@@ -337,7 +337,7 @@ take-out-same-length-3 : (t : ℕ) → take-out-lts.Need-same-length-3 (take-out
 take-out-same-length-3 t c = c .before .before .before .before .before .memo2 .given
 
 take-out-same-length-4 : (t : ℕ) → take-out-lts.Need-same-length-4 (take-out-calls t) (take-out-at t) take-out.Post
-take-out-same-length-4 t c = c .before .before .before .row2 .given
+take-out-same-length-4 t c = c .before .before .before .scratch2 .given
 
 take-out-returns : (t : ℕ) → take-out-lts.Need-returns (take-out-calls t) (take-out-at t) take-out.Post
 take-out-returns t c =
@@ -347,13 +347,13 @@ take-out-returns t c =
     let start = at-normal-view .before .before .before .before .before .before .before in
     (take-full _ _ _ _ _ (start .pre .1 .0) _ (start .pre .1 .1 .1 .0) _ (at-normal-view .normal-view .ensures) _ (at-view2 .view2 .given .1) _ _ _ _ (at-operand-forms .operand-forms .ensures .0) (c .enum-told2 .given .1), tt)
 
-take-out-put-many-requires : (t : ℕ) → take-out-lts.Need-put-many-requires (take-out-calls t) (take-out-at t) take-out.Post
-take-out-put-many-requires t c κs =
+take-out-put-connective-requires : (t : ℕ) → take-out-lts.Need-put-connective-requires (take-out-calls t) (take-out-at t) take-out.Post
+take-out-put-connective-requires t c κs =
     let at-m = c .before .before .before .before .before .before in
     let at-row2 = at-m .before .before .before in
     let at-operand-forms = at-row2 .before .before .before .before .before .before .before in
     let start = at-operand-forms .before .before .before .before .before .before .before .before .before .before .before .before .before .before .before .before in
-    (state-after taken-out _ _ _ _ _ _ _ _ _ (at-operand-forms .operand-forms .ensures .0 .builds) _ _ (at-m .m .given .1), (omega (arith, at-row2 .row2 .given, start .pre .1 .1 .0), (start .pre .1 .1 .1 .0, index-at _ _ _ _ _ _ (at-m .m .given .1) (at-operand-forms .operand-forms .ensures .1))))
+    (state-after taken-out _ _ _ _ _ _ _ _ _ (at-operand-forms .operand-forms .ensures .0 .builds) _ _ (at-m .m .given .1), (omega (arith, at-row2 .scratch2 .given, start .pre .1 .1 .0), (start .pre .1 .1 .1 .0, index-at _ _ _ _ _ _ (at-m .m .given .1) (at-operand-forms .operand-forms .ensures .1))))
 
 take-out-same-length-5 : (t : ℕ) → take-out-lts.Need-same-length-5 (take-out-calls t) (take-out-at t) take-out.Post
 take-out-same-length-5 t c = search needs
@@ -374,10 +374,15 @@ take-out-same-length-9 : (t : ℕ) → take-out-lts.Need-same-length-9 (take-out
 take-out-same-length-9 t c = c .before .before .before .memo .given
 
 take-out-same-length-10 : (t : ℕ) → take-out-lts.Need-same-length-10 (take-out-calls t) (take-out-at t) take-out.Post
-take-out-same-length-10 t c = c .before .row .given
+take-out-same-length-10 t c = c .before .scratch .given
 
 take-out-returns-3 : (t : ℕ) → take-out-lts.Need-returns-3 (take-out-calls t) (take-out-at t) take-out.Post
-take-out-returns-3 t c = search (takes, indexings)
+take-out-returns-3 t c =
+    let at-call = c .before .before .before .before .before .before .before .before in
+    let at-view = at-call .before .before .before .before .before .before .before in
+    let at-view-of = at-view .before .before in
+    let start = at-view-of .before .before .before .before .before .before .before in
+    (take-forall _ _ _ _ _ (start .pre .1 .0) _ (start .pre .1 .1 .1 .0) _ (at-view-of .normal-view .ensures) _ (at-view .view .given .1) _ _ _ _ (at-call .prenex-forall .ensures .0), at-call .prenex-forall .ensures .1)
 
 take-out-same-length-11 : (t : ℕ) → take-out-lts.Need-same-length-11 (take-out-calls t) (take-out-at t) take-out.Post
 take-out-same-length-11 t c =
@@ -398,17 +403,17 @@ take-out-same-length-14 : (t : ℕ) → take-out-lts.Need-same-length-14 (take-o
 take-out-same-length-14 t c =
     let at-row3 = c .before in
     let at-row2 = at-row3 .before .before .before .before .before .before .before .before .before .before .before .before .before .before .before in
-    at-row3 .row3 .given ∙ at-row2 .row2 .given
+    at-row3 .scratch3 .given ∙ at-row2 .scratch2 .given
 
 take-out-returns-4 : (t : ℕ) → take-out-lts.Need-returns-4 (take-out-calls t) (take-out-at t) take-out.Post
 take-out-returns-4 t c =
-    let at-put-many = c .before .before .before .before .before .before in
-    let at-m = at-put-many .before .before .before .before .before .before .before in
+    let at-put-connective = c .before .before .before .before .before .before in
+    let at-m = at-put-connective .before .before .before .before .before .before .before in
     let at-operand-forms = at-m .before .before .before .before .before .before .before .before .before .before in
     let at-view2 = at-operand-forms .before .before .before .before .before .before .before in
     let at-normal-view = at-view2 .before .before in
     let start = at-normal-view .before .before .before .before .before .before .before in
-    (take-put _ _ _ _ _ (start .pre .1 .0) _ (start .pre .1 .1 .1 .0) _ (at-normal-view .normal-view .ensures) _ (at-view2 .view2 .given .1) _ _ _ _ (at-operand-forms .operand-forms .ensures .0) _ _ (at-m .m .given .1) _ _ _ (at-put-many .put-many .ensures .0), at-put-many .put-many .ensures .1)
+    (take-put _ _ _ _ _ (start .pre .1 .0) _ (start .pre .1 .1 .1 .0) _ (at-normal-view .normal-view .ensures) _ (at-view2 .view2 .given .1) _ _ _ _ (at-operand-forms .operand-forms .ensures .0) _ _ (at-m .m .given .1) _ _ _ (at-put-connective .put-connective .ensures .0), at-put-connective .put-connective .ensures .1)
 
 pub +operand-forms+prenex-forall+take-out-spec : {M : Type 1} → statement M
 +operand-forms+prenex-forall+take-out-spec =
@@ -423,8 +428,8 @@ pub +operand-forms+prenex-forall+take-out-spec : {M : Type 1} → statement M
     (operand-forms-same-length t)
     (operand-forms-same-length-2 t)
     (operand-forms-returns t)
-    (operand-forms-mul-u t)
-    (operand-forms-shared-slice-read-u t)
+    (operand-forms-mul-t17 t)
+    (operand-forms-shared-slice-read-t21 t)
     (operand-forms-prenex-forall-requires t)
     (operand-forms-enum-known-m t)
     (operand-forms-enum-told t)
@@ -484,7 +489,7 @@ pub +operand-forms+prenex-forall+take-out-spec : {M : Type 1} → statement M
     (take-out-same-length-3 t)
     (take-out-same-length-4 t)
     (take-out-returns t)
-    (take-out-put-many-requires t)
+    (take-out-put-connective-requires t)
     (take-out-same-length-5 t)
     (take-out-same-length-6 t)
     (take-out-returns-2 t)

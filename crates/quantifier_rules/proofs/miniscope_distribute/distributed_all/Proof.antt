@@ -23,17 +23,17 @@ accept-requires c κs = search needs
 returns : tie.Need-returns Inv-loop μ-loop
 returns c = search all
 
-mul-distributed : tie.Need-mul-distributed Inv-loop μ-loop
-mul-distributed c = search needs
+mul-t10 : tie.Need-mul-t10 Inv-loop μ-loop
+mul-t10 c = search needs
 
-shared-slice-read-distributed : tie.Need-shared-slice-read-distributed Inv-loop μ-loop
-shared-slice-read-distributed c = search needs
+shared-slice-read-t14 : tie.Need-shared-slice-read-t14 Inv-loop μ-loop
+shared-slice-read-t14 c = search needs
 
-mul-distributed-2 : tie.Need-mul-distributed-2 Inv-loop μ-loop
-mul-distributed-2 c = search needs
+mul-t16 : tie.Need-mul-t16 Inv-loop μ-loop
+mul-t16 c = search needs
 
-shared-slice-read-distributed-2 : tie.Need-shared-slice-read-distributed-2 Inv-loop μ-loop
-shared-slice-read-distributed-2 c = search needs
+shared-slice-read-t18 : tie.Need-shared-slice-read-t18 Inv-loop μ-loop
+shared-slice-read-t18 c = search needs
 
 distributed-requires : tie.Need-distributed-requires Inv-loop μ-loop
 distributed-requires c κs = search needs
@@ -74,10 +74,10 @@ distributed-all-spec =
     loop-holds
     accept-requires
     returns
-    mul-distributed
-    shared-slice-read-distributed
-    mul-distributed-2
-    shared-slice-read-distributed-2
+    mul-t10
+    shared-slice-read-t14
+    mul-t16
+    shared-slice-read-t18
     distributed-requires
     enum-known-k
     refuse-requires

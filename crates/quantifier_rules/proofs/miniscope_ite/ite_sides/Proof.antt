@@ -1,4 +1,4 @@
-use Rattle.quantifier_rules.proofs.miniscope_ite.Laws.{pattern, ite-are}
+use Rattle.quantifier_rules.proofs.miniscope_ite.Laws.{pattern, ite-are, ite-test, ite-yes, ite-no}
 use borrow.Author.Needs.{needs}
 use Rattle.quantifier_rules.proofs.miniscope_ite.ite_sides.Statement.{statement}
 use Rattle.quantifier_rules.proofs.miniscope_ite.ite_sides.Tie as tie
@@ -52,23 +52,26 @@ returns-4 : tie.Need-returns-4
 returns-4 c = search pattern
 
 returns-5 : tie.Need-returns-5
-returns-5 c = search pattern
+returns-5 c =
+    ite-test _ _ _ _ (c .before .before .before .before .before .before .before .before .before .before .before .before .before .before .before .before .before .before .equality-at .ensures) _ _ (c .before .before .before .before .before .before .before .before .before .before .before .before .before .before .before .before .left .given .1) _ (c .before .before .before .before .before .before .before .before .before .before .before .before .before .before .of-kind .ensures) _ _ (c .before .before .before .before .before .before .before .before .before .before .before .before .body .given .1) _ (c .before .before .before .before .before .before .before .before .before .before .three-operands .ensures) _ _ _ (c .before .before .before .before .before .before .before .before .test .given .1) _ (c .before .before .before .before .before .before .three-operands2 .ensures) _ _ _ (c .before .before .before .before .same-test .given .1) (c .if1 .taken)
 
 is-forall-over-requires : tie.Need-is-forall-over-requires
 is-forall-over-requires c κs = search needs
 
 returns-6 : tie.Need-returns-6
-returns-6 c = search pattern
+returns-6 c =
+    ite-yes _ _ _ _ (c .before .before .before .before .before .before .before .before .before .before .before .before .before .before .before .before .before .before .before .before .equality-at .ensures) _ _ (c .before .before .before .before .before .before .before .before .before .before .before .before .before .before .before .before .before .before .left .given .1) _ (c .before .before .before .before .before .before .before .before .before .before .before .before .before .before .before .before .of-kind .ensures) _ _ (c .before .before .before .before .before .before .before .before .before .before .before .before .before .before .body .given .1) _ (c .before .before .before .before .before .before .before .before .before .before .before .before .three-operands .ensures) _ _ _ (c .before .before .before .before .before .before .before .before .before .before .test .given .1) _ (c .before .before .before .before .before .before .before .before .three-operands2 .ensures) _ _ _ (c .before .before .before .before .before .before .same-test .given .1) (c .before .before .if1 .left) _ (c .before .is-forall-over .ensures) (c .if2 .taken)
 
 is-forall-over-requires-2 : tie.Need-is-forall-over-requires-2
 is-forall-over-requires-2 c κs = search needs
 
 returns-7 : tie.Need-returns-7
-returns-7 c = search pattern
+returns-7 c =
+    ite-no _ _ _ _ (c .before .before .before .before .before .before .before .before .before .before .before .before .before .before .before .before .before .before .before .before .before .before .equality-at .ensures) _ _ (c .before .before .before .before .before .before .before .before .before .before .before .before .before .before .before .before .before .before .before .before .left .given .1) _ (c .before .before .before .before .before .before .before .before .before .before .before .before .before .before .before .before .before .before .of-kind .ensures) _ _ (c .before .before .before .before .before .before .before .before .before .before .before .before .before .before .before .before .body .given .1) _ (c .before .before .before .before .before .before .before .before .before .before .before .before .before .before .three-operands .ensures) _ _ _ (c .before .before .before .before .before .before .before .before .before .before .before .before .test .given .1) _ (c .before .before .before .before .before .before .before .before .before .before .three-operands2 .ensures) _ _ _ (c .before .before .before .before .before .before .before .before .same-test .given .1) (c .before .before .before .before .if1 .left) _ (c .before .before .before .is-forall-over .ensures) (c .before .before .if2 .left) _ (c .before .is-forall-over2 .ensures) (c .if3 .taken)
 
 returns-8 : tie.Need-returns-8
 returns-8 c =
-    ite-are _ _ _ _ (c .before .before .before .before .before .before .before .before .before .before .before .before .before .before .before .before .before .before .before .before .equality-at .ensures) _ _ (c .before .before .before .before .before .before .before .before .before .before .before .before .before .before .before .before .before .before .left .given .1) _ (c .before .before .before .before .before .before .before .before .before .before .before .before .before .before .before .before .of-kind .ensures) _ _ (c .before .before .before .before .before .before .before .before .before .before .before .before .before .before .body .given .1) _ (c .before .before .before .before .before .before .before .before .before .before .before .before .three-operands .ensures) _ _ _ (c .before .before .before .before .before .before .before .before .before .before .test .given .1) _ (c .before .before .before .before .before .before .before .before .three-operands2 .ensures) _ _ _ (c .before .before .before .before .before .before .same-test .given .1) (c .before .before .before .before .if1 .left) _ (c .before .before .before .is-forall-over .ensures) (c .before .before .if2 .left) _ (c .before .is-forall-over2 .ensures) (c .if3 .left)
+    ite-are _ _ _ _ (c .before .before .before .before .before .before .before .before .before .before .before .before .before .before .before .before .before .before .before .before .before .before .equality-at .ensures) _ _ (c .before .before .before .before .before .before .before .before .before .before .before .before .before .before .before .before .before .before .before .before .left .given .1) _ (c .before .before .before .before .before .before .before .before .before .before .before .before .before .before .before .before .before .before .of-kind .ensures) _ _ (c .before .before .before .before .before .before .before .before .before .before .before .before .before .before .before .before .body .given .1) _ (c .before .before .before .before .before .before .before .before .before .before .before .before .before .before .three-operands .ensures) _ _ _ (c .before .before .before .before .before .before .before .before .before .before .before .before .test .given .1) _ (c .before .before .before .before .before .before .before .before .before .before .three-operands2 .ensures) _ _ _ (c .before .before .before .before .before .before .before .before .same-test .given .1) (c .before .before .before .before .if1 .left) _ (c .before .before .before .is-forall-over .ensures) (c .before .before .if2 .left) _ (c .before .is-forall-over2 .ensures) (c .if3 .left)
 
 pub ite-sides-spec : {M : Type 1} → statement M
 ite-sides-spec =

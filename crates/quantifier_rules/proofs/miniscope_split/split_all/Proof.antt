@@ -24,17 +24,17 @@ same-length c = search needs
 returns : tie.Need-returns Inv-loop μ-loop
 returns c = search all
 
-mul-split-one : tie.Need-mul-split-one Inv-loop μ-loop
-mul-split-one c = search needs
+mul-t12 : tie.Need-mul-t12 Inv-loop μ-loop
+mul-t12 c = search needs
 
-shared-slice-read-split-one : tie.Need-shared-slice-read-split-one Inv-loop μ-loop
-shared-slice-read-split-one c = search needs
+shared-slice-read-t18 : tie.Need-shared-slice-read-t18 Inv-loop μ-loop
+shared-slice-read-t18 c = search needs
 
-mul-split-one-2 : tie.Need-mul-split-one-2 Inv-loop μ-loop
-mul-split-one-2 c = search needs
+mul-t20 : tie.Need-mul-t20 Inv-loop μ-loop
+mul-t20 c = search needs
 
-shared-slice-read-split-one-2 : tie.Need-shared-slice-read-split-one-2 Inv-loop μ-loop
-shared-slice-read-split-one-2 c = search needs
+shared-slice-read-t22 : tie.Need-shared-slice-read-t22 Inv-loop μ-loop
+shared-slice-read-t22 c = search needs
 
 split-one-requires : tie.Need-split-one-requires Inv-loop μ-loop
 split-one-requires c κs = search needs
@@ -75,10 +75,10 @@ split-all-spec =
     loop-holds
     same-length
     returns
-    mul-split-one
-    shared-slice-read-split-one
-    mul-split-one-2
-    shared-slice-read-split-one-2
+    mul-t12
+    shared-slice-read-t18
+    mul-t20
+    shared-slice-read-t22
     split-one-requires
     enum-known-k
     same-length-2

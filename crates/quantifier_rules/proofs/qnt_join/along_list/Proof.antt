@@ -24,14 +24,14 @@ mul-along-pair c = search needs
 shared-slice-read-along-pair : tie.Need-shared-slice-read-along-pair Inv-loop μ-loop
 shared-slice-read-along-pair c = search needs
 
-add-along-pair : tie.Need-add-along-pair Inv-loop μ-loop
-add-along-pair c = search needs
+add-t8 : tie.Need-add-t8 Inv-loop μ-loop
+add-t8 c = search needs
 
-mul-along-pair-2 : tie.Need-mul-along-pair-2 Inv-loop μ-loop
-mul-along-pair-2 c = search needs
+mul-t13 : tie.Need-mul-t13 Inv-loop μ-loop
+mul-t13 c = search needs
 
-shared-slice-read-along-pair-2 : tie.Need-shared-slice-read-along-pair-2 Inv-loop μ-loop
-shared-slice-read-along-pair-2 c = search needs
+shared-slice-read-t15 : tie.Need-shared-slice-read-t15 Inv-loop μ-loop
+shared-slice-read-t15 c = search needs
 
 along-pair-requires : tie.Need-along-pair-requires Inv-loop μ-loop
 along-pair-requires c κs = search needs
@@ -67,9 +67,9 @@ along-list-spec =
     sub-loop
     mul-along-pair
     shared-slice-read-along-pair
-    add-along-pair
-    mul-along-pair-2
-    shared-slice-read-along-pair-2
+    add-t8
+    mul-t13
+    shared-slice-read-t15
     along-pair-requires
     enum-known-next
     enum-told

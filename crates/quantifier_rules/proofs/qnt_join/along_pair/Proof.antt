@@ -24,14 +24,14 @@ mul-same-pair c = search needs
 shared-slice-read-same-pair : tie.Need-shared-slice-read-same-pair
 shared-slice-read-same-pair c = search needs
 
-add-same-pair : tie.Need-add-same-pair
-add-same-pair c = search needs
+add-t8 : tie.Need-add-t8
+add-t8 c = search needs
 
-mul-same-pair-2 : tie.Need-mul-same-pair-2
-mul-same-pair-2 c = search needs
+mul-t11 : tie.Need-mul-t11
+mul-t11 c = search needs
 
-shared-slice-read-same-pair-2 : tie.Need-shared-slice-read-same-pair-2
-shared-slice-read-same-pair-2 c = search needs
+shared-slice-read-t13 : tie.Need-shared-slice-read-t13
+shared-slice-read-t13 c = search needs
 
 same-pair-requires : tie.Need-same-pair-requires
 same-pair-requires c κs = search needs
@@ -56,9 +56,9 @@ along-pair-spec =
     returns-3
     mul-same-pair
     shared-slice-read-same-pair
-    add-same-pair
-    mul-same-pair-2
-    shared-slice-read-same-pair-2
+    add-t8
+    mul-t11
+    shared-slice-read-t13
     same-pair-requires
     returns-4
     add-t6

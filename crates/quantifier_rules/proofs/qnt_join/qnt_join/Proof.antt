@@ -1,4 +1,4 @@
-use Rattle.quantifier_rules.proofs.qnt_join.Laws.{join, join-inner, join-right, join-lists, join-passes}
+use Rattle.quantifier_rules.proofs.qnt_join.Laws.{join, join-inner, join-right, join-lists, join-passes, join-kinds, join-kinds-right, join-bodies}
 use Rattle.bindings.proofs.Outcomes.{answers}
 use borrow.Author.Needs.{needs}
 use Rattle.quantifier_rules.proofs.qnt_join.qnt_join.Statement.{statement}
@@ -65,35 +65,38 @@ returns-4 : tie.Need-returns-4
 returns-4 c =
     answers _ _ _ (c .refuse4 .ensures) (join-right _ _ _ _ (c .before .before .before .before .before .before .before .before .before .before .before .before .before .before .before .equality-at .ensures) _ _ (c .before .before .before .before .before .before .before .before .before .before .before .before .before .l .given .1) _ (c .before .before .before .before .before .before .before .before .before .before .before .quantified-at .ensures) _ _ (c .before .before .before .before .before .before .before .before .before .kind .given .1) _ (c .before .before .before .before .before .before .before .quantified-at2 .ensures) _ _ (c .before .before .before .before .before .inner-kind .given .1) _ (c .before .before .before .quantified-at3 .ensures) (c .before .enum-told4 .given .1))
 
-tag-of-requires : tie.Need-tag-of-requires
-tag-of-requires c κs = search needs
+quantifier-tag-requires : tie.Need-quantifier-tag-requires
+quantifier-tag-requires c κs = search needs
 
-tag-of-requires-2 : tie.Need-tag-of-requires-2
-tag-of-requires-2 c κs = search needs
+quantifier-tag-requires-2 : tie.Need-quantifier-tag-requires-2
+quantifier-tag-requires-2 c κs = search needs
 
 refuse-requires-5 : tie.Need-refuse-requires-5
 refuse-requires-5 c κs = search needs
 
 returns-5 : tie.Need-returns-5
-returns-5 c = search join
+returns-5 c =
+    answers _ _ _ (c .refuse5 .ensures) (join-kinds _ _ _ _ (c .before .before .before .before .before .before .before .before .before .before .before .before .before .before .before .before .before .before .before .equality-at .ensures) _ _ (c .before .before .before .before .before .before .before .before .before .before .before .before .before .before .before .before .before .l .given .1) _ (c .before .before .before .before .before .before .before .before .before .before .before .before .before .before .before .quantified-at .ensures) _ _ (c .before .before .before .before .before .before .before .before .before .before .before .before .before .kind .given .1) _ (c .before .before .before .before .before .before .before .before .before .before .before .quantified-at2 .ensures) _ _ (c .before .before .before .before .before .before .before .before .before .inner-kind .given .1) _ (c .before .before .before .before .before .before .before .quantified-at3 .ensures) _ _ (c .before .before .before .before .before .right-kind .given .1) (c .before .before .before .if1 .taken) _ _ (c .before .before .quantifier-tag .ensures) (c .before .quantifier-tag2 .ensures))
 
-tag-of-requires-3 : tie.Need-tag-of-requires-3
-tag-of-requires-3 c κs = search needs
+quantifier-tag-requires-3 : tie.Need-quantifier-tag-requires-3
+quantifier-tag-requires-3 c κs = search needs
 
-tag-of-requires-4 : tie.Need-tag-of-requires-4
-tag-of-requires-4 c κs = search needs
+quantifier-tag-requires-4 : tie.Need-quantifier-tag-requires-4
+quantifier-tag-requires-4 c κs = search needs
 
 refuse-requires-6 : tie.Need-refuse-requires-6
 refuse-requires-6 c κs = search needs
 
 returns-6 : tie.Need-returns-6
-returns-6 c = search join
+returns-6 c =
+    answers _ _ _ (c .refuse6 .ensures) (join-kinds-right _ _ _ _ (c .before .before .before .before .before .before .before .before .before .before .before .before .before .before .before .before .before .before .before .before .equality-at .ensures) _ _ (c .before .before .before .before .before .before .before .before .before .before .before .before .before .before .before .before .before .before .l .given .1) _ (c .before .before .before .before .before .before .before .before .before .before .before .before .before .before .before .before .quantified-at .ensures) _ _ (c .before .before .before .before .before .before .before .before .before .before .before .before .before .before .kind .given .1) _ (c .before .before .before .before .before .before .before .before .before .before .before .before .quantified-at2 .ensures) _ _ (c .before .before .before .before .before .before .before .before .before .before .inner-kind .given .1) _ (c .before .before .before .before .before .before .before .before .quantified-at3 .ensures) _ _ (c .before .before .before .before .before .before .right-kind .given .1) (c .before .before .before .before .if1 .left) (c .before .before .before .if2 .taken) _ _ (c .before .before .quantifier-tag3 .ensures) (c .before .quantifier-tag4 .ensures))
 
 refuse-requires-7 : tie.Need-refuse-requires-7
 refuse-requires-7 c κs = search needs
 
 returns-7 : tie.Need-returns-7
-returns-7 c = search join
+returns-7 c =
+    answers _ _ _ (c .refuse7 .ensures) (join-bodies _ _ _ _ (c .before .before .before .before .before .before .before .before .before .before .before .before .before .before .before .before .before .before .before .before .before .equality-at .ensures) _ _ (c .before .before .before .before .before .before .before .before .before .before .before .before .before .before .before .before .before .before .before .l .given .1) _ (c .before .before .before .before .before .before .before .before .before .before .before .before .before .before .before .before .before .quantified-at .ensures) _ _ (c .before .before .before .before .before .before .before .before .before .before .before .before .before .before .before .kind .given .1) _ (c .before .before .before .before .before .before .before .before .before .before .before .before .before .quantified-at2 .ensures) _ _ (c .before .before .before .before .before .before .before .before .before .before .before .inner-kind .given .1) _ (c .before .before .before .before .before .before .before .before .before .quantified-at3 .ensures) _ _ (c .before .before .before .before .before .before .before .right-kind .given .1) (c .before .before .before .before .before .if1 .left) (c .before .before .before .before .if2 .left) (c .before .if3 .taken))
 
 bindings-requires : tie.Need-bindings-requires
 bindings-requires c κs = search needs
@@ -112,14 +115,14 @@ refuse-requires-8 c κs = search needs
 
 returns-8 : tie.Need-returns-8
 returns-8 c =
-    answers _ _ _ (c .refuse8 .ensures) (join-lists _ _ _ _ (c .before .before .before .before .before .before .before .before .before .before .before .before .before .before .before .before .before .before .before .before .before .before .before .before .equality-at .ensures) _ _ (c .before .before .before .before .before .before .before .before .before .before .before .before .before .before .before .before .before .before .before .before .before .before .l .given .1) _ (c .before .before .before .before .before .before .before .before .before .before .before .before .before .before .before .before .before .before .before .before .quantified-at .ensures) _ _ (c .before .before .before .before .before .before .before .before .before .before .before .before .before .before .before .before .before .before .kind .given .1) _ (c .before .before .before .before .before .before .before .before .before .before .before .before .before .before .before .before .quantified-at2 .ensures) _ _ (c .before .before .before .before .before .before .before .before .before .before .before .before .before .before .inner-kind .given .1) _ (c .before .before .before .before .before .before .before .before .before .before .before .before .quantified-at3 .ensures) _ _ (c .before .before .before .before .before .before .before .before .before .before .right-kind .given .1) (c .before .before .before .before .before .before .before .before .if1 .left) (c .before .before .before .before .before .before .before .if2 .left) (c .before .before .before .before .before .before .if3 .left) _ _ _ _ (c .before .before .same-joined .ensures) (c .before .before .before .before .before .bindings .ensures) (c .before .before .before .before .bindings2 .ensures) (c .before .before .before .bindings3 .ensures) (c .before .if4 .taken))
+    answers _ _ _ (c .refuse8 .ensures) (join-lists _ _ _ _ (c .before .before .before .before .before .before .before .before .before .before .before .before .before .before .before .before .before .before .before .before .before .before .before .before .before .before .equality-at .ensures) _ _ (c .before .before .before .before .before .before .before .before .before .before .before .before .before .before .before .before .before .before .before .before .before .before .before .before .l .given .1) _ (c .before .before .before .before .before .before .before .before .before .before .before .before .before .before .before .before .before .before .before .before .before .before .quantified-at .ensures) _ _ (c .before .before .before .before .before .before .before .before .before .before .before .before .before .before .before .before .before .before .before .before .kind .given .1) _ (c .before .before .before .before .before .before .before .before .before .before .before .before .before .before .before .before .before .before .quantified-at2 .ensures) _ _ (c .before .before .before .before .before .before .before .before .before .before .before .before .before .before .before .before .inner-kind .given .1) _ (c .before .before .before .before .before .before .before .before .before .before .before .before .before .before .quantified-at3 .ensures) _ _ (c .before .before .before .before .before .before .before .before .before .before .before .before .right-kind .given .1) (c .before .before .before .before .before .before .before .before .before .before .if1 .left) (c .before .before .before .before .before .before .before .before .before .if2 .left) (c .before .before .before .before .before .before .if3 .left) _ _ _ _ (c .before .before .same-joined .ensures) (c .before .before .before .before .before .bindings .ensures) (c .before .before .before .before .bindings2 .ensures) (c .before .before .before .bindings3 .ensures) (c .before .if4 .taken))
 
 accept-requires : tie.Need-accept-requires
 accept-requires c κs = search needs
 
 returns-9 : tie.Need-returns-9
 returns-9 c =
-    answers _ _ _ (c .accept .ensures) (join-passes _ _ _ _ (c .before .before .before .before .before .before .before .before .before .before .before .before .before .before .before .before .before .before .before .before .before .before .before .before .equality-at .ensures) _ _ (c .before .before .before .before .before .before .before .before .before .before .before .before .before .before .before .before .before .before .before .before .before .before .l .given .1) _ (c .before .before .before .before .before .before .before .before .before .before .before .before .before .before .before .before .before .before .before .before .quantified-at .ensures) _ _ (c .before .before .before .before .before .before .before .before .before .before .before .before .before .before .before .before .before .before .kind .given .1) _ (c .before .before .before .before .before .before .before .before .before .before .before .before .before .before .before .before .quantified-at2 .ensures) _ _ (c .before .before .before .before .before .before .before .before .before .before .before .before .before .before .inner-kind .given .1) _ (c .before .before .before .before .before .before .before .before .before .before .before .before .quantified-at3 .ensures) _ _ (c .before .before .before .before .before .before .before .before .before .before .right-kind .given .1) (c .before .before .before .before .before .before .before .before .if1 .left) (c .before .before .before .before .before .before .before .if2 .left) (c .before .before .before .before .before .before .if3 .left) _ _ _ _ (c .before .before .same-joined .ensures) (c .before .before .before .before .before .bindings .ensures) (c .before .before .before .before .bindings2 .ensures) (c .before .before .before .bindings3 .ensures) (c .before .if4 .left))
+    answers _ _ _ (c .accept .ensures) (join-passes _ _ _ _ (c .before .before .before .before .before .before .before .before .before .before .before .before .before .before .before .before .before .before .before .before .before .before .before .before .before .before .equality-at .ensures) _ _ (c .before .before .before .before .before .before .before .before .before .before .before .before .before .before .before .before .before .before .before .before .before .before .before .before .l .given .1) _ (c .before .before .before .before .before .before .before .before .before .before .before .before .before .before .before .before .before .before .before .before .before .before .quantified-at .ensures) _ _ (c .before .before .before .before .before .before .before .before .before .before .before .before .before .before .before .before .before .before .before .before .kind .given .1) _ (c .before .before .before .before .before .before .before .before .before .before .before .before .before .before .before .before .before .before .quantified-at2 .ensures) _ _ (c .before .before .before .before .before .before .before .before .before .before .before .before .before .before .before .before .inner-kind .given .1) _ (c .before .before .before .before .before .before .before .before .before .before .before .before .before .before .quantified-at3 .ensures) _ _ (c .before .before .before .before .before .before .before .before .before .before .before .before .right-kind .given .1) (c .before .before .before .before .before .before .before .before .before .before .if1 .left) (c .before .before .before .before .before .before .before .before .before .if2 .left) (c .before .before .before .before .before .before .if3 .left) _ _ _ _ (c .before .before .same-joined .ensures) (c .before .before .before .before .before .bindings .ensures) (c .before .before .before .before .bindings2 .ensures) (c .before .before .before .bindings3 .ensures) (c .before .if4 .left))
 
 pub qnt-join-spec : {M : Type 1} → statement M
 qnt-join-spec =
@@ -145,12 +148,12 @@ qnt-join-spec =
     enum-told-4
     refuse-requires-4
     returns-4
-    tag-of-requires
-    tag-of-requires-2
+    quantifier-tag-requires
+    quantifier-tag-requires-2
     refuse-requires-5
     returns-5
-    tag-of-requires-3
-    tag-of-requires-4
+    quantifier-tag-requires-3
+    quantifier-tag-requires-4
     refuse-requires-6
     returns-6
     refuse-requires-7

@@ -18,11 +18,11 @@ refuse-requires c κs = search needs
 returns : tie.Need-returns
 returns c = search right-side
 
-tag-of-requires : tie.Need-tag-of-requires
-tag-of-requires c κs = search needs
+quantifier-tag-requires : tie.Need-quantifier-tag-requires
+quantifier-tag-requires c κs = search needs
 
-tag-of-requires-2 : tie.Need-tag-of-requires-2
-tag-of-requires-2 c κs = search needs
+quantifier-tag-requires-2 : tie.Need-quantifier-tag-requires-2
+quantifier-tag-requires-2 c κs = search needs
 
 refuse-requires-2 : tie.Need-refuse-requires-2
 refuse-requires-2 c κs = search needs
@@ -84,8 +84,8 @@ removes-spec =
     enum-told
     refuse-requires
     returns
-    tag-of-requires
-    tag-of-requires-2
+    quantifier-tag-requires
+    quantifier-tag-requires-2
     refuse-requires-2
     returns-2
     refuse-requires-3

@@ -11,7 +11,7 @@ operands-requires c κs = search needs
 
 cast-result : tie.Need-cast-result
 cast-result c =
-    omega (arith, ap length (c .operands .ensures), count-most (c .before .before .before .args .tags .now) (c .before .before .before .args .values .now) (c .before .before .before .args .x), c .before .shared-slice-known2 .given (c .before .before .before .args .x))
+    omega (arith, ap length (c .operands .ensures), count-most (c .before .before .before .args .tags .now) (c .before .before .before .args .values .now) (c .before .before .before .args .x .0), c .before .shared-slice-known2 .given (c .before .before .before .args .x .0))
 
 returns : tie.Need-returns
 returns c = ap length (c .operands .ensures)

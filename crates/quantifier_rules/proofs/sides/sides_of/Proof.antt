@@ -27,8 +27,8 @@ enum-told-2 c = search needs
 returns-2 : tie.Need-returns-2
 returns-2 c = search sides
 
-cast-cell : tie.Need-cast-cell
-cast-cell c = search needs
+cast-body-at : tie.Need-cast-body-at
+cast-body-at c = search needs
 
 cell-requires : tie.Need-cell-requires
 cell-requires c κs = search needs
@@ -36,8 +36,8 @@ cell-requires c κs = search needs
 returns-3 : tie.Need-returns-3
 returns-3 c = search sides
 
-cast-cell-2 : tie.Need-cast-cell-2
-cast-cell-2 c = search needs
+cast-right-at : tie.Need-cast-right-at
+cast-right-at c = search needs
 
 cell-requires-2 : tie.Need-cell-requires-2
 cell-requires-2 c κs = search needs
@@ -47,7 +47,7 @@ returns-4 c = search sides
 
 returns-5 : tie.Need-returns-5
 returns-5 c =
-    sides-are _ _ _ _ _ _ (c .before .before .before .before .before .before .before .before .before .before .before .equality-at .ensures) _ _ (c .before .before .before .before .before .before .before .before .before .left .given .1) _ (c .before .before .before .before .before .before .before .of-kind .ensures) _ _ (c .before .before .before .before .before .body .given .1) _ (c .before .before .before .cell .ensures) (c .before .before .if1 .left) _ (c .before .cell2 .ensures) (c .if2 .left)
+    sides-are _ _ _ _ _ _ (c .before .before .before .before .before .before .before .before .before .before .before .before .before .equality-at .ensures) _ _ (c .before .before .before .before .before .before .before .before .before .before .before .left .given .1) _ (c .before .before .before .before .before .before .before .before .before .of-kind .ensures) _ _ (c .before .before .before .before .before .before .before .body .given .1) _ (c .before .before .before .before .cell .ensures) (c .before .before .before .if1 .left) _ (c .before .cell2 .ensures) (c .if2 .left)
 
 pub sides-of-spec : {M : Type 1} → statement M
 sides-of-spec =
@@ -61,10 +61,10 @@ sides-of-spec =
     enum-known-body
     enum-told-2
     returns-2
-    cast-cell
+    cast-body-at
     cell-requires
     returns-3
-    cast-cell-2
+    cast-right-at
     cell-requires-2
     returns-4
     returns-5)

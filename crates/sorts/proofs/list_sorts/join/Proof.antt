@@ -6,8 +6,8 @@ use Rattle.sorts.proofs.list_sorts.join.Tie as tie
 returns : tie.Need-returns
 returns c = search joinings
 
-shared-slice-read-is-relation : tie.Need-shared-slice-read-is-relation
-shared-slice-read-is-relation c = search needs
+shared-slice-read-t9 : tie.Need-shared-slice-read-t9
+shared-slice-read-t9 c = search needs
 
 is-relation-requires : tie.Need-is-relation-requires
 is-relation-requires c κs = search needs
@@ -15,8 +15,8 @@ is-relation-requires c κs = search needs
 returns-2 : tie.Need-returns-2
 returns-2 c = search joinings
 
-shared-slice-read-is-relation-2 : tie.Need-shared-slice-read-is-relation-2
-shared-slice-read-is-relation-2 c = search needs
+shared-slice-read-t9-2 : tie.Need-shared-slice-read-t9-2
+shared-slice-read-t9-2 c = search needs
 
 is-relation-requires-2 : tie.Need-is-relation-requires-2
 is-relation-requires-2 c κs = search needs
@@ -24,8 +24,8 @@ is-relation-requires-2 c κs = search needs
 returns-3 : tie.Need-returns-3
 returns-3 c = search joinings
 
-shared-slice-read-relation-sorts : tie.Need-shared-slice-read-relation-sorts
-shared-slice-read-relation-sorts c = search needs
+shared-slice-read-t9-3 : tie.Need-shared-slice-read-t9-3
+shared-slice-read-t9-3 c = search needs
 
 relation-sorts-requires : tie.Need-relation-sorts-requires
 relation-sorts-requires c κs = search needs
@@ -33,8 +33,8 @@ relation-sorts-requires c κs = search needs
 returns-4 : tie.Need-returns-4
 returns-4 c = search joinings
 
-shared-slice-read-relation-sorts-2 : tie.Need-shared-slice-read-relation-sorts-2
-shared-slice-read-relation-sorts-2 c = search needs
+shared-slice-read-t9-4 : tie.Need-shared-slice-read-t9-4
+shared-slice-read-t9-4 c = search needs
 
 relation-sorts-requires-2 : tie.Need-relation-sorts-requires-2
 relation-sorts-requires-2 c κs = search needs
@@ -56,16 +56,16 @@ join-spec =
     tie.close
     (tie.spec
     returns
-    shared-slice-read-is-relation
+    shared-slice-read-t9
     is-relation-requires
     returns-2
-    shared-slice-read-is-relation-2
+    shared-slice-read-t9-2
     is-relation-requires-2
     returns-3
-    shared-slice-read-relation-sorts
+    shared-slice-read-t9-3
     relation-sorts-requires
     returns-4
-    shared-slice-read-relation-sorts-2
+    shared-slice-read-t9-4
     relation-sorts-requires-2
     but-last-requires
     past-requires

@@ -6,8 +6,8 @@ use Rattle.sorts.proofs.list_sorts.product.Tie as tie
 returns : tie.Need-returns
 returns c = search products
 
-shared-slice-read-is-relation : tie.Need-shared-slice-read-is-relation
-shared-slice-read-is-relation c = search needs
+shared-slice-read-t8 : tie.Need-shared-slice-read-t8
+shared-slice-read-t8 c = search needs
 
 is-relation-requires : tie.Need-is-relation-requires
 is-relation-requires c κs = search needs
@@ -15,8 +15,8 @@ is-relation-requires c κs = search needs
 returns-2 : tie.Need-returns-2
 returns-2 c = search products
 
-shared-slice-read-is-relation-2 : tie.Need-shared-slice-read-is-relation-2
-shared-slice-read-is-relation-2 c = search needs
+shared-slice-read-t8-2 : tie.Need-shared-slice-read-t8-2
+shared-slice-read-t8-2 c = search needs
 
 is-relation-requires-2 : tie.Need-is-relation-requires-2
 is-relation-requires-2 c κs = search needs
@@ -24,14 +24,14 @@ is-relation-requires-2 c κs = search needs
 returns-3 : tie.Need-returns-3
 returns-3 c = search products
 
-shared-slice-read-relation-sorts : tie.Need-shared-slice-read-relation-sorts
-shared-slice-read-relation-sorts c = search needs
+shared-slice-read-t8-3 : tie.Need-shared-slice-read-t8-3
+shared-slice-read-t8-3 c = search needs
 
 relation-sorts-requires : tie.Need-relation-sorts-requires
 relation-sorts-requires c κs = search needs
 
-shared-slice-read-relation-sorts-2 : tie.Need-shared-slice-read-relation-sorts-2
-shared-slice-read-relation-sorts-2 c = search needs
+shared-slice-read-t16 : tie.Need-shared-slice-read-t16
+shared-slice-read-t16 c = search needs
 
 relation-sorts-requires-2 : tie.Need-relation-sorts-requires-2
 relation-sorts-requires-2 c κs = search needs
@@ -47,15 +47,15 @@ product-spec =
     tie.close
     (tie.spec
     returns
-    shared-slice-read-is-relation
+    shared-slice-read-t8
     is-relation-requires
     returns-2
-    shared-slice-read-is-relation-2
+    shared-slice-read-t8-2
     is-relation-requires-2
     returns-3
-    shared-slice-read-relation-sorts
+    shared-slice-read-t8-3
     relation-sorts-requires
-    shared-slice-read-relation-sorts-2
+    shared-slice-read-t16
     relation-sorts-requires-2
     is-joined-requires
     returns-4)

@@ -6,8 +6,8 @@ use Rattle.sorts.proofs.list_sorts.transpose.Tie as tie
 returns : tie.Need-returns
 returns c = search transposes
 
-shared-slice-read-is-relation : tie.Need-shared-slice-read-is-relation
-shared-slice-read-is-relation c = search needs
+shared-slice-read-t8 : tie.Need-shared-slice-read-t8
+shared-slice-read-t8 c = search needs
 
 is-relation-requires : tie.Need-is-relation-requires
 is-relation-requires c κs = search needs
@@ -15,8 +15,8 @@ is-relation-requires c κs = search needs
 returns-2 : tie.Need-returns-2
 returns-2 c = search transposes
 
-shared-slice-read-relation-sorts : tie.Need-shared-slice-read-relation-sorts
-shared-slice-read-relation-sorts c = search needs
+shared-slice-read-t8-2 : tie.Need-shared-slice-read-t8-2
+shared-slice-read-t8-2 c = search needs
 
 relation-sorts-requires : tie.Need-relation-sorts-requires
 relation-sorts-requires c κs = search needs
@@ -32,10 +32,10 @@ transpose-spec =
     tie.close
     (tie.spec
     returns
-    shared-slice-read-is-relation
+    shared-slice-read-t8
     is-relation-requires
     returns-2
-    shared-slice-read-relation-sorts
+    shared-slice-read-t8-2
     relation-sorts-requires
     is-reversed-requires
     returns-3)

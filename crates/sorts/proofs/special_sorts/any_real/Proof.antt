@@ -16,11 +16,11 @@ abbrev μ-loop : tie.MeasureT-loop
 loop-holds : tie.Need-loop-holds Inv-loop μ-loop
 loop-holds c = search needs
 
-mul-sort-tag : tie.Need-mul-sort-tag Inv-loop μ-loop
-mul-sort-tag c = search needs
+mul-t5 : tie.Need-mul-t5 Inv-loop μ-loop
+mul-t5 c = search needs
 
-shared-slice-read-sort-tag : tie.Need-shared-slice-read-sort-tag Inv-loop μ-loop
-shared-slice-read-sort-tag c = search needs
+shared-slice-read-t9 : tie.Need-shared-slice-read-t9 Inv-loop μ-loop
+shared-slice-read-t9 c = search needs
 
 sort-tag-requires : tie.Need-sort-tag-requires Inv-loop μ-loop
 sort-tag-requires c κs = search needs
@@ -47,8 +47,8 @@ any-real-spec =
     Inv-loop
     μ-loop
     loop-holds
-    mul-sort-tag
-    shared-slice-read-sort-tag
+    mul-t5
+    shared-slice-read-t9
     sort-tag-requires
     returns
     add-i

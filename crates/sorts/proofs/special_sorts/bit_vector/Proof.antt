@@ -16,11 +16,11 @@ abbrev μ-loop : tie.MeasureT-loop
 loop-holds : tie.Need-loop-holds Inv-loop μ-loop
 loop-holds c = search needs
 
-mul-o : tie.Need-mul-o Inv-loop μ-loop
-mul-o c = search needs
+mul-t9 : tie.Need-mul-t9 Inv-loop μ-loop
+mul-t9 c = search needs
 
-shared-slice-read-o : tie.Need-shared-slice-read-o Inv-loop μ-loop
-shared-slice-read-o c = search needs
+shared-slice-read-t12 : tie.Need-shared-slice-read-t12 Inv-loop μ-loop
+shared-slice-read-t12 c = search needs
 
 sort-tag-requires : tie.Need-sort-tag-requires Inv-loop μ-loop
 sort-tag-requires c κs = search needs
@@ -56,8 +56,8 @@ bit-vector-spec =
     Inv-loop
     μ-loop
     loop-holds
-    mul-o
-    shared-slice-read-o
+    mul-t9
+    shared-slice-read-t12
     sort-tag-requires
     sort-of-requires
     returns

@@ -17,11 +17,11 @@ abbrev μ-loop : tie.MeasureT-loop
 loop-holds : tie.Need-loop-holds Inv-loop μ-loop
 loop-holds c = search needs
 
-mul-o : tie.Need-mul-o Inv-loop μ-loop
-mul-o c = search needs
+mul-t10 : tie.Need-mul-t10 Inv-loop μ-loop
+mul-t10 c = search needs
 
-shared-slice-read-o : tie.Need-shared-slice-read-o Inv-loop μ-loop
-shared-slice-read-o c = search needs
+shared-slice-read-t13 : tie.Need-shared-slice-read-t13 Inv-loop μ-loop
+shared-slice-read-t13 c = search needs
 
 sort-tag-requires : tie.Need-sort-tag-requires Inv-loop μ-loop
 sort-tag-requires c κs = search needs
@@ -75,8 +75,8 @@ concat-spec =
     Inv-loop
     μ-loop
     loop-holds
-    mul-o
-    shared-slice-read-o
+    mul-t10
+    shared-slice-read-t13
     sort-tag-requires
     add-i
     first-part-requires

@@ -6,8 +6,8 @@ use Rattle.sorts.proofs.special_sorts.selected.Tie as tie
 returns : tie.Need-returns
 returns c = search selects
 
-shared-slice-read-sort-tag : tie.Need-shared-slice-read-sort-tag
-shared-slice-read-sort-tag c = search needs
+shared-slice-read-result : tie.Need-shared-slice-read-result
+shared-slice-read-result c = search needs
 
 sort-tag-requires : tie.Need-sort-tag-requires
 sort-tag-requires c κs = search needs
@@ -38,7 +38,7 @@ selected-spec =
     tie.close
     (tie.spec
     returns
-    shared-slice-read-sort-tag
+    shared-slice-read-result
     sort-tag-requires
     returns-2
     shared-slice-read-t9

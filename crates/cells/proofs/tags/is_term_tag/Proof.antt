@@ -1,7 +1,7 @@
 use mathlib.Core.Path.{refl}
 use Rattle.cells.specs.TermTag.{isTermTag}
-use Rattle.cells.proofs.term_tags.is_term_tag.Statement.{statement}
-use Rattle.cells.proofs.term_tags.is_term_tag.Tie as tie
+use Rattle.cells.proofs.tags.is_term_tag.Statement.{statement}
+use Rattle.cells.proofs.tags.is_term_tag.Tie as tie
 
 returns : tie.Need-returns
 unfolding isTermTag

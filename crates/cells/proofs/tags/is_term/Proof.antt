@@ -1,8 +1,8 @@
 use Rattle.cells.specs.TermTag.{isTermTag, isTerm}
-use Rattle.cells.proofs.term_tags.Laws.{below, not-below}
+use Rattle.cells.proofs.tags.Laws.{below, not-below}
 use borrow.Author.Needs.{needs}
-use Rattle.cells.proofs.term_tags.is_term.Statement.{statement}
-use Rattle.cells.proofs.term_tags.is_term.Tie as tie
+use Rattle.cells.proofs.tags.is_term.Statement.{statement}
+use Rattle.cells.proofs.tags.is_term.Tie as tie
 
 cast-at : tie.Need-cast-at
 cast-at c = search needs

@@ -2,8 +2,8 @@ use Rattle.building.proofs.build.Indexing.{indexings}
 use Rattle.building.proofs.terms.Cells.{terms, parts, run-short}
 use native.Mathlib.Omega.{arith}
 use borrow.Author.Needs.{needs}
-use Rattle.building.proofs.terms.put_many.Statement.{statement}
-use Rattle.building.proofs.terms.put_many.Tie as tie
+use Rattle.building.proofs.terms.put_connective.Statement.{statement}
+use Rattle.building.proofs.terms.put_connective.Tie as tie
 
 slice-reshare-prefix-operands : tie.Need-slice-reshare-prefix-operands
 slice-reshare-prefix-operands c = search needs
@@ -26,8 +26,8 @@ gather-requires c κs = omega (arith, run-short _ _ _ _ (c .before .before .befo
 flip-requires : tie.Need-flip-requires
 flip-requires c κs = search needs
 
-tag-of-many-requires : tie.Need-tag-of-many-requires
-tag-of-many-requires c κs = search needs
+connective-tag-requires : tie.Need-connective-tag-requires
+connective-tag-requires c κs = search needs
 
 slice-reshare-prefix-put : tie.Need-slice-reshare-prefix-put
 slice-reshare-prefix-put c = search needs
@@ -45,13 +45,13 @@ same-length-2 : tie.Need-same-length-2
 same-length-2 c = c .before .values .given
 
 same-length-3 : tie.Need-same-length-3
-same-length-3 c = c .before .before .before .before .before .before .before .before .before .before .before .before .row .given
+same-length-3 c = c .before .before .before .before .before .before .before .before .before .before .before .before .scratch .given
 
 returns : tie.Need-returns
 returns c = search (terms, indexings)
 
-pub put-many-spec : {M : Type 1} → statement M
-put-many-spec =
+pub put-connective-spec : {M : Type 1} → statement M
+put-connective-spec =
     tie.close
     (tie.spec
     slice-reshare-prefix-operands
@@ -61,7 +61,7 @@ put-many-spec =
     operands-requires
     gather-requires
     flip-requires
-    tag-of-many-requires
+    connective-tag-requires
     slice-reshare-prefix-put
     slice-aggregate-put
     put-requires
