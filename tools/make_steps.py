@@ -1,5 +1,5 @@
 #!/usr/bin/env python3
-"""Writes the step files of the program `replay`: crates/replay/data/*.steps, args, and stdout, what it must print.
+"""Writes the step files of the program `steps`: crates/steps/data/*.steps, stdin, args, and stdout, what it must print.
 
     make_steps.py ORACLE [--seed SEED]
 
@@ -30,7 +30,8 @@ from reference_rules import Checked
 from reference_steps import BadFile, answers, read, run
 from sites import SITES, site
 
-CRATE = pathlib.Path(__file__).resolve().parent.parent / 'crates' / 'replay'
+CRATE = pathlib.Path(__file__).resolve().parent.parent / 'crates' / 'steps'
+ON_STDIN = 'whole-case.steps'  # the file that `-` names
 BIG = 1 << 20  # literals or terms that the Rust is not asked to make
 ACCEPTED, REFUSED = 60, 30  # steps of the mixed files that are kept for each check, by what it ends in
 LEAST = 20  # of each check, whatever the number of files
@@ -118,8 +119,10 @@ class Files:
             old.unlink()
         for name, file in self.files.items():
             (data / name).write_bytes(file)
-        (CRATE / 'args').write_text(''.join(name + '\n' for name in self.files))
-        (CRATE / 'stdout').write_text(''.join(name + ':\n' + text for name, text in self.texts.items()))
+        (CRATE / 'stdin').write_bytes(self.files[ON_STDIN])
+        (CRATE / 'args').write_text(''.join(name + '\n' for name in ('-', *self.files)))
+        texts = {'-': self.texts[ON_STDIN], **self.texts}
+        (CRATE / 'stdout').write_text(''.join(name + ':\n' + text for name, text in texts.items()))
         (data / 'DIFFERENCES.txt').write_text('\n'.join(self.differences()) + '\n')
         (data / 'COUNTS.txt').write_text('\n'.join(self.counts()) + '\n')
 

@@ -3,10 +3,9 @@
 
     read_steps.py FILE [ANSWERS] [--step K] [--place P]
 
-ANSWERS is what `steps` printed on the file, or what `replay` printed on several, by their names; without it the reference
-answers. For each step, or for step K alone: its number and rule, the conclusion as an S-expression with the places of what it
-cuts (term_text.py), and the answer in words (answer_text.py). With --place only the term or sort at a place, to look into one that
-was cut.
+ANSWERS is what `steps` printed on the file, or on several after their names; without it the reference answers. For each step, or
+for step K alone: its number and rule, the conclusion as an S-expression with the places of what it cuts (term_text.py), and the
+answer in words (answer_text.py). With --place only the term or sort at a place, to look into one that was cut.
 """
 import argparse
 import pathlib

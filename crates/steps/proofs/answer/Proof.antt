@@ -2,8 +2,8 @@ use borrow.Author.Needs.{needs}
 use mathlib.Core.Path.{sym}
 use lib.Seq.{length-take-le}
 use Rattle.step_files.proofs.Files.{end-fits}
-use Rattle.replay.proofs.answer.Statement.{statement}
-use Rattle.replay.proofs.answer.Tie as tie
+use Rattle.steps.proofs.answer.Statement.{statement}
+use Rattle.steps.proofs.answer.Tie as tie
 
 file-bytes-requires : tie.Need-file-bytes-requires
 file-bytes-requires c κs = search needs

@@ -1,7 +1,7 @@
 use borrow.Author.Needs.{needs}
 use Prim.Native.Nat.{_-_}
-use Rattle.replay.proofs.replay.Statement.{statement}
-use Rattle.replay.proofs.replay.Tie as tie
+use Rattle.steps.proofs.answer_all.Statement.{statement}
+use Rattle.steps.proofs.answer_all.Tie as tie
 
 abbrev Inv-loop : tie.InvT-loop
 Inv-loop count i₀ i = Unit {0}
@@ -12,8 +12,8 @@ abbrev μ-loop : tie.MeasureT-loop
 loop-holds : tie.Need-loop-holds Inv-loop μ-loop
 loop-holds c = search needs
 
-replay-one-requires : tie.Need-replay-one-requires Inv-loop μ-loop
-replay-one-requires c κs = search needs
+answer-named-requires : tie.Need-answer-named-requires Inv-loop μ-loop
+answer-named-requires c κs = search needs
 
 add-i : tie.Need-add-i Inv-loop μ-loop
 add-i c = search needs
@@ -27,7 +27,7 @@ loop-again c = search needs
 returns : tie.Need-returns Inv-loop μ-loop
 returns c = search needs
 
-pub replay-spec : {M : Type 1} → statement M
-replay-spec =
+pub answer-all-spec : {M : Type 1} → statement M
+answer-all-spec =
     tie.close
-    (tie.spec Inv-loop μ-loop loop-holds replay-one-requires add-i loop-less loop-again returns)
+    (tie.spec Inv-loop μ-loop loop-holds answer-named-requires add-i loop-less loop-again returns)
