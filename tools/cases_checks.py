@@ -162,6 +162,4 @@ def places():
     yield cells('longer-arrays', (0, 1, 0), tags + [32, BIG, 21], values + [1, BIG, 2], n=14, place=11)
 
 
-def cases():
-    for group in (arrays, extents, counts, named_places, repeats, wrong_sorts, places):
-        yield from group()
+COLLECTIONS = {'arrays': [arrays], 'headers': [extents, counts, named_places], 'descriptions': [repeats, wrong_sorts, places]}

@@ -283,6 +283,4 @@ def chains():
     yield case('31-clauses-ite-500-deep', (31, 0, 0), lambda pool, t: pool.op('Ite', t, t, t), 500)
 
 
-def cases():
-    for group in (formulas, quantifiers, empty_ors, limits, huge, room, precedence, lent_arrays, chains):
-        yield from group()
+COLLECTIONS = {'clauses': [formulas, quantifiers, empty_ors, limits, huge, room, precedence, lent_arrays, chains]}

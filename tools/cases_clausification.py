@@ -1,7 +1,7 @@
 """Call files on rule 3. Cases and rows are as in cases_rules.py, but that the cells past the count are 0 with every answer."""
 from cases_clauses import Parts
 from cases_normal import chain
-from formulas import WHOLE, Formulas, step, step_on
+from formulas import WHOLE, Formulas, step, step_on, steps
 
 # ---- the form, 3 and 4
 FORMS = [
@@ -244,8 +244,8 @@ def chains():
     yield case('forall-under-and', forall, 629, second, 31, others=1, size=9000)
 
 
-def cases():
-    for row in FORMS:
-        yield step(3, *row)
-    for group in (clauses, room, limit, limits, huge, precedence, chains):
-        yield from group()
+def forms():
+    return steps(3, FORMS)
+
+
+COLLECTIONS = {'rule3': [forms, clauses], 'rule3-limits': [room, limit, limits, huge, precedence, chains]}

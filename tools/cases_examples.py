@@ -29,6 +29,9 @@ EXAMPLES = [
 ]
 
 
-def cases():
+def examples():
     for rule, name, text in EXAMPLES:
         yield step(rule, 'example-' + name, text)
+
+
+COLLECTIONS = {'examples': [examples]}

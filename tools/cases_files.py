@@ -6,7 +6,7 @@ POOL = ([1, 21, 0, 0], [0, 2, 0, 1])  # Bool, and the variable 1 at place 1
 GOOD = call_file(1, *POOL, place=1)
 
 
-def cases():
+def files():
     yield 'file-empty', None, b''
     yield 'file-header-short', None, GOOD[:31]
     yield 'file-header-alone', None, GOOD[:32]
@@ -27,3 +27,6 @@ def cases():
     yield 'file-largest-marks', None, call_file(2, *POOL, place=1, x=BIG)
     yield 'file-unused-numbers', (0, 0, 0), call_file(1, *POOL, place=1, polarity=BIG, x=BIG, y=BIG)
     yield 'file-unused-numbers-2', (0, 0, 0), call_file(2, *POOL, place=1, polarity=BIG, x=4, y=BIG), {1}
+
+
+COLLECTIONS = {'files': [files]}

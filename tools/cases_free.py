@@ -164,6 +164,4 @@ def lent_arrays():
     yield '30-marks-before-14', (30, 0, 0), call_file(2, *packed([1], [14]), 2, 0, x=1), set()
 
 
-def cases():
-    for group in (binders, lets, let_values, others, chains, lent_arrays):
-        yield from group()
+COLLECTIONS = {'free': [binders, lets, let_values, others, chains, lent_arrays]}

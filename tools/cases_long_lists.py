@@ -39,10 +39,13 @@ def rows(name, letter):
     yield 6, name + '-let-value', ite(in_value), 12, letter, in_value
 
 
-def cases():
+def long_lists():
     for rule, name, text in ((2, 'none', removal(BOUND, '')), (2, 'body', '(= (forall %s %s) %s)' % (LIST, BOUND, BOUND)), (5, 'none', split(BOUND)),
                              (6, 'none', ite(BOUND))):
         yield step(rule, 'long-list-' + name, text)
     for name, letter in FREE.items():
         for rule, *row in rows('long-list-' + name, letter):
             yield step(rule, *row)
+
+
+COLLECTIONS = {'long-lists': [long_lists]}

@@ -1,5 +1,5 @@
 """Call files on rules 4, 5 and 6. Rows and cases are as in cases_rules.py."""
-from formulas import WHOLE, step
+from formulas import WHOLE, steps
 
 # ---- rule 4
 AND, AND_OUT = '(forall (x) (and x y))', '(and (forall (x) x) (forall (x) y))'
@@ -159,7 +159,16 @@ ITES = [
 ]
 
 
-def cases():
-    for rule, rows in ((4, DISTRIBUTIONS), (5, SPLITS), (6, ITES)):
-        for row in rows:
-            yield step(rule, *row)
+def distributions():
+    return steps(4, DISTRIBUTIONS)
+
+
+def splits():
+    return steps(5, SPLITS)
+
+
+def ites():
+    return steps(6, ITES)
+
+
+COLLECTIONS = {'rule4': [distributions], 'rule5': [splits], 'rule6': [ites]}

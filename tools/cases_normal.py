@@ -219,6 +219,4 @@ def chains():
     yield case('normal-900-variables-false', (0, 1 + 2700 + 902 + 2700, 1 + 2700 + 902 + 2700 + 902), pool, term, 0)
 
 
-def cases():
-    for group in (connectives, opaque, orders, words, room, limit, refusals, chains):
-        yield from group()
+COLLECTIONS = {'normal': [connectives, opaque, orders, words, room, limit, refusals, chains]}

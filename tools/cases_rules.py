@@ -3,7 +3,7 @@
 A case is as in cases_checks.py, with the whole output in the end. A row is a name, a conclusion, the code (0 if it is left
 out) and the numbers that it carries, as in formulas.py. The cells past the count hold other numbers, which stay.
 """
-from formulas import BIG, WHOLE, Formulas, step
+from formulas import BIG, WHOLE, Formulas, step, steps
 from packed_pool import call_file, packed, words
 from reference_program import printed
 
@@ -216,9 +216,12 @@ REMOVALS = [
 ]
 
 
-def cases():
-    for group in (pools, rules_and_places, files, whole_case, joined_lists):
-        yield from group()
-    for rule, rows in ((1, JOINS), (2, REMOVALS)):
-        for row in rows:
-            yield step(rule, *row)
+def joins():
+    return steps(1, JOINS)
+
+
+def removals():
+    return steps(2, REMOVALS)
+
+
+COLLECTIONS = {'steps': [pools, rules_and_places, files, whole_case], 'rule1': [joined_lists, joins], 'rule2': [removals]}

@@ -131,6 +131,4 @@ def others():
         yield 'sort-%s' % name, (0, pool.index[tag, tuple(cells)], 0), call_file(1, pool.tags, pool.values, place=term)
 
 
-def cases():
-    for group in (operators, odd, applications, stated, others):
-        yield from group()
+COLLECTIONS = {'sorts': [operators, odd, applications, stated, others]}

@@ -13,7 +13,7 @@ import subprocess
 
 import reference
 import reference_program
-from comparison import BATCH, DATA, Compared, arguments, cells_of, has_let, loader_stops, test_files
+from comparison import BATCH, Compared, arguments, cells_of, has_let, loader_stops, test_files
 from packed_pool import call_file, step_file
 from random_pools import RandomPool, damaged
 
@@ -96,7 +96,7 @@ class ComparedSorts(Compared):
             self.count['test files'] += 1
 
     def standard_input(self):
-        file = (DATA / 'free-forall.call').read_bytes()
+        file = next(file for name, file, *_ in test_files(2) if name == 'free-forall.call')
         printed = subprocess.run([self.calls], input=file, capture_output=True, check=True).stdout.decode()
         assert printed == reference_program.run(file), 'standard input'
 

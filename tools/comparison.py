@@ -13,6 +13,7 @@ import struct
 import subprocess
 import tempfile
 
+from call_collections import unpacked
 from reference_program import BUILT, call_of, run
 
 DATA = pathlib.Path(__file__).resolve().parent.parent / 'crates' / 'calls' / 'data'
@@ -32,10 +33,9 @@ def arguments(with_calls):
 
 def test_files(*calls):
     """The test files of these calls: name, bytes, and of the head the count and the word after it."""
-    for path in sorted(DATA.glob('*.call')):
-        file = path.read_bytes()
+    for name, file in sorted(call for path in DATA.glob('*.calls') for call in unpacked(path.read_bytes())):
         if call_of(file) in calls and run(file) != 'bad file\n':
-            yield path.name, file, *struct.unpack('<2I', file[12:20])
+            yield name, file, *struct.unpack('<2I', file[12:20])
 
 
 def cells_of(file, n):

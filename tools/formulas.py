@@ -154,3 +154,8 @@ def step(rule, name, text, code=0, *numbers, room=None):
     """Call 0 on a conclusion."""
     pool = Formulas(text)
     return step_on('rule%d-%d-%s' % (rule, code, name), pool, pool.root, rule, code, *numbers, room=room)
+
+
+def steps(rule, rows):
+    """The same on the conclusion of each row."""
+    return [step(rule, *row) for row in rows]

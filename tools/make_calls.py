@@ -1,8 +1,8 @@
 #!/usr/bin/env python3
-"""Writes the test files of the program `calls`: crates/calls/data/*.call, args, and stdout, what it must print.
+"""Writes the test files of the program `calls`: the collections crates/calls/data/*.calls, args, and stdout, what it must print.
 
 What is expected comes from the reference, held against the answers that the cases state by hand. Files of calls that
-are not BUILT (reference_program.py) are written, but neither named in args nor in stdout.
+are not BUILT (reference_program.py) are left out.
 """
 import pathlib
 
@@ -17,6 +17,7 @@ import cases_miniscope
 import cases_normal
 import cases_rules
 import cases_sorts
+from call_collections import packed
 from reference_program import is_tried, run
 
 CASES = (cases_files, cases_checks, cases_sorts, cases_free, cases_normal, cases_clauses, cases_rules, cases_miniscope, cases_long_lists,
@@ -37,26 +38,37 @@ def held(name, text, answer, more=None):
     return text
 
 
+def texts(groups):
+    """The calls of these groups that are tried, by their names: the call file, and what is printed."""
+    found = {}
+    for group in groups:
+        for name, answer, file, *more in group():
+            text = held(name, run(file), answer, *more)
+            assert name + '.call' not in found, name
+            if is_tried(file):
+                found[name + '.call'] = file, text
+    return found
+
+
 def main():
     data = CRATE / 'data'
     data.mkdir(parents=True, exist_ok=True)
-    for old in data.glob('*.call'):
+    for old in data.glob('*.calls'):
         old.unlink()
-    written, names, printed = set(), [], []
+    names, printed = [], {}
     for cases in CASES:
-        for name, answer, file, *more in cases.cases():
-            assert name not in written, name
-            written.add(name)
-            (data / (name + '.call')).write_bytes(file)
-            text = held(name, run(file), answer, *more)
-            if is_tried(file):
-                names.append(name + '.call')
-                printed.append(names[-1] + ':\n' + text)
+        for topic, groups in cases.COLLECTIONS.items():
+            calls = texts(groups)
+            assert not calls.keys() & printed.keys(), topic
+            names.append(topic + '.calls')
+            (data / names[-1]).write_bytes(packed([(name, file) for name, (file, _) in calls.items()]))
+            printed.update((name, text) for name, (_, text) in calls.items())
+    collections, calls = len(names), len(printed)
     names.append(MISSING)
-    printed.append(MISSING + ':\nbad file\n')
-    (CRATE / 'args').write_text('\n'.join(names) + '\n')
-    (CRATE / 'stdout').write_text(''.join(printed))
-    print('%d files, %d of them tried' % (len(written), len(names) - 1))
+    printed[MISSING] = 'bad file\n'
+    (CRATE / 'args').write_text(''.join(name + '\n' for name in names))
+    (CRATE / 'stdout').write_text(''.join(name + ':\n' + text for name, text in printed.items()))
+    print('%d collections of %d calls' % (collections, calls))
 
 
 if __name__ == '__main__':

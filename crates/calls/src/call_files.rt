@@ -2,6 +2,7 @@
 // polarity, X and Y. T tags and V values follow, and in a call 0 the X places of the conclusion.
 ghost use mathlib.Core.Path.{_≡_};
 ghost use Rattle.calls.specs.Format.{headOf, conclusionCount, isWhole};
+use pool::run::wide;
 use step_files::words::word;
 
 // The words that the calls use: X is `lent`, the length of the conclusion, of the marks or of the literals, and Y is `ends`, that
@@ -15,12 +16,6 @@ pub struct Head {
     pub polarity: u32,
     pub lent: usize,
     pub ends: usize,
-}
-
-fn wide(x: u32) -> usize
-    ensures { λ r. ⌜ r ≡ x ⌝ }
-{
-    x as usize
 }
 
 pub fn read_head(bytes: &[u8]) -> Head

@@ -1,11 +1,20 @@
-// What a call prints: lines of numbers in decimal, one space between, gathered in a text that is written when it is full.
+// What is printed: lines of numbers in decimal, one space between, gathered in a text that is written when it is full.
 ghost use Prim.Native.Nat.{_+_, _≤_};
 ghost use mathlib.Core.Path.{_≡_};
 ghost use lib.ListN.{length};
-ghost use lib.Seq.{paste};
-ghost use Rattle.calls.specs.Text.{Put};
 use libc::STDOUT_FILENO;
 use pool::Answer;
+use step_files::answer_lines::put_number;
+
+pub fn bad_file() {
+    io::write_all(STDOUT_FILENO, b"bad file\n");
+}
+
+// The line before what a file gives.
+pub fn name_line(name: &[u8]) {
+    io::write_all(STDOUT_FILENO, name);
+    io::write_all(STDOUT_FILENO, b":\n");
+}
 
 fn wide(x: u8) -> u32
     ensures { λ r. ⌜ r ≡ x ⌝ }
@@ -13,70 +22,57 @@ fn wide(x: u8) -> u32
     x as u32
 }
 
-fn long(x: u32) -> u64
-    ensures { λ r. ⌜ r ≡ x ⌝ }
+// Writes the text that ends at `end`.
+fn write_text(text: &[u8], end: usize)
+    requires { ⌜ end ≤ length (now text) ⌝ }
 {
-    x as u64
+    io::write_all(STDOUT_FILENO, &text[..end]);
 }
 
-// Copies word to the text from position at on.
-fn copy(text: &mut [u8], at: usize, word: &[u8])
-    requires { ⌜ at + length (now word) ≤ length (now text) ⌝ }
-    ensures { λ _. ⌜ now (text .exit) ≡ paste (now (text .entry)) at (now (word .entry)) (length (now (word .entry))) ⌝ }
+// Where a space and a number find room after a text that ends at `at`: where they find none the text is written, and the next begins.
+fn room(text: &[u8], at: usize) -> usize
+    requires { ⌜ (at ≤ length (now text)) × (11 ≤ length (now text)) ⌝ }
+    ensures { λ r. ⌜ r + 11 ≤ length (now (text .entry)) ⌝ }
 {
-    let mut i = 0;
-    while i < word.len() {
-        text[at + i] = word[i];
-        i += 1;
+    if 11 <= text.len() - at {
+        return at;
     }
-}
-
-// Adds word to a text that ends at `at`, and answers where it then ends. Where there is no room the text is written first.
-fn put(text: &mut [u8], at: usize, word: &[u8]) -> usize
-    requires { ⌜ at ≤ length (now text) ⌝ }
-    ensures { λ r. ⌜ Put (now (text .entry)) (now (text .exit)) r ⌝ }
-{
-    if word.len() <= text.len() - at {
-        copy(text, at, word);
-        return at + word.len();
-    }
-    io::write_all(STDOUT_FILENO, &text[..at]);
-    io::write_all(STDOUT_FILENO, word);
+    write_text(text, at);
     0
 }
 
-// A space and the number.
-fn put_number(text: &mut [u8], at: usize, n: u32) -> usize
-    requires { ⌜ at ≤ length (now text) ⌝ }
-    ensures { λ r. ⌜ Put (now (text .entry)) (now (text .exit)) r ⌝ }
+// Adds a space and the number to a text that ends at `at`, and answers where it then ends.
+fn put(text: &mut [u8], at: usize, n: u32) -> usize
+    requires { ⌜ (at ≤ length (now text)) × (11 ≤ length (now text)) ⌝ }
+    ensures { λ r. ⌜ r ≤ length (now (text .entry)) ⌝ }
 {
-    let mut digits = [0u8; 20];
-    let k = io::decimal(long(n), &mut digits);
-    let start = put(text, at, b" ");
-    put(text, start, &digits[..k])
+    let start = room(text, at);
+    let end = put_number(text, start + 1, n);
+    text[start] = 32;
+    end
 }
 
-fn put_numbers(text: &mut [u8], at: usize, numbers: &[u32]) -> usize
-    requires { ⌜ at ≤ length (now text) ⌝ }
-    ensures { λ r. ⌜ Put (now (text .entry)) (now (text .exit)) r ⌝ }
+fn put_numbers(text: &mut [u8], numbers: &[u32]) -> usize
+    requires { ⌜ 11 ≤ length (now text) ⌝ }
+    ensures { λ r. ⌜ r ≤ length (now (text .entry)) ⌝ }
 {
-    let mut end = at;
+    let mut end = 0;
     let mut i = 0;
     while i < numbers.len() {
-        end = put_number(text, end, numbers[i]);
+        end = put(text, end, numbers[i]);
         i += 1;
     }
     end
 }
 
-fn put_bytes(text: &mut [u8], at: usize, bytes: &[u8]) -> usize
-    requires { ⌜ at ≤ length (now text) ⌝ }
-    ensures { λ r. ⌜ Put (now (text .entry)) (now (text .exit)) r ⌝ }
+fn put_bytes(text: &mut [u8], bytes: &[u8]) -> usize
+    requires { ⌜ 11 ≤ length (now text) ⌝ }
+    ensures { λ r. ⌜ r ≤ length (now (text .entry)) ⌝ }
 {
-    let mut end = at;
+    let mut end = 0;
     let mut i = 0;
     while i < bytes.len() {
-        end = put_number(text, end, wide(bytes[i]));
+        end = put(text, end, wide(bytes[i]));
         i += 1;
     }
     end
@@ -84,25 +80,34 @@ fn put_bytes(text: &mut [u8], at: usize, bytes: &[u8]) -> usize
 
 // A line with a name and numbers.
 pub fn line(name: &[u8], numbers: &[u32]) {
+    io::write_all(STDOUT_FILENO, name);
     let mut text = io::buffer();
-    let start = put(&mut text, 0, name);
-    let end = put_numbers(&mut text, start, numbers);
-    io::write_all(STDOUT_FILENO, &text[..end]);
+    let end = put_numbers(&mut text, numbers);
+    write_text(&text, end);
     io::write_all(STDOUT_FILENO, b"\n");
 }
 
 // The same with bytes for numbers.
 pub fn byte_line(name: &[u8], bytes: &[u8]) {
+    io::write_all(STDOUT_FILENO, name);
     let mut text = io::buffer();
-    let start = put(&mut text, 0, name);
-    let end = put_bytes(&mut text, start, bytes);
-    io::write_all(STDOUT_FILENO, &text[..end]);
+    let end = put_bytes(&mut text, bytes);
+    write_text(&text, end);
     io::write_all(STDOUT_FILENO, b"\n");
 }
 
 // The answer, and the clause list's new count, which is 0 with every other call.
-pub fn answer(a: Answer, count: u32) {
+fn answer_line(a: Answer, count: u32) {
+    let mut code = [0u8; 10];
+    let end = put_number(&mut code, 0, a.code);
+    write_text(&code, end);
     let numbers = [a.first, a.second, count];
-    io::print_decimal(STDOUT_FILENO, long(a.code));
     line(b"", &numbers);
+}
+
+// The answer of a call and the pool that it leaves.
+pub fn pool_after(a: Answer, count: u32, tags: &[u32], values: &[u32]) {
+    answer_line(a, count);
+    line(b"tags", tags);
+    line(b"values", values);
 }

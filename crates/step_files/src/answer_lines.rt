@@ -26,7 +26,7 @@ fn copy(out: &mut [u8], at: usize, bytes: &[u8])
     }
 }
 
-fn put_number(out: &mut [u8], at: usize, n: u32) -> usize
+pub fn put_number(out: &mut [u8], at: usize, n: u32) -> usize
     requires { ⌜ at + 10 ≤ length (now out) ⌝ }
     ensures { λ r. ⌜ Put (decimal n) 10 at (now (out .entry)) r (now (out .exit)) ⌝ }
 {

@@ -6,10 +6,10 @@ use Rattle.calls.proofs.report.put_bytes.Statement.{statement}
 use Rattle.calls.proofs.report.put_bytes.Tie as tie
 
 abbrev Inv-loop : tie.InvT-loop
-Inv-loop text₀ at bytes end₀ i₀ text end i = (length text ≡ length text₀) × (end ≤ length text₀)
+Inv-loop text₀ bytes end₀ i₀ text end i = (length text ≡ length text₀) × (end ≤ length text₀)
 
 abbrev μ-loop : tie.MeasureT-loop
-μ-loop text₀ at bytes end₀ i₀ text end i = length bytes - i
+μ-loop text₀ bytes end₀ i₀ text end i = length bytes - i
 
 loop-holds : tie.Need-loop-holds Inv-loop μ-loop
 loop-holds c = search needs
@@ -20,8 +20,8 @@ shared-slice-read-wide c = search needs
 wide-requires : tie.Need-wide-requires Inv-loop μ-loop
 wide-requires c κs = search needs
 
-put-number-requires : tie.Need-put-number-requires Inv-loop μ-loop
-put-number-requires c κs = search needs
+put-requires : tie.Need-put-requires Inv-loop μ-loop
+put-requires c κs = search needs
 
 add-i : tie.Need-add-i Inv-loop μ-loop
 add-i c = search needs
@@ -47,7 +47,7 @@ put-bytes-spec =
     loop-holds
     shared-slice-read-wide
     wide-requires
-    put-number-requires
+    put-requires
     add-i
     loop-less
     loop-again

@@ -6,22 +6,22 @@ use Rattle.calls.proofs.report.put_numbers.Statement.{statement}
 use Rattle.calls.proofs.report.put_numbers.Tie as tie
 
 abbrev Inv-loop : tie.InvT-loop
-Inv-loop text₀ at numbers end₀ i₀ text end i = (length text ≡ length text₀) × (end ≤ length text₀)
+Inv-loop text₀ numbers end₀ i₀ text end i = (length text ≡ length text₀) × (end ≤ length text₀)
 
 abbrev μ-loop : tie.MeasureT-loop
-μ-loop text₀ at numbers end₀ i₀ text end i = length numbers - i
+μ-loop text₀ numbers end₀ i₀ text end i = length numbers - i
 
 loop-holds : tie.Need-loop-holds Inv-loop μ-loop
 loop-holds c = search needs
 
-mul-put-number : tie.Need-mul-put-number Inv-loop μ-loop
-mul-put-number c = search needs
+mul-put : tie.Need-mul-put Inv-loop μ-loop
+mul-put c = search needs
 
-shared-slice-read-put-number : tie.Need-shared-slice-read-put-number Inv-loop μ-loop
-shared-slice-read-put-number c = search needs
+shared-slice-read-put : tie.Need-shared-slice-read-put Inv-loop μ-loop
+shared-slice-read-put c = search needs
 
-put-number-requires : tie.Need-put-number-requires Inv-loop μ-loop
-put-number-requires c κs = search needs
+put-requires : tie.Need-put-requires Inv-loop μ-loop
+put-requires c κs = search needs
 
 add-i : tie.Need-add-i Inv-loop μ-loop
 add-i c = search needs
@@ -45,9 +45,9 @@ put-numbers-spec =
     Inv-loop
     μ-loop
     loop-holds
-    mul-put-number
-    shared-slice-read-put-number
-    put-number-requires
+    mul-put
+    shared-slice-read-put
+    put-requires
     add-i
     loop-less
     loop-again
