@@ -26,7 +26,7 @@ import tempfile
 import threading
 
 import bench_files
-from reference_steps import run as reference_text
+from references.reference_steps import run as reference_text
 
 LONGEST = 600  # seconds that a run may take
 FEWEST, MOST = 3, 300  # runs of a measurement

@@ -12,16 +12,16 @@ import sys
 
 sys.path.insert(0, str(pathlib.Path(__file__).resolve().parent.parent / 'tools'))
 
-from cases_clauses import Parts
-from cases_steps import full_pool
-from compare_steps import as_the_rust_joins
-from limit_steps import padded
-from packed_pool import step_file
-from random_steps import RandomSteps, near_step
-from reference import LIMIT
-from reference_clauses import Growing, clause_answer
-from reference_rules import RULES, Checked, clausification
-from reference_steps import MOST_STEPS, answers
+from cases.cases_clauses import Parts
+from cases.cases_steps import full_pool
+from comparisons.compare_steps import as_the_rust_joins
+from pools.packed_pool import step_file
+from random_inputs.limit_steps import padded
+from random_inputs.random_steps import RandomSteps, near_step
+from references.reference import LIMIT
+from references.reference_clauses import Growing, clause_answer
+from references.reference_rules import RULES, Checked, clausification
+from references.reference_steps import MOST_STEPS, answers
 
 SIZES = (500, 1000, 2000, 4000, 8000)
 POOLS = 4  # valid ones of each size

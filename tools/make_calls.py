@@ -6,19 +6,10 @@ are not BUILT (reference_program.py) are left out.
 """
 import pathlib
 
-import cases_checks
-import cases_clauses
-import cases_clausification
-import cases_examples
-import cases_files
-import cases_free
-import cases_long_lists
-import cases_miniscope
-import cases_normal
-import cases_rules
-import cases_sorts
 from call_collections import packed
-from reference_program import is_tried, run
+from cases import (cases_checks, cases_clauses, cases_clausification, cases_examples, cases_files, cases_free, cases_long_lists,
+                   cases_miniscope, cases_normal, cases_rules, cases_sorts)
+from references.reference_program import is_tried, run
 
 CASES = (cases_files, cases_checks, cases_sorts, cases_free, cases_normal, cases_clauses, cases_rules, cases_miniscope, cases_long_lists,
          cases_clausification, cases_examples)

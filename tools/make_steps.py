@@ -3,11 +3,11 @@
 
     make_steps.py ORACLE [--seed SEED]
 
-ORACLE is the Rust behind a loader of packed pools (comparison.py). Only the making needs it. Files with answers written by hand
-come first (cases_steps.py), then random ones from the seed. The answer to a random step is the Rust's, which the reference must
-give too; where the two part in a way that is written up it is the reference's, and data/DIFFERENCES.txt names the step with both
-answers. On files with a let the Rust is not asked: the answers are the reference's. data/COUNTS.txt says how many steps end at each
-check of the rules (sites.py). Made again from the same seed, the files are the same byte for byte.
+ORACLE is the Rust behind a loader of packed pools (comparisons/comparison.py). Only the making needs it. Files with answers
+written by hand come first (cases_steps.py), then random ones from the seed. The answer to a random step is the Rust's, which the
+reference must give too; where the two part in a way that is written up it is the reference's, and data/DIFFERENCES.txt names the
+step with both answers. On files with a let the Rust is not asked: the answers are the reference's. data/COUNTS.txt says how many
+steps end at each check of the rules (sites.py). Made again from the same seed, the files are the same byte for byte.
 """
 import argparse
 import collections
@@ -17,18 +17,18 @@ import pathlib
 import random
 import subprocess
 
-import cases_steps
-import reference
-from balanced_steps import BalancedSteps
-from compare_steps import LARGEST, NO_RULES, features, is_written
-from comparison import has_let, loader_stops
-from limit_steps import LimitSteps, RoomSteps, nearly_full
-from packed_pool import step_file
-from random_pools import damaged
-from random_steps import RandomSteps
-from reference_rules import Checked
-from reference_steps import BadFile, answers, read, run
-from sites import SITES, site
+from cases import cases_steps
+from comparisons.compare_steps import LARGEST, NO_RULES, features, is_written
+from comparisons.comparison import has_let, loader_stops
+from comparisons.sites import SITES, site
+from pools.packed_pool import step_file
+from random_inputs.balanced_steps import BalancedSteps
+from random_inputs.limit_steps import LimitSteps, RoomSteps, nearly_full
+from random_inputs.random_pools import damaged
+from random_inputs.random_steps import RandomSteps
+from references import reference
+from references.reference_rules import Checked
+from references.reference_steps import BadFile, answers, read, run
 
 CRATE = pathlib.Path(__file__).resolve().parent.parent / 'crates' / 'steps'
 ON_STDIN = 'whole-case.steps'  # the file that `-` names

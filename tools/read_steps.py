@@ -11,11 +11,11 @@ import argparse
 import pathlib
 from itertools import zip_longest
 
-import reference
-from answer_text import StepText, file_answer, pool_answer
-from reference_rules import RULES, Checked
-from reference_steps import BadFile, read, run
-from term_text import TermText
+from references import reference
+from references.reference_rules import RULES, Checked
+from references.reference_steps import BadFile, read, run
+from texts.answer_text import StepText, file_answer, pool_answer
+from texts.term_text import TermText
 
 
 def answers_of(text, name):

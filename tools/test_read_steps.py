@@ -2,15 +2,15 @@
 """Tests of read_steps.py: every code in words, and texts that stay short. `python3 tools/test_read_steps.py`"""
 import unittest
 
-from answer_text import MEANING
-from cases_clauses import Parts
-from cases_clausification import clausification
-from cases_rules import join
-from cases_steps import WHOLE_CASE
-from formulas import Formulas
-from packed_pool import packed, step_file, words
+from cases.cases_clauses import Parts
+from cases.cases_clausification import clausification
+from cases.cases_rules import join
+from cases.cases_steps import WHOLE_CASE
+from pools.formulas import Formulas
+from pools.packed_pool import packed, step_file, words
 from read_steps import answers_of, place_lines, report
-from reference_steps import run
+from references.reference_steps import run
+from texts.answer_text import MEANING
 
 # a step of which only the last line of its text is held: rule, conclusion, that line
 STEPS = [
