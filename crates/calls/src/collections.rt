@@ -57,7 +57,8 @@ fn least(a: usize, b: usize) -> usize
     if a < b { a } else { b }
 }
 
-// Prints what the call file of that size gives, after its name. Of one that is longer than any call file the start is enough.
+// Prints what the call file of that size gives, after its name, unless the collection ends first. Of one that is longer than any call
+// file the start is enough.
 fn replay_file(fd: i32, name: &[u8], size: usize) -> bool {
     let mut bytes = file_bytes();
     let kept = least(size, 108033);
@@ -72,6 +73,7 @@ fn replay_file(fd: i32, name: &[u8], size: usize) -> bool {
     true
 }
 
+// False where the collection ends too early, and where the name is too long.
 fn replay_call(fd: i32) -> bool {
     let Number::Is(length) = read_number(fd) else {
         return false;
