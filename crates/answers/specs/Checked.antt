@@ -1,5 +1,4 @@
 -- One check's answer as an outcome. Rests on Outcome and the enum `Checked`.
-use Prim.Native.Nat.{ℕ}
 use Rattle.answers.specs.Outcome.{Outcome, pass, refuse}
 use Rattle.answers.specs.declared.checked.Checked.{Checked}
 use Rattle.answers.specs.declared.checked.Checked.the-variants.{Passes, Refuses}

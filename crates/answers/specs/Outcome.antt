@@ -4,7 +4,7 @@
 use Prim.Native.Nat.{ℕ}
 use mathlib.Core.Bool.{Bool, true, false}
 use mathlib.Core.Option.{Option, some, none}
-use Rattle.answers.specs.Answer.{accepted}
+use Rattle.answers.specs.Answer.{accepted, refused}
 use Rattle.answers.specs.declared.Answer.{Answer}
 
 pub data Outcome (A : Type 0) : Type 0 where
@@ -37,6 +37,6 @@ unless k number n (some a) = refuse k (number a) n
 unless k number n none = pass tt
 
 -- a rule's answer
-unfoldable pub answerOf : Outcome (Unit {0}) → Answer
+abbrev pub answerOf : Outcome (Unit {0}) → Answer
 answerOf (pass a) = accepted 0 0
-answerOf (refuse k m n) = record { code = k; first = m; second = n }
+answerOf (refuse k m n) = refused k m n

@@ -1,6 +1,5 @@
 // The answers of the public calls.
 pub mod checked;
-pub mod outcome;
 
 ghost use mathlib.Core.Path.{_≡_};
 ghost use Rattle.answers.specs.Answer.{accepted, refused};

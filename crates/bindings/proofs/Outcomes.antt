@@ -5,13 +5,18 @@ use mathlib.Core.Path.{_≡_, refl, ap, _∙_}
 use mathlib.Core.Option.{Option, some, none}
 use native.Mathlib.Omega.{arith}
 use Rattle.answers.specs.declared.Answer.{Answer}
+use Rattle.answers.specs.Answer.{accepted, refused}
 use Rattle.answers.specs.Outcome.{Outcome, pass, refuse, unless, answerOf}
 use Rattle.bindings.specs.Binding.{Binding}
 use Rattle.bindings.specs.BindingAnswer.{nameOf}
 use Rattle.bindings.specs.declared.binding.FirstName.the-variants.{Name, Nothing}
 
-pub answers : (r : Answer) (o p : Outcome (Unit {0})) → r ≡ answerOf o → o ≡ p → r ≡ answerOf p
-answers r o p is e = is ∙ ap answerOf e
+-- the code's answer is that of a rule's outcome
+pub answers-refused : (r : Answer) (k m n : ℕ) (p : Outcome (Unit {0})) → r ≡ refused k m n → refuse k m n ≡ p → r ≡ answerOf p
+answers-refused r k m n p is e = rw (← e) is
+
+pub answers-accepted : (r : Answer) (p : Outcome (Unit {0})) → r ≡ accepted 0 0 → pass tt ≡ p → r ≡ answerOf p
+answers-accepted r p is e = rw (← e) is
 
 -- the first of a list that offends, by its name
 module _ (k n : ℕ) where

@@ -1,7 +1,7 @@
 -- Binding lists of quantifiers. A variable is its name with its sort; here the sort is its place.
 -- Rests on the library alone.
 use Prim.Native.Nat.{ℕ}
-use mathlib.Core.Bool.{Bool, true, false, not, _&&_, _||_, cond}
+use mathlib.Core.Bool.{Bool, true, false, _&&_, _||_, cond}
 use mathlib.Core.List.{List, [], _∷_}
 use mathlib.Core.Option.{Option, some, none}
 use lib.Dec.{eqb}

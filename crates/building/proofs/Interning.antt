@@ -1,23 +1,20 @@
 -- Laws of putting forms into a pool: the pool grows, what was put stands there, and what stands is found again however the pool grows.
 -- Assumes nothing.
-use Prim.Native.Nat.{ℕ, zero, suc, _+_, _-_, _≤_, _<_}
+use Prim.Native.Nat.{ℕ, _+_, _≤_, _<_}
 use mathlib.Core.Path.{_≡_, refl, sym, ap, _∙_}
-use mathlib.Core.Bool.{Bool, true, false}
+use mathlib.Core.Bool.{true, false}
 use mathlib.Core.List.{List, [], _∷_, _++_}
-use lib.ListN.{length, getD, take, drop, replicate, length-append, length-replicate, List·getD-append}
+use lib.ListN.{length, getD, replicate, length-append, length-replicate, List·getD-append}
 use lib.Seq.{getD-at, drop-at, take-length, append-snoc}
-use lib.Dec.{eqb}
 use native.Mathlib.Omega.{arith}
-use native.Mathlib.Numerals.{add-one}
 use borrow.Author.Tests.{eq-eqb}
 use Rattle.cells.specs.Cell.{cellsOf, isAt}
-use Rattle.cells.specs.Headers.{firstFrom}
 use Rattle.descriptions.specs.Description.{find}
 use Rattle.cells.specs.declared.Found.{Found}
 use Rattle.cells.specs.declared.Found.the-variants.{At, Nothing}
 use Rattle.cells.proofs.Cells.{same-refl}
 use Rattle.cells.proofs.Walks.{first-here, first-below}
-use Rattle.descriptions.proofs.description.Fills.{Fills, filled, more, orElse, fills-grown}
+use Rattle.descriptions.proofs.description.Fills.{Fills, filled, more, fills-grown}
 use Rattle.descriptions.proofs.description.Growth.{Same, find-grown}
 use Rattle.formulas.specs.Normal.{Normal, Normals, lit, nmany, nall, nnil, ncons}
 use Rattle.formulas.specs.Built.{Pool, Placed, PlacedAll, count, extend, placeAt, put, intern, interns}

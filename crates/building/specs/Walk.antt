@@ -43,13 +43,13 @@ pub record Holds (lim : ℕ) (o : Placed) (p m : ℕ) (tags values : List ℕ) :
   pub state : State lim m tags values
 
 -- that, or no room for o in arrays of this size
-abbrev pub Outcome : ℕ → ℕ → Placed → Built → List ℕ → List ℕ → Type 0
-Outcome lim size o (At p m) tags values = Holds lim o (p .0) m tags values
-Outcome lim size o Full tags values = fits (o .pool) size ≡ false
+abbrev pub BuiltOutcome : ℕ → ℕ → Placed → Built → List ℕ → List ℕ → Type 0
+BuiltOutcome lim size o (At p m) tags values = Holds lim o (p .0) m tags values
+BuiltOutcome lim size o Full tags values = fits (o .pool) size ≡ false
 
 -- r is the answer of a call that puts o into tags and values, which leaves tags′ and values′
 pub record Puts (lim : ℕ) (tags values : List ℕ) (o : Placed) (r : Built) (tags′ values′ : List ℕ) : Type 0 where
-  pub outcome : Outcome lim (length tags) o r tags′ values′
+  pub outcome : BuiltOutcome lim (length tags) o r tags′ values′
   pub left : Left lim tags values tags′ values′
 
 -- the index of the pool that a call leaves; a refusal leaves any
@@ -58,7 +58,7 @@ Indexed (At p m) tags values index = Index tags values m index
 Indexed Full tags values index = Unit {0}
 
 -- the first k cells of the row are these
-pub record Cells (cells : List ℕ) (k : ℕ) (row : List ℕ) : Type 0 where
+pub record FirstCells (cells : List ℕ) (k : ℕ) (row : List ℕ) : Type 0 where
   pub within : k ≤ length row
   pub are : take k row ≡ cells
 
@@ -80,7 +80,7 @@ abbrev pub StandAll : Pool → Normals (List ℕ) ℕ → List ℕ → Type 0
 StandAll q fs ps = interns fs q ≡ record { pool = q; places = ps }
 
 -- every entry of the memo that is set is one more than the place where its form stands; formAt gives the form of an entry
-pub record Right (formAt : ℕ → Normal (List ℕ) ℕ) (q : Pool) (memo : List ℕ) : Type 0 where
+pub record FormsMemo (formAt : ℕ → Normal (List ℕ) ℕ) (q : Pool) (memo : List ℕ) : Type 0 where
   pub entry : (i p : ℕ) → getD memo i 0 ≡ suc p → Stands q (formAt i) p
   pub below : (i p : ℕ) → getD memo i 0 ≡ suc p → p < count q
 
@@ -88,13 +88,13 @@ pub record Right (formAt : ℕ → Normal (List ℕ) ℕ) (q : Pool) (memo : Lis
 abbrev pub Keeps : List ℕ → List ℕ → Type 0
 Keeps memo memo′ = (i p : ℕ) → getD memo i 0 ≡ suc p → getD memo′ i 0 ≡ suc p
 
-pub record Noted (formAt : ℕ → Normal (List ℕ) ℕ) (q : Pool) (memo memo′ : List ℕ) : Type 0 where
-  pub right : Right formAt q memo′
+pub record FormsNoted (formAt : ℕ → Normal (List ℕ) ℕ) (q : Pool) (memo memo′ : List ℕ) : Type 0 where
+  pub right : FormsMemo formAt q memo′
   pub keeps : Keeps memo memo′
 
 -- what is left of the memo's promise: a refusal ends the whole walk
 abbrev pub Remembers : (ℕ → Normal (List ℕ) ℕ) → List ℕ → Built → List ℕ → List ℕ → List ℕ → Type 0
-Remembers formAt memo (At p m) tags values memo′ = Noted formAt (poolOf tags values m) memo memo′
+Remembers formAt memo (At p m) tags values memo′ = FormsNoted formAt (poolOf tags values m) memo memo′
 Remembers formAt memo Full tags values memo′ = Unit {0}
 
 -- a walker that puts o, and keeps in the memo what it built on the way
@@ -129,10 +129,10 @@ roomFor normal = cellLimit + cellLimit
 roomFor taken-out = cellLimit
 
 -- what the walkers start from
-pub record Ready (w : Walk) (lim n : ℕ) (tags values memo : List ℕ) : Type 0 where
+pub record WalkReady (w : Walk) (lim n : ℕ) (tags values memo : List ℕ) : Type 0 where
   pub state : State lim n tags values
   pub room : roomFor w ≤ length memo
-  pub right : Right (entryForm w lim tags values) (poolOf tags values n) memo
+  pub right : FormsMemo (entryForm w lim tags values) (poolOf tags values n) memo
 
 -- a form is put into the pool of n cells
 abbrev pub Formed : Walk → ℕ → ℕ → List ℕ → List ℕ → List ℕ → Normal (List ℕ) ℕ → Built → List ℕ → List ℕ → List ℕ → Type 0

@@ -20,7 +20,7 @@ ghost use Rattle.formulas.specs.Built.{put, intern};
 ghost use Rattle.formulas.specs.Formula.{quantifierTag, connectiveTag};
 ghost use Rattle.building.specs.Arrays.{poolOf};
 ghost use Rattle.descriptions.specs.Index.{Index};
-ghost use Rattle.building.specs.Walk.{State, Indexed, Puts, Cells, slotOf, placesIn, runOf};
+ghost use Rattle.building.specs.Walk.{State, Indexed, Puts, slotOf, placesIn, runOf, FirstCells};
 
 // The memo's index of a term and a polarity: the forms at true polarity come first.
 pub fn slot(t: TermPlace, polarity: bool) -> usize
@@ -57,7 +57,7 @@ fn flip(b: bool, polarity: bool) -> bool
 // Writes the sort Bool and the places of the operands' forms to the scratch array, and gives their number.
 fn gather(run: &[u32], memo: &[u32], scratch: &mut [u32], polarity: bool) -> usize
     requires { ⌜ length (now run) < length (now scratch) ⌝ }
-    ensures { λ r. ⌜ Cells (0 ∷ placesIn (now (memo .entry)) polarity (now (run .entry))) r (now (scratch .exit)) ⌝ }
+    ensures { λ r. ⌜ FirstCells (0 ∷ placesIn (now (memo .entry)) polarity (now (run .entry))) r (now (scratch .exit)) ⌝ }
 {
     scratch[0] = 0;
     let mut j: usize = 0;
@@ -73,7 +73,7 @@ fn gather(run: &[u32], memo: &[u32], scratch: &mut [u32], polarity: bool) -> usi
 fn gather_pairs(run: &[u32], body: TermPlace, scratch: &mut [u32]) -> usize
     requires { ⌜ length (now run) < length (now scratch) ⌝ }
     requires { ⌜ 2 ≤ length (now scratch) ⌝ }
-    ensures { λ r. ⌜ Cells (0 ∷ body .0 ∷ drop 1 (now (run .entry))) r (now (scratch .exit)) ⌝ }
+    ensures { λ r. ⌜ FirstCells (0 ∷ body .0 ∷ drop 1 (now (run .entry))) r (now (scratch .exit)) ⌝ }
 {
     scratch[0] = 0;
     scratch[1] = body.0;

@@ -1,7 +1,7 @@
 -- Tests at every position of a range, or at some.
 -- Rests on the library alone.
 use Prim.Native.Nat.{ℕ, zero, suc, _-_}
-use mathlib.Core.Bool.{Bool, true, false, _&&_, _||_}
+use mathlib.Core.Bool.{Bool, true, _&&_}
 
 -- the test holds at f positions from j on
 unfoldable pub everyIn : (ℕ → Bool) → ℕ → ℕ → Bool

@@ -2,7 +2,7 @@
 -- 01, "Pool": "Headers and their cells fill 0 to N-1 exactly."
 -- Rests on the library and the enum `Found`.
 use Prim.Native.Nat.{ℕ, zero, suc, _+_, _-_}
-use mathlib.Core.Bool.{Bool, true, false, cond}
+use mathlib.Core.Bool.{Bool, cond}
 use mathlib.Core.List.{List}
 use lib.ListN.{getD}
 use lib.Dec.{leb}

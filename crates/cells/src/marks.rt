@@ -2,7 +2,7 @@
 use crate::TermPlace;
 ghost use mathlib.Core.Path.{_≡_};
 ghost use lib.ListN.{length, getD, set, replicate};
-ghost use Rattle.cells.specs.Marks.{Noted};
+ghost use Rattle.cells.specs.Marks.{MarkNoted};
 
 // The mark of a place.
 pub fn mark_at(marks: &[u8], t: TermPlace) -> u8
@@ -24,7 +24,7 @@ pub fn set_mark(marks: &mut [u8], t: TermPlace)
 
 // Marks a place whose answer is no, and hands the answer back: a walk that ends at a yes notes no other.
 pub fn note_no(marks: &mut [u8], t: TermPlace, answer: bool) -> bool
-    ensures { λ r. ⌜ Noted (now (marks .entry)) (t .0) answer (now (marks .exit)) r ⌝ }
+    ensures { λ r. ⌜ MarkNoted (now (marks .entry)) (t .0) answer (now (marks .exit)) r ⌝ }
 {
     if answer {
         return true;

@@ -5,7 +5,7 @@
 -- Assumes nothing.
 use Prim.Native.Nat.{ℕ, zero, suc, _+_, _-_, _*_, _/_, _%_, _≤_, _<_}
 use mathlib.Core.Path.{_≡_, refl, sym, ap, ap₂, _∙_}
-use mathlib.Core.Bool.{Bool, true, false}
+use mathlib.Core.Bool.{false}
 use mathlib.Core.List.{List, [], _∷_, _++_, map}
 use lib.ListN.{length, getD, length-append, length-map, List·getD-append}
 use lib.Seq.{getD-append-add}
@@ -15,9 +15,9 @@ use native.Mathlib.Numerals.{add-one}
 use native.Mathlib.Omega.{arith}
 use borrow.Author.Tests.{ltb-true, ltb-false}
 use Rattle.cells.specs.ByPlace.{by-test}
-use Rattle.formulas.specs.Normal.{Normal, Normals, lit, nmany, nall, nnil, ncons}
-use Rattle.formulas.specs.Clauses.{Clause, product, cnf, cnfAnd, cnfOr}
-use Rattle.formulas.specs.Totals.{Totals, totals, totalsOf}
+use Rattle.formulas.specs.Normal.{Normal, Normals, nmany, ncons}
+use Rattle.formulas.specs.Clauses.{product, cnf, cnfAnd, cnfOr}
+use Rattle.formulas.specs.Totals.{Totals}
 use Rattle.formulas.proofs.Totals.{totals-are}
 
 module _ {A : Type 0} where

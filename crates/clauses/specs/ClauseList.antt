@@ -86,7 +86,7 @@ pub record Adds (cs : List (List (Normal (List ℕ) ℕ))) (literals ends : List
   pub ends-are : ends′ ≡ sets ends i (clauseEnds at cs)
 
 -- arrays of k and m cells that hold the list and zeroes
-pub record Listed (cs : List (List (Normal (List ℕ) ℕ))) (k m : ℕ) (literals ends : List ℕ) : Type 0 where
+pub record ClausesHeld (cs : List (List (Normal (List ℕ) ℕ))) (k m : ℕ) (literals ends : List ℕ) : Type 0 where
   pub literals-are : literals ≡ padded (literalPlaces cs) k
   pub ends-are : ends ≡ padded (clauseEnds 0 cs) m
 
@@ -105,7 +105,7 @@ unfoldable pub held : Answer → List ℕ → ℕ → List ℕ
 held r list k = cond (eqb (r .code) 0) (padded list k) (replicate k 0)
 
 -- the answer r is the one defined, and arrays of k and m cells hold the list
-pub record Answered (defined : Answer) (cs : List (List (Normal (List ℕ) ℕ))) (k m : ℕ) (r : Answer) (literals ends : List ℕ) : Type 0 where
+pub record ListAnswered (defined : Answer) (cs : List (List (Normal (List ℕ) ℕ))) (k m : ℕ) (r : Answer) (literals ends : List ℕ) : Type 0 where
   pub answer : r ≡ defined
   pub literals-are : literals ≡ held r (literalPlaces cs) k
   pub ends-are : ends ≡ held r (clauseEnds 0 cs) m
@@ -117,7 +117,7 @@ pub record Lent (n k m : ℕ) : Type 0 where
   pub ends : clauseLimit ≤ m
 
 -- the same with zeroes in the arrays
-pub record Ready (tags literals ends : List ℕ) : Type 0 where
+pub record ListReady (tags literals ends : List ℕ) : Type 0 where
   pub lent : Lent (length tags) (length literals) (length ends)
   pub literals-zero : literals ≡ replicate (length literals) 0
   pub ends-zero : ends ≡ replicate (length ends) 0

@@ -46,7 +46,7 @@ pub record AllCounted (sizes run : List ℕ) : Type 0 where
   pub at : (i : ℕ) → i < length run → 0 < getD sizes (getD run i 0) 0
 
 -- what was counted stays so
-pub record Kept (sizes after : List ℕ) : Type 0 where
+pub record SizesKept (sizes after : List ℕ) : Type 0 where
   pub at : (u : ℕ) → 0 < getD sizes u 0 → 0 < getD after u 0
 
 -- the memo has room for the pool's places; the totals of a counted place are right, and the operands of a counted connective are counted
@@ -67,7 +67,7 @@ pub record TermCounted (tags values : List ℕ) (x : ℕ) (sizes counts′ sizes
   pub is : asTotals r ≡ cap 8193 (totals (formAt tags values x))
   pub memo : Memo tags values counts′ sizes′
   pub here : x < length tags → 0 < getD sizes′ x 0
-  pub kept : Kept sizes sizes′
+  pub kept : SizesKept sizes sizes′
 
 -- the places of a run are to be counted, which stand before a place x of the pool
 pub record AskOperands (tags values counts sizes : List ℕ) (x : ℕ) (run : List ℕ) : Type 0 where
@@ -79,4 +79,4 @@ pub record AskOperands (tags values counts sizes : List ℕ) (x : ℕ) (run : Li
 pub record OperandsCounted (tags values run sizes counts′ sizes′ : List ℕ) : Type 0 where
   pub memo : Memo tags values counts′ sizes′
   pub all : AllCounted sizes′ run
-  pub kept : Kept sizes sizes′
+  pub kept : SizesKept sizes sizes′

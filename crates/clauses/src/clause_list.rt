@@ -20,7 +20,7 @@ ghost use Prim.Native.Nat.{_≤_};
 ghost use lib.ListN.{length};
 ghost use Rattle.formulas.specs.Clauses.{cnf, cnfAnd};
 ghost use Rattle.clauses.specs.ClauseWalk.{formAt};
-ghost use Rattle.clauses.specs.ClauseList.{runOf, AskMore, AskLists, Adds, Lent, Counted, Ready, Answered, countAnswer, listAnswer};
+ghost use Rattle.clauses.specs.ClauseList.{runOf, AskMore, AskLists, Adds, Lent, Counted, countAnswer, listAnswer, ListAnswered, ListReady};
 
 // How many cells of the two arrays are filled: the clauses' ends and the literals.
 pub struct Filled(pub usize, pub usize);
@@ -124,8 +124,8 @@ fn list_counted(
     literals: &mut [u32],
     ends: &mut [u32],
 ) -> Answer
-    requires { ⌜ Ready (now tags) (now literals) (now ends) ⌝ }
-    ensures { λ r. ⌜ Answered (countAnswer (cnf (formAt (now (tags .entry)) (now (values .entry)) (x .0)))) (cnf (formAt (now (tags .entry)) (now (values .entry)) (x .0))) (length (now (literals .entry))) (length (now (ends .entry))) r (now (literals .exit)) (now (ends .exit)) ⌝ }
+    requires { ⌜ ListReady (now tags) (now literals) (now ends) ⌝ }
+    ensures { λ r. ⌜ ListAnswered (countAnswer (cnf (formAt (now (tags .entry)) (now (values .entry)) (x .0)))) (cnf (formAt (now (tags .entry)) (now (values .entry)) (x .0))) (length (now (literals .entry))) (length (now (ends .entry))) r (now (literals .exit)) (now (ends .exit)) ⌝ }
 {
     let mut counts = [0u32; CELLS];
     let t = count_clauses(tags, values, &mut counts, x);
@@ -150,7 +150,7 @@ pub fn list_clauses(
     ends: &mut [u32],
 ) -> Answer
     requires { ⌜ Lent (length (now tags)) (length (now literals)) (length (now ends)) ⌝ }
-    ensures { λ r. ⌜ Answered (listAnswer (formAt (now (tags .entry)) (now (values .entry)) (x .0))) (cnf (formAt (now (tags .entry)) (now (values .entry)) (x .0))) (length (now (literals .entry))) (length (now (ends .entry))) r (now (literals .exit)) (now (ends .exit)) ⌝ }
+    ensures { λ r. ⌜ ListAnswered (listAnswer (formAt (now (tags .entry)) (now (values .entry)) (x .0))) (cnf (formAt (now (tags .entry)) (now (values .entry)) (x .0))) (length (now (literals .entry))) (length (now (ends .entry))) r (now (literals .exit)) (now (ends .exit)) ⌝ }
 {
     cut_back(literals, ends, 0);
     if empty_or(tags, values, x) {

@@ -4,7 +4,7 @@
 --     find-kept       where a description stands below n
 --     free-kept, binding-kept     whether a variable is free there
 -- Assumes nothing.
-use Prim.Native.Nat.{ℕ, zero, suc, _+_, _-_, _≤_, _<_, _%_}
+use Prim.Native.Nat.{ℕ, zero, suc, _+_, _≤_, _<_, _%_}
 use mathlib.Core.Path.{_≡_, refl, sym, ap, fun-ext, _∙_}
 use mathlib.Core.Bool.{Bool, false, cond}
 use mathlib.Core.List.{List, [], _∷_}
@@ -17,7 +17,7 @@ use Rattle.cells.specs.ByPlace.{by-test, byPlace-is}
 use Rattle.cells.specs.declared.Found.{Found}
 use Rattle.cells.specs.declared.Found.the-variants.{At, Nothing}
 use Rattle.cells.proofs.Cells.{same-refl}
-use Rattle.cells.proofs.Walks.{first-end, first-below}
+use Rattle.cells.proofs.Walks.{first-end, first-below, found-holds}
 use Rattle.headers.specs.WellFormed.{shapeOf, countFits, kindAt, firstBad}
 use Rattle.descriptions.specs.Description.{find}
 use Rattle.headers.specs.declared.well_formed.Shape.the-variants.{Let}
@@ -27,7 +27,6 @@ use Rattle.descriptions.proofs.description.Growth.{Same, at-same, find-grown}
 use Rattle.free_variables.specs.Free.{pairIn, boundBy, letBinds, freeStep, isFree}
 use Rattle.meaning.proofs.trees.Header.{Header, header, Each, Described, term-cell}
 use Rattle.meaning.proofs.trees.Walk.{place-fits, place-described}
-use Rattle.cells.proofs.Walks.{found-holds}
 use Rattle.meaning.proofs.trees.Parts.{pair-second, from-two}
 use Rattle.meaning.proofs.trees.Terms.{even-rest}
 use Rattle.meaning.proofs.places.SameTree.{at-true}

@@ -35,7 +35,7 @@ followsIn tags values n x l r body cs = do
       (firstOf (λ a. not (has (bindingsOf (pairsOf tags values r)) a) && bindingFree tags values n body a) (leftIn tags values l x))
 
 -- the places of two quantifiers, at l and r, and of their bodies in a pool that has passed its checks
-pub record Sides (tags values : List ℕ) (n l left r right : ℕ) : Type 0 where
+pub record ForallSides (tags values : List ℕ) (n l left r right : ℕ) : Type 0 where
   pub passed : checkPool tags values builtIn n .code ≡ 0
   pub left-place : l < n
   pub left-body : left < n

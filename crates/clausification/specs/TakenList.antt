@@ -36,17 +36,17 @@ pub record Joined (cells : List ℕ) (k : ℕ) (more : List Binding) (cells′ :
   pub joins : Joins (pairsFrom cells′ j) (pairsFrom cells k) more
 
 -- a list was put before the pairs from k on, or there was no room
-abbrev pub Put : List ℕ → ℕ → List Binding → List ℕ → Collected → Type 0
-Put cells k more cells′ (From j) = Joined cells k more cells′ j
-Put cells k more cells′ Full = Unit {0}
+abbrev pub PairsPut : List ℕ → ℕ → List Binding → List ℕ → Collected → Type 0
+PairsPut cells k more cells′ (From j) = Joined cells k more cells′ j
+PairsPut cells k more cells′ Full = Unit {0}
 
 -- the memo: a list has every variable that is taken out of a term whose entry is 1; any other entry says nothing
-pub record Right (tags values seen : List ℕ) (list : List Binding) : Type 0 where
+pub record CollectedMemo (tags values seen : List ℕ) (list : List Binding) : Type 0 where
   pub at : (u : ℕ) → getD seen u 0 ≡ 1 → (a : Binding) → has (takenAt tags values u) a ≡ true → has list a ≡ true
 
 pub record Gathered (tags values cells : List ℕ) (k : ℕ) (seen′ cells′ : List ℕ) (more : List Binding) (j : ℕ) : Type 0 where
   pub joined : Joined cells k more cells′ j
-  pub right : Right tags values seen′ (pairsFrom cells′ j)
+  pub right : CollectedMemo tags values seen′ (pairsFrom cells′ j)
 
 -- these variables stand before the pairs from k on, with a right memo, or there is no room
 abbrev pub GatheredOr : List ℕ → List ℕ → List ℕ → ℕ → List ℕ → List ℕ → List Binding → Collected → Type 0
@@ -54,5 +54,5 @@ GatheredOr tags values cells k seen′ cells′ more (From j) = Gathered tags va
 GatheredOr tags values cells k seen′ cells′ more Full = Unit {0}
 
 -- a walk from these cells left a memo and cells, and answered r
-pub record Walked (tags values cells : List ℕ) (k : ℕ) (seen′ cells′ : List ℕ) (more : List Binding) (r : Collected) : Type 0 where
+pub record CollectedBy (tags values cells : List ℕ) (k : ℕ) (seen′ cells′ : List ℕ) (more : List Binding) (r : Collected) : Type 0 where
   pub leaves : GatheredOr tags values cells k seen′ cells′ more r

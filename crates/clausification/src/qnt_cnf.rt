@@ -22,8 +22,6 @@ use pool::free_lists::first_missing;
 use pool::index::INDEX;
 use pool::limits::CLAUSE_ENDS;
 use pool::limits::LITERALS;
-use pool::outcome::accept;
-use pool::outcome::refuse;
 use pool::tags::EXISTS;
 use pool::tags::FORALL;
 use pool::tags::NOT;
@@ -36,7 +34,7 @@ ghost use Rattle.answers.specs.Outcome.{answerOf};
 ghost use Rattle.formulas.specs.PatternAnswer.{twoIn};
 ghost use Rattle.clausification.specs.QntCnf.{implication, clausified, qntCnf};
 ghost use Rattle.clausification.specs.ClauseSearch.{clausesIn};
-ghost use Rattle.clausification.specs.Promises.{forallAt, followsIn, Sides, Leaves, Clausified};
+ghost use Rattle.clausification.specs.Promises.{forallAt, followsIn, Leaves, Clausified, ForallSides};
 
 // The place of a forall, and its body's.
 struct Forall {
@@ -75,19 +73,19 @@ fn clause_follows(
     let bound = bindings(tags, values, right.place);
     let body = right.body;
     if let FirstName::Name(name) = first_unbound(tags, values, x, left, bound) {
-        return refuse(8, name, 0);
+        return Answer::refused(8, name, 0);
     }
     if !any_clause(tags, values, body, literals, ends, count) {
-        return refuse(10, body.0, 0);
+        return Answer::refused(10, body.0, 0);
     }
     if let FirstName::Name(name) = first_missing(tags, values, n, body, left, bound) {
-        return refuse(9, name, 0);
+        return Answer::refused(9, name, 0);
     }
     let sought = Sought::Missing(body);
     if let FirstName::Name(name) = first_taken(tags, values, n, x, bound, sought) {
-        return refuse(9, name, 0);
+        return Answer::refused(9, name, 0);
     }
-    accept()
+    Answer::accepted(0, 0)
 }
 
 // The clauses of the left forall's body, and the right forall: 31, 13, 32, 8, 10, 9.
@@ -100,12 +98,12 @@ fn clausified(
     right: Forall,
 ) -> Answer
     requires { ⌜ Index (now tags) (now values) n (now index) ⌝ }
-    requires { ⌜ Sides (now tags) (now values) n (left .place .0) (left .body .0) (right .place .0) (right .body .0) ⌝ }
+    requires { ⌜ ForallSides (now tags) (now values) n (left .place .0) (left .body .0) (right .place .0) (right .body .0) ⌝ }
     ensures { λ a. ⌜ Leaves n (now (tags .entry)) (now (values .entry)) (clausified (now (tags .entry)) (now (values .entry)) n (forallAt (now (tags .entry)) (now (values .entry)) (left .place .0) (left .body .0)) (forallAt (now (tags .entry)) (now (values .entry)) (right .place .0) (right .body .0))) a (now (tags .exit)) (now (values .exit)) ⌝ }
     ensures { λ _. ⌜ Index (now (tags .entry)) (now (values .entry)) n (now (index .exit)) ⌝ }
 {
     let Forms::At(x, m, y, k) = build_forms(tags, values, index, n, left.body) else {
-        return refuse(31, 0, 0);
+        return Answer::refused(31, 0, 0);
     };
     let mut literals = [0u32; LITERALS];
     let mut ends = [0u32; CLAUSE_ENDS];
@@ -142,19 +140,19 @@ fn checks(
     ensures { λ _. ⌜ Index (now (tags .entry)) (now (values .entry)) n (now (index .exit)) ⌝ }
 {
     let Two::Are(l, r) = implication_at(tags, values, x) else {
-        return refuse(2, x.0, 0);
+        return Answer::refused(2, x.0, 0);
     };
     let Quantified::Is(left_kind, left_body) = quantified_at(tags, values, l) else {
-        return refuse(3, l.0, 0);
+        return Answer::refused(3, l.0, 0);
     };
     let Quantified::Is(right_kind, right_body) = quantified_at(tags, values, r) else {
-        return refuse(3, r.0, 0);
+        return Answer::refused(3, r.0, 0);
     };
     if !left_kind {
-        return refuse(4, FORALL, EXISTS);
+        return Answer::refused(4, FORALL, EXISTS);
     }
     if !right_kind {
-        return refuse(4, FORALL, EXISTS);
+        return Answer::refused(4, FORALL, EXISTS);
     }
     let left = Forall {
         place: l,

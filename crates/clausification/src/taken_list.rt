@@ -17,13 +17,13 @@ ghost use mathlib.Core.Path.{_≡_};
 ghost use mathlib.Core.Bool.{true, not};
 ghost use mathlib.Core.List.{_++_};
 ghost use Prim.Native.Nat.{_≤_};
-ghost use lib.ListN.{length, set};
+ghost use lib.ListN.{length};
 ghost use Rattle.formulas.specs.Formula.{allBefore};
 ghost use Rattle.formulas.specs.Normal.{taken};
 ghost use Rattle.clauses.specs.ClauseWalk.{formAt};
 ghost use Rattle.bindings.specs.Binding.{bindingsOf, has, firstOf};
 ghost use Rattle.bindings.specs.BindingAnswer.{pair, nameOf};
-ghost use Rattle.clausification.specs.TakenList.{pairsFrom, takenAt, takenIn, Put, Right, Walked};
+ghost use Rattle.clausification.specs.TakenList.{pairsFrom, takenAt, takenIn, PairsPut, CollectedMemo, CollectedBy};
 
 // Where the collected pairs begin in an array that is filled from its end; or that there is no room for more.
 pub enum Collected {
@@ -34,7 +34,7 @@ pub enum Collected {
 // Puts the pairs of a list before those that stand from k on.
 fn put_pairs(cells: &mut [u32], k: usize, list: &[u32]) -> Collected
     requires { ⌜ k ≤ length (now cells) ⌝ }
-    ensures { λ r. ⌜ Put (now (cells .entry)) k (bindingsOf (now (list .entry))) (now (cells .exit)) r ⌝ }
+    ensures { λ r. ⌜ PairsPut (now (cells .entry)) k (bindingsOf (now (list .entry))) (now (cells .exit)) r ⌝ }
 {
     let mut i: usize = 0;
     let mut j = k;
@@ -59,8 +59,8 @@ fn collect_term(
     k: usize,
     x: TermPlace,
 ) -> Collected
-    requires { ⌜ Right (now tags) (now values) (now seen) (pairsFrom (now cells) k) × (k ≤ length (now cells)) ⌝ }
-    ensures { λ r. ⌜ Walked (now (tags .entry)) (now (values .entry)) (now (cells .entry)) k (now (seen .exit)) (now (cells .exit)) (takenAt (now (tags .entry)) (now (values .entry)) (x .0)) r ⌝ }
+    requires { ⌜ CollectedMemo (now tags) (now values) (now seen) (pairsFrom (now cells) k) × (k ≤ length (now cells)) ⌝ }
+    ensures { λ r. ⌜ CollectedBy (now (tags .entry)) (now (values .entry)) (now (cells .entry)) k (now (seen .exit)) (now (cells .exit)) (takenAt (now (tags .entry)) (now (values .entry)) (x .0)) r ⌝ }
 {
     if mark_at(seen, x) == 1 {
         return Collected::From(k);
@@ -96,8 +96,8 @@ fn collect_run(
     x: TermPlace,
     run: &[u32],
 ) -> Collected
-    requires { ⌜ Right (now tags) (now values) (now seen) (pairsFrom (now cells) k) × (k ≤ length (now cells)) × (allBefore (x .0) (now run) ≡ true) ⌝ }
-    ensures { λ r. ⌜ Walked (now (tags .entry)) (now (values .entry)) (now (cells .entry)) k (now (seen .exit)) (now (cells .exit)) (takenIn (now (tags .entry)) (now (values .entry)) (now (run .entry))) r ⌝ }
+    requires { ⌜ CollectedMemo (now tags) (now values) (now seen) (pairsFrom (now cells) k) × (k ≤ length (now cells)) × (allBefore (x .0) (now run) ≡ true) ⌝ }
+    ensures { λ r. ⌜ CollectedBy (now (tags .entry)) (now (values .entry)) (now (cells .entry)) k (now (seen .exit)) (now (cells .exit)) (takenIn (now (tags .entry)) (now (values .entry)) (now (run .entry))) r ⌝ }
 {
     if run.len() == 0 {
         return Collected::From(k);

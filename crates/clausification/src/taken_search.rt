@@ -21,7 +21,7 @@ ghost use Rattle.formulas.specs.Normal.{taken};
 ghost use Rattle.clauses.specs.ClauseWalk.{formAt};
 ghost use Rattle.bindings.specs.Binding.{bindingsOf, has, firstOf};
 ghost use Rattle.bindings.specs.BindingAnswer.{pair, nameOf};
-ghost use Rattle.clausification.specs.TakenSearch.{isSought, Tabled, foundAt, foundIn, Means, Right, Answered, Noted};
+ghost use Rattle.clausification.specs.TakenSearch.{isSought, Tabled, foundAt, foundIn, StepMeans, SearchMemo, SearchAnswered, SearchNoted};
 
 // What is sought: a pair of name and sort; or a variable that the right list lacks and that is free in the term at this place.
 pub enum Sought {
@@ -72,8 +72,8 @@ fn look(
     seen: &[u8],
     x: TermPlace,
 ) -> Step
-    requires { ⌜ Tabled (now tags) (now values) (now names) sought × Right (now tags) (now values) (isSought (now tags) (now values) n (bindingsOf (now right)) sought) (now seen) ⌝ }
-    ensures { λ r. ⌜ Means (now (tags .entry)) (now (values .entry)) (isSought (now (tags .entry)) (now (values .entry)) n (bindingsOf (now (right .entry))) sought) (x .0) r ⌝ }
+    requires { ⌜ Tabled (now tags) (now values) (now names) sought × SearchMemo (now tags) (now values) (isSought (now tags) (now values) n (bindingsOf (now right)) sought) (now seen) ⌝ }
+    ensures { λ r. ⌜ StepMeans (now (tags .entry)) (now (values .entry)) (isSought (now (tags .entry)) (now (values .entry)) n (bindingsOf (now (right .entry))) sought) (x .0) r ⌝ }
 {
     if mark_at(seen, x) == 1 {
         return Step::Nothing;
@@ -102,7 +102,7 @@ fn look(
 
 // Notes the answer f for the term at x, and hands it back. A find ends the whole walk, so that only a `Nothing` is noted.
 fn note(seen: &mut [u8], x: TermPlace, f: FirstName) -> FirstName
-    ensures { λ r. ⌜ Noted (now (seen .entry)) (x .0) f (now (seen .exit)) r ⌝ }
+    ensures { λ r. ⌜ SearchNoted (now (seen .entry)) (x .0) f (now (seen .exit)) r ⌝ }
 {
     let at = x.0 as usize;
     match f {
@@ -128,8 +128,8 @@ fn from_term(
     seen: &mut [u8],
     x: TermPlace,
 ) -> FirstName
-    requires { ⌜ Tabled (now tags) (now values) (now names) sought × Right (now tags) (now values) (isSought (now tags) (now values) n (bindingsOf (now right)) sought) (now seen) ⌝ }
-    ensures { λ r. ⌜ Answered (now (tags .entry)) (now (values .entry)) (isSought (now (tags .entry)) (now (values .entry)) n (bindingsOf (now (right .entry))) sought) (now (seen .exit)) r (foundAt (now (tags .entry)) (now (values .entry)) (isSought (now (tags .entry)) (now (values .entry)) n (bindingsOf (now (right .entry))) sought) (x .0)) ⌝ }
+    requires { ⌜ Tabled (now tags) (now values) (now names) sought × SearchMemo (now tags) (now values) (isSought (now tags) (now values) n (bindingsOf (now right)) sought) (now seen) ⌝ }
+    ensures { λ r. ⌜ SearchAnswered (now (tags .entry)) (now (values .entry)) (isSought (now (tags .entry)) (now (values .entry)) n (bindingsOf (now (right .entry))) sought) (now (seen .exit)) r (foundAt (now (tags .entry)) (now (values .entry)) (isSought (now (tags .entry)) (now (values .entry)) n (bindingsOf (now (right .entry))) sought) (x .0)) ⌝ }
 {
     let step = look(tags, values, n, right, sought, names, seen, x);
     match step {
@@ -159,8 +159,8 @@ fn from_run(
     x: TermPlace,
     run: &[u32],
 ) -> FirstName
-    requires { ⌜ Tabled (now tags) (now values) (now names) sought × Right (now tags) (now values) (isSought (now tags) (now values) n (bindingsOf (now right)) sought) (now seen) × (allBefore (x .0) (now run) ≡ true) ⌝ }
-    ensures { λ r. ⌜ Answered (now (tags .entry)) (now (values .entry)) (isSought (now (tags .entry)) (now (values .entry)) n (bindingsOf (now (right .entry))) sought) (now (seen .exit)) r (foundIn (now (tags .entry)) (now (values .entry)) (isSought (now (tags .entry)) (now (values .entry)) n (bindingsOf (now (right .entry))) sought) (now (run .entry))) ⌝ }
+    requires { ⌜ Tabled (now tags) (now values) (now names) sought × SearchMemo (now tags) (now values) (isSought (now tags) (now values) n (bindingsOf (now right)) sought) (now seen) × (allBefore (x .0) (now run) ≡ true) ⌝ }
+    ensures { λ r. ⌜ SearchAnswered (now (tags .entry)) (now (values .entry)) (isSought (now (tags .entry)) (now (values .entry)) n (bindingsOf (now (right .entry))) sought) (now (seen .exit)) r (foundIn (now (tags .entry)) (now (values .entry)) (isSought (now (tags .entry)) (now (values .entry)) n (bindingsOf (now (right .entry))) sought) (now (run .entry))) ⌝ }
 {
     if run.len() == 0 {
         return FirstName::Nothing;

@@ -6,7 +6,7 @@
 --     combine-assoc, start-left, start-right        operands may be counted one after another, from the left
 -- Assumes nothing.
 use Prim.Native.Nat.{ℕ, zero, suc, _+_, _*_, _≤_, _<_, zero-le, min}
-use mathlib.Core.Path.{_≡_, refl, sym, ap, ap₂, _∙_}
+use mathlib.Core.Path.{_≡_, refl, sym, ap₂, _∙_}
 use mathlib.Core.Bool.{Bool, true, false, _&&_}
 use mathlib.Core.List.{List, [], _∷_, _++_, map}
 use native.Mathlib.Nat.{zero-add, add-zero, add-assoc, mul-zero, mul-suc, suc-mul, mul-one, one-mul, mul-comm, mul-right-comm, add-mul, mul-assoc, le-mul-of-pos-right, min-zero, min-eq-left, min-eq-right, le-trans, le-of-lt}
@@ -15,9 +15,9 @@ use lib.Dec.{leb}
 use lib.ListN.{length, length-append, length-map}
 use borrow.Author.Tests.{leb-true, leb-false, le-leb, lt-leb}
 use Rattle.formulas.specs.Normal.{Normal, Normals, lit, nmany, nall, nnil, ncons}
-use Rattle.formulas.specs.Clauses.{Clause, product, literalTotal, cnf, cnfAnd, cnfOr}
+use Rattle.formulas.specs.Clauses.{product, literalTotal, cnf, cnfAnd, cnfOr}
 use Rattle.cells.specs.ByPlace.{by-test}
-use Rattle.formulas.specs.Totals.{Totals, plus, times, startOf, combine, oneLiteral, cap, totals, totalsOf, cappedTotals, cappedTotalsOf}
+use Rattle.formulas.specs.Totals.{Totals, plus, times, startOf, combine, cap, totals, totalsOf, cappedTotals, cappedTotalsOf}
 
 -- ---- lists of clauses
 module _ {A : Type 0} where

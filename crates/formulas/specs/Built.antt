@@ -2,7 +2,7 @@
 -- 01, "Normal form and clauses": "New terms go after the count in the order of the finished term, operands first and left to right, each
 -- once." A pool here is its used cells alone: two lists of one length.
 -- Rests on pool's Description, and on Formula, Normal and Clauses.
-use Prim.Native.Nat.{ℕ, zero, suc, _+_}
+use Prim.Native.Nat.{ℕ}
 use mathlib.Core.Bool.{Bool, true, false, cond}
 use mathlib.Core.List.{List, [], _∷_, _++_}
 use lib.ListN.{length, getD, drop, replicate}
@@ -16,8 +16,7 @@ use Rattle.cells.specs.declared.Found.the-variants.{At, Nothing}
 use Rattle.formulas.specs.declared.view.NormalView.{NormalView}
 use Rattle.formulas.specs.declared.view.NormalView.the-variants.{Literal, Connective, Forall}
 use Rattle.formulas.specs.Formula.{connectiveTag, quantifierTag, form, allBefore}
-use Rattle.formulas.specs.Normal.{Normal, Normals, lit, nmany, nall, nnil, ncons, nnf, prenex, taken}
-use Rattle.formulas.specs.Clauses.{cnf}
+use Rattle.formulas.specs.Normal.{Normal, Normals, lit, nmany, nall, nnil, ncons, nnf, prenex}
 
 pub record Pool : Type 0 where
   pub tags : List ℕ

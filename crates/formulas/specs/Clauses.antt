@@ -3,7 +3,7 @@
 -- `and` without operands gives no clause. Clause and literal totals are those of this list."
 -- S-1: "no empty `or` and no forall is reached after the normal form".
 -- Rests on Normal.
-use Prim.Native.Nat.{ℕ, zero, suc, _+_, _*_}
+use Prim.Native.Nat.{ℕ, _+_}
 use mathlib.Core.Bool.{Bool, true, false, _||_}
 use mathlib.Core.List.{List, [], _∷_, _++_, map}
 use lib.ListN.{length}

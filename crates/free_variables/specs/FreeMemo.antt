@@ -28,20 +28,20 @@ unfoldable pub freeBelow : List ℕ → List ℕ → ℕ → ℕ → ℕ → Boo
 freeBelow tags values v t u = cond (ltb u t) (isFree tags values v u) false
 
 -- what each step at t says of the answer there
-abbrev pub Means : List ℕ → List ℕ → ℕ → ℕ → Step → Type 0
-Means tags values v t Yes = true ≡ isFree tags values v t
-Means tags values v t No = false ≡ isFree tags values v t
-Means tags values v t (Body u) = (u .0 < t) × (isFree tags values v (u .0) ≡ isFree tags values v t)
-Means tags values v t Run = anyOf (freeBelow tags values v t) (operandsOf tags values t) ≡ isFree tags values v t
-Means tags values v t Values = anyOf (freeBelow tags values v t) (letValues (operandsOf tags values t)) ≡ isFree tags values v t
-Means tags values v t (Let u) =
+abbrev pub FreeMeans : List ℕ → List ℕ → ℕ → ℕ → Step → Type 0
+FreeMeans tags values v t Yes = true ≡ isFree tags values v t
+FreeMeans tags values v t No = false ≡ isFree tags values v t
+FreeMeans tags values v t (Body u) = (u .0 < t) × (isFree tags values v (u .0) ≡ isFree tags values v t)
+FreeMeans tags values v t Run = anyOf (freeBelow tags values v t) (operandsOf tags values t) ≡ isFree tags values v t
+FreeMeans tags values v t Values = anyOf (freeBelow tags values v t) (letValues (operandsOf tags values t)) ≡ isFree tags values v t
+FreeMeans tags values v t (Let u) =
     (u .0 < t) × ((anyOf (freeBelow tags values v t) (letValues (operandsOf tags values t)) || isFree tags values v (u .0)) ≡ isFree tags values v t)
 
 -- the memo: v is not free in a term whose entry is 1; any other entry says nothing
-pub record Right (tags values : List ℕ) (v : ℕ) (memo : List ℕ) : Type 0 where
+pub record NotFreeMemo (tags values : List ℕ) (v : ℕ) (memo : List ℕ) : Type 0 where
   pub at : (u : ℕ) → getD memo u 0 ≡ 1 → false ≡ isFree tags values v u
 
 -- the answer s is the one defined, and the memo left is right
-pub record Answered (tags values : List ℕ) (v : ℕ) (memo : List ℕ) (s defined : Bool) : Type 0 where
+pub record FreeAnswered (tags values : List ℕ) (v : ℕ) (memo : List ℕ) (s defined : Bool) : Type 0 where
   pub is : s ≡ defined
-  pub right : Right tags values v memo
+  pub right : NotFreeMemo tags values v memo

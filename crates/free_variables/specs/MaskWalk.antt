@@ -20,15 +20,15 @@ unfoldable pub maskAmong : List ℕ → List ℕ → ℕ → List ℕ → ℕ �
 maskAmong tags values n list t run = maskOf (λ a. anyOf (bindingBelow tags values n a t) run) (bindingsOf list)
 
 -- the memo: an entry that is not 0 is the mask of its place, plus 1
-pub record Right (tags values : List ℕ) (n : ℕ) (list memo : List ℕ) : Type 0 where
+pub record MaskMemo (tags values : List ℕ) (n : ℕ) (list memo : List ℕ) : Type 0 where
   pub at : (u : ℕ) → (getD memo u 0 ≡ 0 → ⊥) → getD memo u 0 - 1 ≡ maskOf (bindingFree tags values n u) (bindingsOf list)
 
 -- the answer r is the one defined, and the memo left is right
-pub record Walked (tags values : List ℕ) (n : ℕ) (list memo : List ℕ) (r defined : ℕ) : Type 0 where
+pub record MaskWalked (tags values : List ℕ) (n : ℕ) (list memo : List ℕ) (r defined : ℕ) : Type 0 where
   pub is : r ≡ defined
-  pub right : Right tags values n list memo
+  pub right : MaskMemo tags values n list memo
 
 -- noting the mask of t hands it back as r; past the memo's end nothing is noted
-pub record Noted (memo : List ℕ) (t mask : ℕ) (after : List ℕ) (r : ℕ) : Type 0 where
+pub record MaskNoted (memo : List ℕ) (t mask : ℕ) (after : List ℕ) (r : ℕ) : Type 0 where
   pub same : r ≡ mask
   pub kept : after ≡ set memo t (mask + 1)

@@ -23,5 +23,5 @@ unfoldable pub freeIn : List ℕ → List ℕ → ℕ → ℕ → Bool
 freeIn tags values t v = isFree tags values v t
 
 -- every variable that passes a test may be free by the table
-pub record Listed (tags values names : List ℕ) (test : ℕ → Bool) : Type 0 where
+pub record NamesMarked (tags values names : List ℕ) (test : ℕ → Bool) : Type 0 where
   pub at : (v : ℕ) → getD tags v 0 ≡ 21 → test v ≡ true → mayBeFree names (getD values (v + 2) 0) (sortOf values v) ≡ true

@@ -12,7 +12,7 @@ use cells::limits::CELLS;
 ghost use mathlib.Core.Path.{_≡_};
 ghost use mathlib.Core.Bool.{not, _&&_};
 ghost use lib.ListN.{take};
-ghost use Rattle.free_variables.specs.Names.{mayBeFree, freeIn, Listed};
+ghost use Rattle.free_variables.specs.Names.{mayBeFree, freeIn, NamesMarked};
 ghost use Rattle.bindings.specs.Binding.{bindingsOf, has, firstOf};
 ghost use Rattle.free_variables.specs.BindingFree.{bindingFree};
 ghost use Rattle.bindings.specs.BindingAnswer.{pair, nameOf};
@@ -79,7 +79,7 @@ pub fn first_missing_by(
     list: &[u32],
     other: &[u32],
 ) -> FirstName
-    requires { ⌜ Listed (now tags) (now values) (now names) (freeIn (now tags) (now values) (t .0)) ⌝ }
+    requires { ⌜ NamesMarked (now tags) (now values) (now names) (freeIn (now tags) (now values) (t .0)) ⌝ }
     ensures { λ r. ⌜ r ≡ nameOf (firstOf (isMissing (now (tags .entry)) (now (values .entry)) n (t .0) (bindingsOf (now (other .entry)))) (bindingsOf (now (list .entry)))) ⌝ }
 {
     let mut i: usize = 0;

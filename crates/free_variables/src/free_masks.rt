@@ -2,8 +2,8 @@
 // is free. A memo keeps for each place its mask plus 1, so that each place is visited once however terms are shared. A place
 // past the memo's end is walked anew.
 use crate::free_vars::has_pair;
-use crate::term_names::Below;
-use crate::term_names::below_at;
+use crate::term_names::FreeFrom;
+use crate::term_names::free_from;
 use bindings::binding::same_pair;
 use cells::Found;
 use cells::SortPlace;
@@ -16,15 +16,14 @@ use cells::tags::LET;
 use cells::tags::VARIABLE;
 use descriptions::description::find;
 ghost use mathlib.Core.Path.{_≡_};
-ghost use mathlib.Core.Bool.{true, false};
-ghost use Prim.Native.Nat.{suc, _≤_, _<_};
-ghost use lib.ListN.{length, getD, take, drop, set};
+ghost use Prim.Native.Nat.{_≤_, _<_};
+ghost use lib.ListN.{length, getD, take};
 ghost use Rattle.bindings.specs.Binding.{bindingsOf, same};
 ghost use Rattle.free_variables.specs.BindingFree.{bindingFree};
 ghost use Rattle.bindings.specs.BindingAnswer.{pair};
 ghost use Rattle.free_variables.specs.Free.{letValues};
 ghost use Rattle.free_variables.specs.Mask.{maskOf, without, boundIn};
-ghost use Rattle.free_variables.specs.MaskWalk.{maskAmong, Right, Walked, Noted};
+ghost use Rattle.free_variables.specs.MaskWalk.{maskAmong, MaskMemo, MaskWalked, MaskNoted};
 
 // The cells of 31 pairs: a mask plus 1 fits u32.
 const GROUP: usize = 62;
@@ -87,7 +86,7 @@ fn unbound_pairs(values: &[u32], lets: bool, run: &[u32], list: &[u32], mask: u3
 // Notes the mask of the term at t, and hands it back.
 fn note_mask(memo: &mut [u32], t: TermPlace, mask: u32) -> u32
     requires { ⌜ mask < 2147483648 ⌝ }
-    ensures { λ r. ⌜ Noted (now (memo .entry)) (t .0) mask (now (memo .exit)) r ⌝ }
+    ensures { λ r. ⌜ MaskNoted (now (memo .entry)) (t .0) mask (now (memo .exit)) r ⌝ }
 {
     let at = t.0 as usize;
     if at < memo.len() {
@@ -107,35 +106,35 @@ fn mask_of_term(
     t: TermPlace,
 ) -> u32
     requires { ⌜ length (now list) ≤ 62 ⌝ }
-    requires { ⌜ Right (now tags) (now values) n (now list) (now memo) ⌝ }
-    ensures { λ r. ⌜ Walked (now (tags .entry)) (now (values .entry)) n (now (list .entry)) (now (memo .exit)) r (maskOf (bindingFree (now (tags .entry)) (now (values .entry)) n (t .0)) (bindingsOf (now (list .entry)))) ⌝ }
+    requires { ⌜ MaskMemo (now tags) (now values) n (now list) (now memo) ⌝ }
+    ensures { λ r. ⌜ MaskWalked (now (tags .entry)) (now (values .entry)) n (now (list .entry)) (now (memo .exit)) r (maskOf (bindingFree (now (tags .entry)) (now (values .entry)) n (t .0)) (bindingsOf (now (list .entry)))) ⌝ }
 {
     let at = t.0 as usize;
     let known = cell(memo, at);
     if known != 0 {
         return known - 1;
     }
-    let place = below_at(tags, values, t);
+    let place = free_from(tags, values, t);
     match place {
-        Below::Nothing => note_mask(memo, t, 0),
-        Below::Variable => note_mask(memo, t, variable_mask(tags, values, n, list, t)),
-        Below::Body(u) => {
+        FreeFrom::Nothing => note_mask(memo, t, 0),
+        FreeFrom::Variable => note_mask(memo, t, variable_mask(tags, values, n, list, t)),
+        FreeFrom::Body(u) => {
             let inside = mask_of_term(tags, values, n, list, memo, u);
             let run = operands(tags, values, t);
             let lets = cell(tags, at) == LET;
             note_mask(memo, t, unbound_pairs(values, lets, run, list, inside))
         }
-        Below::Run => {
+        FreeFrom::Run => {
             let run = operands(tags, values, t);
             let among = mask_of_run(tags, values, n, list, memo, t, run);
             note_mask(memo, t, among)
         }
-        Below::Values => {
+        FreeFrom::Values => {
             let run = operands(tags, values, t);
             let among = mask_of_values(tags, values, n, list, memo, t, run);
             note_mask(memo, t, among)
         }
-        Below::Let(u) => {
+        FreeFrom::Let(u) => {
             let run = operands(tags, values, t);
             let among = mask_of_values(tags, values, n, list, memo, t, run);
             let inside = mask_of_term(tags, values, n, list, memo, u);
@@ -157,8 +156,8 @@ fn mask_of_run(
     run: &[u32],
 ) -> u32
     requires { ⌜ length (now list) ≤ 62 ⌝ }
-    requires { ⌜ Right (now tags) (now values) n (now list) (now memo) ⌝ }
-    ensures { λ r. ⌜ Walked (now (tags .entry)) (now (values .entry)) n (now (list .entry)) (now (memo .exit)) r (maskAmong (now (tags .entry)) (now (values .entry)) n (now (list .entry)) (t .0) (now (run .entry))) ⌝ }
+    requires { ⌜ MaskMemo (now tags) (now values) n (now list) (now memo) ⌝ }
+    ensures { λ r. ⌜ MaskWalked (now (tags .entry)) (now (values .entry)) n (now (list .entry)) (now (memo .exit)) r (maskAmong (now (tags .entry)) (now (values .entry)) n (now (list .entry)) (t .0) (now (run .entry))) ⌝ }
 {
     if run.len() == 0 {
         return 0;
@@ -184,8 +183,8 @@ fn mask_of_values(
     run: &[u32],
 ) -> u32
     requires { ⌜ length (now list) ≤ 62 ⌝ }
-    requires { ⌜ Right (now tags) (now values) n (now list) (now memo) ⌝ }
-    ensures { λ r. ⌜ Walked (now (tags .entry)) (now (values .entry)) n (now (list .entry)) (now (memo .exit)) r (maskAmong (now (tags .entry)) (now (values .entry)) n (now (list .entry)) (t .0) (letValues (now (run .entry)))) ⌝ }
+    requires { ⌜ MaskMemo (now tags) (now values) n (now list) (now memo) ⌝ }
+    ensures { λ r. ⌜ MaskWalked (now (tags .entry)) (now (values .entry)) n (now (list .entry)) (now (memo .exit)) r (maskAmong (now (tags .entry)) (now (values .entry)) n (now (list .entry)) (t .0) (letValues (now (run .entry)))) ⌝ }
 {
     if run.len() < 3 {
         return 0;

@@ -16,7 +16,7 @@ use cells::tags::VARIABLE;
 ghost use mathlib.Core.Path.{_≡_};
 ghost use lib.ListN.{length, drop};
 ghost use Rattle.free_variables.specs.Free.{pairIn, anyOf, letValues, isFree, markOf, Marked};
-ghost use Rattle.free_variables.specs.FreeMemo.{pairSort, isPair, pairsBind, freeBelow, Means, Right, Answered};
+ghost use Rattle.free_variables.specs.FreeMemo.{pairSort, isPair, pairsBind, freeBelow, FreeMeans, NotFreeMemo, FreeAnswered};
 
 // Whether the pair a, b is this name with this sort. A let's pair (`lets`) holds a value of that sort, a binder's the sort.
 fn is_pair(values: &[u32], lets: bool, name: u32, sort: SortPlace, a: u32, b: u32) -> bool
@@ -69,8 +69,8 @@ pub enum Step {
 
 // What the walk finds at the term at t. The tests are those of the definition, in its order, after the memo.
 fn look(tags: &[u32], values: &[u32], memo: &[u8], v: TermPlace, t: TermPlace) -> Step
-    requires { ⌜ Right (now tags) (now values) (v .0) (now memo) ⌝ }
-    ensures { λ r. ⌜ Means (now (tags .entry)) (now (values .entry)) (v .0) (t .0) r ⌝ }
+    requires { ⌜ NotFreeMemo (now tags) (now values) (v .0) (now memo) ⌝ }
+    ensures { λ r. ⌜ FreeMeans (now (tags .entry)) (now (values .entry)) (v .0) (t .0) r ⌝ }
 {
     let at = t.0 as usize;
     if mark_at(memo, t) == 1 {
@@ -119,8 +119,8 @@ fn compute_free_vars(
     v: TermPlace,
     t: TermPlace,
 ) -> bool
-    requires { ⌜ Right (now tags) (now values) (v .0) (now memo) ⌝ }
-    ensures { λ s. ⌜ Answered (now (tags .entry)) (now (values .entry)) (v .0) (now (memo .exit)) s (isFree (now (tags .entry)) (now (values .entry)) (v .0) (t .0)) ⌝ }
+    requires { ⌜ NotFreeMemo (now tags) (now values) (v .0) (now memo) ⌝ }
+    ensures { λ s. ⌜ FreeAnswered (now (tags .entry)) (now (values .entry)) (v .0) (now (memo .exit)) s (isFree (now (tags .entry)) (now (values .entry)) (v .0) (t .0)) ⌝ }
 {
     let step = look(tags, values, memo, v, t);
     match step {
@@ -157,8 +157,8 @@ fn run_free_vars(
     t: TermPlace,
     run: &[u32],
 ) -> bool
-    requires { ⌜ Right (now tags) (now values) (v .0) (now memo) ⌝ }
-    ensures { λ s. ⌜ Answered (now (tags .entry)) (now (values .entry)) (v .0) (now (memo .exit)) s (anyOf (freeBelow (now (tags .entry)) (now (values .entry)) (v .0) (t .0)) (now (run .entry))) ⌝ }
+    requires { ⌜ NotFreeMemo (now tags) (now values) (v .0) (now memo) ⌝ }
+    ensures { λ s. ⌜ FreeAnswered (now (tags .entry)) (now (values .entry)) (v .0) (now (memo .exit)) s (anyOf (freeBelow (now (tags .entry)) (now (values .entry)) (v .0) (t .0)) (now (run .entry))) ⌝ }
 {
     if run.len() == 0 {
         return false;
@@ -183,8 +183,8 @@ fn values_free_vars(
     t: TermPlace,
     run: &[u32],
 ) -> bool
-    requires { ⌜ Right (now tags) (now values) (v .0) (now memo) ⌝ }
-    ensures { λ s. ⌜ Answered (now (tags .entry)) (now (values .entry)) (v .0) (now (memo .exit)) s (anyOf (freeBelow (now (tags .entry)) (now (values .entry)) (v .0) (t .0)) (letValues (now (run .entry)))) ⌝ }
+    requires { ⌜ NotFreeMemo (now tags) (now values) (v .0) (now memo) ⌝ }
+    ensures { λ s. ⌜ FreeAnswered (now (tags .entry)) (now (values .entry)) (v .0) (now (memo .exit)) s (anyOf (freeBelow (now (tags .entry)) (now (values .entry)) (v .0) (t .0)) (letValues (now (run .entry)))) ⌝ }
 {
     if run.len() < 3 {
         return false;

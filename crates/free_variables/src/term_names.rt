@@ -20,8 +20,8 @@ ghost use Prim.Native.Nat.{_+_};
 ghost use lib.ListN.{getD, set};
 ghost use Rattle.cells.specs.Cell.{sortOf};
 ghost use Rattle.free_variables.specs.Free.{letValues};
-ghost use Rattle.free_variables.specs.Names.{bucketOf, mayBeFree, freeIn, Listed};
-ghost use Rattle.free_variables.specs.NamesWalk.{freeAmong, Means, Right, Walked};
+ghost use Rattle.free_variables.specs.Names.{bucketOf, mayBeFree, freeIn, NamesMarked};
+ghost use Rattle.free_variables.specs.NamesWalk.{freeAmong, FreeFromMeans, NamesMemo, NamesWalked};
 
 // The buckets of a table of names, a prime below 8,192.
 const BUCKETS: usize = 8191;
@@ -57,7 +57,7 @@ fn mark_name(values: &[u32], names: &mut [u8], v: TermPlace)
 
 // Where a term's free variables are: nowhere, at the term itself, in the body under its pairs, in the operand run, in a let's
 // values, or in its values and in its body under its pairs.
-pub enum Below {
+pub enum FreeFrom {
     Nothing,
     Variable,
     Body(TermPlace),
@@ -67,64 +67,64 @@ pub enum Below {
 }
 
 // Where the free variables of the term at t are.
-pub fn below_at(tags: &[u32], values: &[u32], t: TermPlace) -> Below
-    ensures { λ r. ⌜ Means (now (tags .entry)) (now (values .entry)) (t .0) r ⌝ }
+pub fn free_from(tags: &[u32], values: &[u32], t: TermPlace) -> FreeFrom
+    ensures { λ r. ⌜ FreeFromMeans (now (tags .entry)) (now (values .entry)) (t .0) r ⌝ }
 {
     let at = t.0 as usize;
     let tag = cell(tags, at);
     if tag < VARIABLE {
-        return Below::Nothing;
+        return FreeFrom::Nothing;
     }
     if tag < APPLICATION {
-        return Below::Variable;
+        return FreeFrom::Variable;
     }
     if tag < FORALL {
-        return Below::Run;
+        return FreeFrom::Run;
     }
     if BINDERS_END <= tag {
-        return Below::Run;
+        return FreeFrom::Run;
     }
     let body = cell(operands(tags, values, t), 0);
     if tag == LET {
         if t.0 <= body {
-            return Below::Values;
+            return FreeFrom::Values;
         }
-        return Below::Let(TermPlace(body));
+        return FreeFrom::Let(TermPlace(body));
     }
     if t.0 <= body {
-        return Below::Nothing;
+        return FreeFrom::Nothing;
     }
-    Below::Body(TermPlace(body))
+    FreeFrom::Body(TermPlace(body))
 }
 
 // Marks the names of the term at t: the term walker.
 fn names_of_term(tags: &[u32], values: &[u32], seen: &mut [u8], names: &mut [u8], t: TermPlace)
-    requires { ⌜ Right (now tags) (now values) (now seen) (now names) ⌝ }
-    ensures { λ _. ⌜ Walked (now (tags .entry)) (now (values .entry)) (now (names .entry)) (now (seen .exit)) (now (names .exit)) (freeIn (now (tags .entry)) (now (values .entry)) (t .0)) ⌝ }
+    requires { ⌜ NamesMemo (now tags) (now values) (now seen) (now names) ⌝ }
+    ensures { λ _. ⌜ NamesWalked (now (tags .entry)) (now (values .entry)) (now (names .entry)) (now (seen .exit)) (now (names .exit)) (freeIn (now (tags .entry)) (now (values .entry)) (t .0)) ⌝ }
 {
     if mark_at(seen, t) == 1 {
         return;
     }
-    let place = below_at(tags, values, t);
+    let place = free_from(tags, values, t);
     match place {
-        Below::Nothing => set_mark(seen, t),
-        Below::Variable => {
+        FreeFrom::Nothing => set_mark(seen, t),
+        FreeFrom::Variable => {
             mark_name(values, names, t);
             set_mark(seen, t)
         }
-        Below::Body(u) => {
+        FreeFrom::Body(u) => {
             names_of_term(tags, values, seen, names, u);
             set_mark(seen, t)
         }
-        Below::Run => {
+        FreeFrom::Run => {
             names_of_run(tags, values, seen, names, t, operands(tags, values, t));
             set_mark(seen, t)
         }
-        Below::Values => {
+        FreeFrom::Values => {
             names_of_values(tags, values, seen, names, t, operands(tags, values, t));
             set_mark(seen, t)
         }
-        Below::Let(u) => {
+        FreeFrom::Let(u) => {
             names_of_values(tags, values, seen, names, t, operands(tags, values, t));
             names_of_term(tags, values, seen, names, u);
             set_mark(seen, t)
@@ -141,8 +141,8 @@ fn names_of_run(
     t: TermPlace,
     run: &[u32],
 )
-    requires { ⌜ Right (now tags) (now values) (now seen) (now names) ⌝ }
-    ensures { λ _. ⌜ Walked (now (tags .entry)) (now (values .entry)) (now (names .entry)) (now (seen .exit)) (now (names .exit)) (freeAmong (now (tags .entry)) (now (values .entry)) (t .0) (now (run .entry))) ⌝ }
+    requires { ⌜ NamesMemo (now tags) (now values) (now seen) (now names) ⌝ }
+    ensures { λ _. ⌜ NamesWalked (now (tags .entry)) (now (values .entry)) (now (names .entry)) (now (seen .exit)) (now (names .exit)) (freeAmong (now (tags .entry)) (now (values .entry)) (t .0) (now (run .entry))) ⌝ }
 {
     if run.len() == 0 {
         return;
@@ -165,8 +165,8 @@ fn names_of_values(
     t: TermPlace,
     run: &[u32],
 )
-    requires { ⌜ Right (now tags) (now values) (now seen) (now names) ⌝ }
-    ensures { λ _. ⌜ Walked (now (tags .entry)) (now (values .entry)) (now (names .entry)) (now (seen .exit)) (now (names .exit)) (freeAmong (now (tags .entry)) (now (values .entry)) (t .0) (letValues (now (run .entry)))) ⌝ }
+    requires { ⌜ NamesMemo (now tags) (now values) (now seen) (now names) ⌝ }
+    ensures { λ _. ⌜ NamesWalked (now (tags .entry)) (now (values .entry)) (now (names .entry)) (now (seen .exit)) (now (names .exit)) (freeAmong (now (tags .entry)) (now (values .entry)) (t .0) (letValues (now (run .entry)))) ⌝ }
 {
     if run.len() < 3 {
         return;
@@ -181,7 +181,7 @@ fn names_of_values(
 
 // Sets the bucket of every variable that is free in the term at t.
 pub fn mark_names(tags: &[u32], values: &[u32], t: TermPlace, names: &mut [u8])
-    ensures { λ _. ⌜ Listed (now (tags .entry)) (now (values .entry)) (now (names .exit)) (freeIn (now (tags .entry)) (now (values .entry)) (t .0)) ⌝ }
+    ensures { λ _. ⌜ NamesMarked (now (tags .entry)) (now (values .entry)) (now (names .exit)) (freeIn (now (tags .entry)) (now (values .entry)) (t .0)) ⌝ }
 {
     let mut seen = [0u8; CELLS];
     names_of_term(tags, values, &mut seen, names, t)

@@ -15,8 +15,8 @@ use Rattle.headers.specs.declared.well_formed.Shape.{Shape}
 use Rattle.headers.specs.declared.well_formed.Shape.the-variants.{Binder, Operator}
 use Rattle.headers.specs.declared.well_formed.CellKind.the-variants.{OfSort, OfTerm}
 use Rattle.meaning.specs.Sort.{Sort, bool}
-use Rattle.meaning.specs.Term.{Vars, Term, Terms, quant, op, tnil, tcons}
-use Rattle.meaning.specs.Tree.{sortTree, varsOf, termsOf, termFrom, tree}
+use Rattle.meaning.specs.Term.{Vars, Term, Terms, quant, op, tcons}
+use Rattle.meaning.specs.Tree.{sortTree, termsOf, termFrom, tree}
 use Rattle.meaning.proofs.trees.Header.{Each}
 use Rattle.meaning.proofs.trees.Tags.{shape-op}
 use Rattle.meaning.proofs.trees.Parts.{not-first}
@@ -24,15 +24,15 @@ use Rattle.meaning.proofs.trees.Terms.{term-op}
 use Rattle.formulas.specs.Formula.{form, connectiveTag, quantifierTag}
 use Rattle.formulas.specs.Normal.{Normal, Normals, lit, nmany, nall, nnil, ncons, nnf}
 use Rattle.formulas.specs.Built.{Pool, Placed, PlacedAll, count, put, intern, interns, normalForm}
-use Rattle.formulas.specs.Mapped.{mapF, mapN, mapNs}
+use Rattle.formulas.specs.Mapped.{mapN, mapNs}
 use Rattle.meaning.specs.Skeleton.{skeleton, build, builds}
 use Rattle.meaning.proofs.places.Mapped.{nnf-map}
 use Rattle.meaning.proofs.places.Operands.{IsTerm, AllTerms}
-use Rattle.meaning.proofs.places.FormTree.{varsAt, onTrees, first-bool, bool-tree, form-tree}
+use Rattle.meaning.proofs.places.FormTree.{varsAt, first-bool, bool-tree, form-tree}
 use Rattle.meaning.proofs.places.FormFits.{Pairs, FitsN, FitsNs, each-more, nnf-fits, form-fits}
 use Rattle.meaning.proofs.places.SameTree.{vars-same, value-kept}
 use Rattle.building.proofs.Interning.{Good, Grows, grows-refl, grows-trans}
-use Rattle.normal_form.proofs.TreeGrows.{Sound, Fit, PutTerm, cells-same, sort-grows, tree-grows, put-term}
+use Rattle.normal_form.proofs.TreeGrows.{Sound, cells-same, sort-grows, tree-grows, put-term}
 
 -- the term at a place, and a form over places as one over trees
 abbrev pub termIn : Pool → ℕ → Term

@@ -2,23 +2,22 @@
 -- at false polarity, whatever the number of new cells.
 -- 01, demand 3, of `negation_normal_form`.
 -- Assumes nothing.
-use Prim.Native.Nat.{ℕ, _≤_, _<_}
+use Prim.Native.Nat.{ℕ, _<_}
 use mathlib.Core.Path.{_≡_, refl, sym, ap, _∙_}
 use mathlib.Core.Bool.{Bool, true, not}
 use mathlib.Core.List.{List}
-use lib.ListN.{length, getD, take}
+use lib.ListN.{getD, take}
 use lib.Seq.{getD-take, length-take-le}
 use native.Mathlib.Omega.{arith}
-use Rattle.cells.specs.declared.Found.the-variants.{Nothing}
 use Rattle.cells.proofs.Walks.{first-end}
-use Rattle.headers.specs.WellFormed.{isTermTag, headerFits, firstBad}
+use Rattle.headers.specs.WellFormed.{isTermTag, headerFits}
 use Rattle.descriptions.proofs.description.Fills.{well-formed-fills}
 use Rattle.descriptions.proofs.description.Growth.{Same}
 use Rattle.meaning.specs.Term.{Term}
 use Rattle.meaning.specs.Tree.{tree}
 use Rattle.meaning.proofs.trees.Passed.{Passed}
 use Rattle.formulas.specs.Normal.{nnf}
-use Rattle.formulas.specs.Built.{count, normalForm}
+use Rattle.formulas.specs.Built.{count}
 use Rattle.meaning.specs.Skeleton.{skeleton, build}
 use Rattle.meaning.specs.Truth.{Reading, True, HasValue}
 use Rattle.meaning.proofs.places.FormTree.{one-bool}

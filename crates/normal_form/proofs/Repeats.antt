@@ -15,11 +15,10 @@ use Rattle.cells.specs.ByPlace.{by-test}
 use Rattle.cells.specs.Cell.{cellsOf, isAt}
 use Rattle.cells.specs.Headers.{firstFrom, firstHeader}
 use Rattle.cells.specs.declared.Found.the-variants.{At, Nothing}
-use Rattle.cells.proofs.Walks.{first-end, first-here, first-next}
+use Rattle.cells.proofs.Walks.{first-end, first-here, first-next, found-holds}
 use Rattle.descriptions.specs.Description.{find, isFound, repeats, firstRepeat}
 use Rattle.descriptions.proofs.description.Fills.{Fills, filled, more, orElse, or-nothing, header-grown}
 use Rattle.descriptions.proofs.description.Growth.{Same, cells-same, at-same}
-use Rattle.cells.proofs.Walks.{found-holds}
 use Rattle.formulas.specs.Built.{Pool, count, extend}
 use Rattle.meaning.proofs.places.SameTree.{at-true}
 use Rattle.building.proofs.Interning.{Good, Grows, extend-count}

@@ -14,7 +14,7 @@ use Rattle.cells.specs.Bounded.{everyIn, every}
 use Rattle.cells.specs.Cell.{cellsOf, isAt}
 use Rattle.cells.specs.declared.Found.{Found}
 use Rattle.cells.specs.declared.Found.the-variants.{At, Nothing}
-use Rattle.cells.proofs.Walks.{first-end, first-next}
+use Rattle.cells.proofs.Walks.{first-end, first-next, found-holds}
 use Rattle.descriptions.specs.Description.{find}
 use Rattle.headers.specs.WellFormed.{shapeOf, countFits, kindAt, isSortTag, isTermTag, valueFits, cellFits, boolFirst, headerFits, firstBad}
 use Rattle.headers.specs.declared.well_formed.Shape.{Shape}
@@ -22,7 +22,6 @@ use Rattle.descriptions.proofs.description.Growth.{Same}
 use Rattle.meaning.specs.Tree.{sortTree, termFrom, tree}
 use Rattle.meaning.proofs.trees.Header.{Each}
 use Rattle.meaning.proofs.trees.Terms.{term-is}
-use Rattle.cells.proofs.Walks.{found-holds}
 use Rattle.formulas.specs.Built.{Pool, Placed, count, extend, placeAt, put}
 use Rattle.meaning.proofs.places.Operands.{IsTerm}
 use Rattle.meaning.proofs.places.SameTree.{at-true, made-same, value-kept, formed-kept, sort-kept, tree-kept}

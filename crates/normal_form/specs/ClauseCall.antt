@@ -38,6 +38,6 @@ abbrev pub unlisted : Answer → Listed
 unlisted a = record { answer = a; count = 0 }
 
 -- arrays with m cells in use, cut back to n unless the list is accepted
-pub record Kept (n m : ℕ) (a : Answer) (tags values : List ℕ) (r : Listed) (tags′ values′ : List ℕ) : Type 0 where
+pub record ListKept (n m : ℕ) (a : Answer) (tags values : List ℕ) (r : Listed) (tags′ values′ : List ℕ) : Type 0 where
   pub listed : r ≡ record { answer = a; count = cond (eqb (a .code) 0) m 0 }
   pub cut : Cut (cond (eqb (a .code) 0) m n) tags values tags′ values′

@@ -7,10 +7,9 @@
 --
 -- x is a variable of sort Bool at 1, in a pool of 4 cells.
 -- Rests on sort_rules' Table and on Calls.
-use Prim.Native.Nat.{ℕ}
 use mathlib.Core.Path.{_≡_, refl}
 use mathlib.Core.Bool.{true, false}
-use mathlib.Core.List.{List, [], _∷_}
+use mathlib.Core.List.{[], _∷_}
 use Rattle.cells.specs.Bounded.{everyIn, every}
 use Rattle.cells.specs.ByPlace.{downTo, byPlace}
 use Rattle.cells.specs.Cell.{cellsOf, sortOf, operandsOf, sameCells, isAt}

@@ -18,7 +18,7 @@ ghost use Rattle.normal_form.specs.Calls.{clausal};
 ghost use Rattle.normal_form.specs.Promise.{NormalFormPromise, ClauseListPromise};
 ghost use Rattle.descriptions.specs.Index.{Index};
 ghost use Rattle.building.specs.Walk.{State, NormalBuilt};
-ghost use Rattle.normal_form.specs.ClauseCall.{ClausalBuilt, Kept, unlisted};
+ghost use Rattle.normal_form.specs.ClauseCall.{ClausalBuilt, unlisted, ListKept};
 
 // The normal form of the term at t at a polarity: accepted, its place and the new count. What stands there has the term's value at true
 // polarity, and the negated value at false.
@@ -106,7 +106,7 @@ fn refused(answer: Answer) -> Listed
 // The new terms are kept if the list is accepted, and cut back if not.
 fn keep_listed(tags: &mut [u32], values: &mut [u32], n: usize, m: usize, answer: Answer) -> Listed
     requires { ⌜ m ≤ cellLimit ⌝ }
-    ensures { λ r. ⌜ Kept n m answer (now (tags .entry)) (now (values .entry)) r (now (tags .exit)) (now (values .exit)) ⌝ }
+    ensures { λ r. ⌜ ListKept n m answer (now (tags .entry)) (now (values .entry)) r (now (tags .exit)) (now (values .exit)) ⌝ }
 {
     if answer.code != 0 {
         cut_back(tags, values, n);

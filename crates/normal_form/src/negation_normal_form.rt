@@ -24,7 +24,7 @@ ghost use Rattle.formulas.specs.Normal.{pair};
 ghost use Rattle.formulas.specs.Built.{normalForm};
 ghost use Rattle.building.specs.Arrays.{poolOf};
 ghost use Rattle.descriptions.specs.Index.{Index};
-ghost use Rattle.building.specs.Walk.{State, Indexed, normal, normalOf, Ready, Formed, Known, OperandsKnown, Before, AllBelow, twoPairs, NormalBuilt};
+ghost use Rattle.building.specs.Walk.{State, Indexed, normal, normalOf, Formed, Known, OperandsKnown, Before, AllBelow, twoPairs, NormalBuilt, WalkReady};
 
 // A form for each cell and polarity.
 const FORMS: usize = 16384;
@@ -44,7 +44,7 @@ fn negation_normal_form(
     t: TermPlace,
     polarity: bool,
 ) -> Built
-    requires { ⌜ Ready normal source n (now tags) (now values) (now memo) ⌝ }
+    requires { ⌜ WalkReady normal source n (now tags) (now values) (now memo) ⌝ }
     requires { ⌜ cellLimit ≤ length (now scratch) ⌝ }
     requires { ⌜ t .0 < source ⌝ }
     requires { ⌜ Index (now tags) (now values) n (now index) ⌝ }
@@ -75,7 +75,7 @@ fn expand(
     t: TermPlace,
     polarity: bool,
 ) -> Built
-    requires { ⌜ Ready normal source n (now tags) (now values) (now memo) ⌝ }
+    requires { ⌜ WalkReady normal source n (now tags) (now values) (now memo) ⌝ }
     requires { ⌜ cellLimit ≤ length (now scratch) ⌝ }
     requires { ⌜ t .0 < source ⌝ }
     requires { ⌜ Index (now tags) (now values) n (now index) ⌝ }
@@ -188,7 +188,7 @@ fn connective_form(
     polarity: bool,
     b: bool,
 ) -> Built
-    requires { ⌜ Ready normal source n (now tags) (now values) (now memo) ⌝ }
+    requires { ⌜ WalkReady normal source n (now tags) (now values) (now memo) ⌝ }
     requires { ⌜ cellLimit ≤ length (now scratch) ⌝ }
     requires { ⌜ t .0 < source ⌝ }
     requires { ⌜ viewOf (take source (now tags)) (take source (now values)) (t .0) ≡ AndOr b ⌝ }
@@ -238,7 +238,7 @@ fn quantifier_form(
     b: bool,
     body: TermPlace,
 ) -> Built
-    requires { ⌜ Ready normal source n (now tags) (now values) (now memo) ⌝ }
+    requires { ⌜ WalkReady normal source n (now tags) (now values) (now memo) ⌝ }
     requires { ⌜ cellLimit ≤ length (now scratch) ⌝ }
     requires { ⌜ t .0 < source ⌝ }
     requires { ⌜ viewOf (take source (now tags)) (take source (now values)) (t .0) ≡ Quantifier b body ⌝ }
@@ -276,7 +276,7 @@ fn operand_forms(
     i: usize,
     polarity: bool,
 ) -> Built
-    requires { ⌜ Ready normal source n (now tags) (now values) (now memo) ⌝ }
+    requires { ⌜ WalkReady normal source n (now tags) (now values) (now memo) ⌝ }
     requires { ⌜ cellLimit ≤ length (now scratch) ⌝ }
     requires { ⌜ t .0 < source ⌝ }
     requires { ⌜ Before source (now tags) (now values) (t .0) ⌝ }
@@ -329,7 +329,7 @@ fn pair_of(
     a: Signed,
     b: TermPlace,
 ) -> Built
-    requires { ⌜ Ready normal source n (now tags) (now values) (now memo) ⌝ }
+    requires { ⌜ WalkReady normal source n (now tags) (now values) (now memo) ⌝ }
     requires { ⌜ cellLimit ≤ length (now scratch) ⌝ }
     requires { ⌜ a .0 .0 < source ⌝ }
     requires { ⌜ b .0 < source ⌝ }
@@ -382,7 +382,7 @@ fn two_pairs(
     c: Signed,
     d: TermPlace,
 ) -> Built
-    requires { ⌜ Ready normal source n (now tags) (now values) (now memo) ⌝ }
+    requires { ⌜ WalkReady normal source n (now tags) (now values) (now memo) ⌝ }
     requires { ⌜ cellLimit ≤ length (now scratch) ⌝ }
     requires { ⌜ AllBelow source (a .0) (b .0) (c .0 .0) (d .0) ⌝ }
     requires { ⌜ Index (now tags) (now values) n (now index) ⌝ }

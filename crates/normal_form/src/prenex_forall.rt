@@ -16,7 +16,7 @@ ghost use lib.ListN.{length};
 ghost use Rattle.formulas.specs.Built.{takenOut};
 ghost use Rattle.building.specs.Arrays.{poolOf};
 ghost use Rattle.descriptions.specs.Index.{Index};
-ghost use Rattle.building.specs.Walk.{State, Indexed, taken-out, formOf, Ready, Formed, Known, OperandsKnown, Before, NormalBuilt};
+ghost use Rattle.building.specs.Walk.{State, Indexed, taken-out, formOf, Formed, Known, OperandsKnown, Before, NormalBuilt, WalkReady};
 
 // The taken-out form of the term at x, put into the pool of n cells.
 fn prenex_forall(
@@ -29,7 +29,7 @@ fn prenex_forall(
     n: usize,
     x: TermPlace,
 ) -> Built
-    requires { ⌜ Ready taken-out source n (now tags) (now values) (now memo) ⌝ }
+    requires { ⌜ WalkReady taken-out source n (now tags) (now values) (now memo) ⌝ }
     requires { ⌜ cellLimit ≤ length (now scratch) ⌝ }
     requires { ⌜ x .0 < source ⌝ }
     requires { ⌜ Index (now tags) (now values) n (now index) ⌝ }
@@ -59,7 +59,7 @@ fn take_out(
     n: usize,
     x: TermPlace,
 ) -> Built
-    requires { ⌜ Ready taken-out source n (now tags) (now values) (now memo) ⌝ }
+    requires { ⌜ WalkReady taken-out source n (now tags) (now values) (now memo) ⌝ }
     requires { ⌜ cellLimit ≤ length (now scratch) ⌝ }
     requires { ⌜ x .0 < source ⌝ }
     requires { ⌜ Index (now tags) (now values) n (now index) ⌝ }
@@ -101,7 +101,7 @@ fn operand_forms(
     x: TermPlace,
     i: usize,
 ) -> Built
-    requires { ⌜ Ready taken-out source n (now tags) (now values) (now memo) ⌝ }
+    requires { ⌜ WalkReady taken-out source n (now tags) (now values) (now memo) ⌝ }
     requires { ⌜ cellLimit ≤ length (now scratch) ⌝ }
     requires { ⌜ x .0 < source ⌝ }
     requires { ⌜ Before source (now tags) (now values) (x .0) ⌝ }

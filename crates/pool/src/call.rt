@@ -2,13 +2,13 @@
 pub use crate::checks::check_pool_by;
 pub use crate::checks::check_term_by;
 use crate::checks::index_pool_by;
+use crate::checks::index_term_by;
 use answers::Answer;
 use cells::TermPlace;
 use cells::marks::clear_marks;
 use cells::run::sort_of;
 use descriptions::index::INDEX;
 use free_variables::free_vars::mark_free_vars;
-use headers::well_formed::is_term;
 use sorts::table::built_in;
 ghost use mathlib.Core.Path.{_≡_};
 ghost use Rattle.sorts.specs.Table.{builtIn};
@@ -51,14 +51,8 @@ pub fn index_term(
     ensures { λ r. ⌜ r ≡ checkTerm (now (tags .entry)) (now (values .entry)) builtIn n (t .0) ⌝ }
     ensures { λ r. ⌜ Indexed (now (tags .entry)) (now (values .entry)) n r (now (index .exit)) ⌝ }
 {
-    let checked = index_pool(tags, values, n, index);
-    if checked.code != 0 {
-        return checked;
-    }
-    if !is_term(tags, n, t) {
-        return Answer::refused(17, t.0, 0);
-    }
-    Answer::accepted(0, 0)
+    let rules = built_in();
+    index_term_by(tags, values, &rules, n, t, index)
 }
 
 // The sort of the term at t: accepted, the sort's place.

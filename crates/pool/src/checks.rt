@@ -78,11 +78,19 @@ pub fn check_pool_by(tags: &[u32], values: &[u32], rules: &[u32], n: usize) -> A
     index_pool_by(tags, values, rules, n, &mut index)
 }
 
-// The pool check and then 17, under a lent table.
-pub fn check_term_by(tags: &[u32], values: &[u32], rules: &[u32], n: usize, t: TermPlace) -> Answer
+// The pool check and then 17, under a lent table, and the index of a pool whose term passes.
+pub fn index_term_by(
+    tags: &[u32],
+    values: &[u32],
+    rules: &[u32],
+    n: usize,
+    t: TermPlace,
+    index: &mut [u32; INDEX],
+) -> Answer
     ensures { λ r. ⌜ r ≡ checkTerm (now (tags .entry)) (now (values .entry)) (now (rules .entry)) n (t .0) ⌝ }
+    ensures { λ r. ⌜ Indexed (now (tags .entry)) (now (values .entry)) n r (now (index .exit)) ⌝ }
 {
-    let checked = check_pool_by(tags, values, rules, n);
+    let checked = index_pool_by(tags, values, rules, n, index);
     if checked.code != 0 {
         return checked;
     }
@@ -90,4 +98,12 @@ pub fn check_term_by(tags: &[u32], values: &[u32], rules: &[u32], n: usize, t: T
         return Answer::refused(17, t.0, 0);
     }
     Answer::accepted(0, 0)
+}
+
+// The pool check and then 17, under a lent table.
+pub fn check_term_by(tags: &[u32], values: &[u32], rules: &[u32], n: usize, t: TermPlace) -> Answer
+    ensures { λ r. ⌜ r ≡ checkTerm (now (tags .entry)) (now (values .entry)) (now (rules .entry)) n (t .0) ⌝ }
+{
+    let mut index = [0u32; INDEX];
+    index_term_by(tags, values, rules, n, t, &mut index)
 }

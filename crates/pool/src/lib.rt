@@ -5,7 +5,6 @@ pub mod checks;
 
 pub use answers::Answer;
 pub use answers::checked;
-pub use answers::outcome;
 pub use bindings::binding;
 pub use bindings::list_comparison;
 pub use bindings::used_pairs;

@@ -1,17 +1,31 @@
 -- 01's join and the Rust's: one list where every repeat is adjacent, and the smallest lists on which they part.
 -- Assumes nothing.
-use Prim.Native.Nat.{_≤_}
+use Prim.Native.Nat.{ℕ, _≤_}
 use mathlib.Core.Path.{_≡_, refl, sym, ap, _∙_}
 use mathlib.Core.Bool.{Bool, true, false, not, _&&_, _||_}
 use mathlib.Core.List.{List, [], _∷_, _++_}
 use lib.ListN.{length}
 use native.Mathlib.Omega.{arith}
-use borrow.Author.Tests.{not-true}
+use lib.Dec.{eqb}
+use borrow.Author.Tests.{not-true, eq-eqb, ne-eqb, eqb-true, eqb-false}
 use Rattle.cells.specs.ByPlace.{by-test}
 use Rattle.bindings.specs.Binding.{Binding, same, has}
 use Rattle.quantifier_rules.specs.QntJoin.{afterPair, withoutAdjacent, firstsAfter, firstsOnly, joined, joinedRust, adjacentAfter, repeatsAdjacent}
-use Rattle.quantifier_rules.specs.JoinCases.{same-self, same-swap}
 use Rattle.bindings.proofs.binding.Laws.{same-is}
+
+same-self : (a : Binding) → same a a ≡ true
+unfolding same
+same-self a = rw (eq-eqb (a .name) (a .name) refl, eq-eqb (a .sort) (a .sort) refl)
+
+eqb-swap : (a b : ℕ) → eqb a b ≡ eqb b a
+eqb-swap a b =
+    by-test (eqb b a)
+    (λ e. rw e (eq-eqb a b (sym (eqb-true b a e))))
+    (λ e. rw e (ne-eqb a b (λ p. eqb-false b a e (sym p))))
+
+same-swap : (a b : Binding) → same a b ≡ same b a
+unfolding same
+same-swap a b = rw (eqb-swap (a .name) (b .name), eqb-swap (a .sort) (b .sort))
 
 -- what is seen matters only by what it has
 seen-as : (s t list : List Binding) → ((x : Binding) → has s x ≡ has t x) → firstsAfter s list ≡ firstsAfter t list

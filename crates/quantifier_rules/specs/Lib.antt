@@ -1,4 +1,3 @@
-pub mod JoinCases
 pub mod JoinAlong
 pub mod QntJoin
 pub mod IteAnswer

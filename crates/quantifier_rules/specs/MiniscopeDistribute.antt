@@ -1,7 +1,7 @@
 -- Rule 4, `miniscope_distribute`: `(= (forall L (and ..)) (and (forall L ..) ..))`, or with exists and `or`.
 -- 01: "2, 11, then by operand 2, 6, 5."
 -- Rests on Outcome, Binding and Form.
-use Prim.Native.Nat.{ℕ, suc}
+use Prim.Native.Nat.{ℕ}
 use mathlib.Core.Bool.{Bool, true, false, Bool·beq, cond}
 use mathlib.Core.List.{List, [], _∷_}
 use mathlib.Core.Option.{Option, some, none}

@@ -3,7 +3,7 @@
 -- Rests on Outcome, Binding and Form.
 use Prim.Native.Nat.{ℕ}
 use mathlib.Core.Bool.{Bool, true, false, not, _&&_, Bool·beq, cond}
-use mathlib.Core.List.{List, [], _∷_}
+use mathlib.Core.List.{List}
 use mathlib.Core.Option.{Option, some, none}
 use lib.Dec.{eqb}
 use Rattle.answers.specs.Outcome.{Outcome, pass, _>>=_, _>>_, need, guard, unless}

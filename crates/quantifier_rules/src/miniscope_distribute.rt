@@ -10,8 +10,6 @@ use pool::Answer;
 use pool::TermPlace;
 use pool::checked::Checked;
 use pool::list_comparison::same_lists;
-use pool::outcome::accept;
-use pool::outcome::refuse;
 use pool::run::operands;
 use pool::tags::AND;
 use pool::tags::OR;
@@ -45,7 +43,7 @@ fn distributed_all(tags: &[u32], values: &[u32], s: Places, from: &[u32], to: &[
     let mut i: usize = 0;
     while i < from.len() {
         if to.len() <= i {
-            return accept();
+            return Answer::accepted(0, 0);
         }
         if let Checked::Refuses(k, m, n) = distributed(
             tags,
@@ -54,11 +52,11 @@ fn distributed_all(tags: &[u32], values: &[u32], s: Places, from: &[u32], to: &[
             TermPlace(from[i]),
             TermPlace(to[i]),
         ) {
-            return refuse(k, m, n);
+            return Answer::refused(k, m, n);
         }
         i += 1;
     }
-    accept()
+    Answer::accepted(0, 0)
 }
 
 // Rule 4: the conclusion at x.
@@ -66,12 +64,12 @@ pub fn miniscope_distribute(tags: &[u32], values: &[u32], x: TermPlace) -> Answe
     ensures { λ r. ⌜ r ≡ answerOf (miniscopeDistribute (now (tags .entry)) (now (values .entry)) (x .0)) ⌝ }
 {
     let Matched::At(s) = either_sides(tags, values, AND, OR, x) else {
-        return refuse(2, x.0, 0);
+        return Answer::refused(2, x.0, 0);
     };
     let from_count = operand_count(tags, values, s.body);
     let to_count = operand_count(tags, values, s.right);
     if from_count != to_count {
-        return refuse(11, from_count, to_count);
+        return Answer::refused(11, from_count, to_count);
     }
     let from = operands(tags, values, s.body);
     let to = operands(tags, values, s.right);

@@ -11,8 +11,6 @@ use pool::TermPlace;
 use pool::binding::FirstName;
 use pool::free_lists::first_free;
 use pool::list_comparison::same_lists;
-use pool::outcome::accept;
-use pool::outcome::refuse;
 use pool::tags::ITE;
 ghost use mathlib.Core.Path.{_≡_};
 ghost use Rattle.answers.specs.Outcome.{answerOf};
@@ -80,17 +78,17 @@ pub fn miniscope_ite(tags: &[u32], values: &[u32], n: usize, x: TermPlace) -> An
     ensures { λ r. ⌜ r ≡ answerOf (miniscopeIte (now (tags .entry)) (now (values .entry)) n (x .0)) ⌝ }
 {
     let IteMatched::At(s) = ite_sides(tags, values, x) else {
-        return refuse(2, x.0, 0);
+        return Answer::refused(2, x.0, 0);
     };
     let list = bindings(tags, values, s.left);
     if !same_lists(list, bindings(tags, values, s.yes)) {
-        return refuse(6, s.left.0, s.yes.0);
+        return Answer::refused(6, s.left.0, s.yes.0);
     }
     if !same_lists(list, bindings(tags, values, s.no)) {
-        return refuse(6, s.left.0, s.no.0);
+        return Answer::refused(6, s.left.0, s.no.0);
     }
     if let FirstName::Name(name) = first_free(tags, values, n, s.test, list) {
-        return refuse(12, name, s.test.0);
+        return Answer::refused(12, name, s.test.0);
     }
-    accept()
+    Answer::accepted(0, 0)
 }

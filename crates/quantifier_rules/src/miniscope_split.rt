@@ -12,8 +12,6 @@ use pool::TermPlace;
 use pool::binding::FirstName;
 use pool::checked::Checked;
 use pool::free_lists::first_free;
-use pool::outcome::accept;
-use pool::outcome::refuse;
 use pool::run::operands;
 use pool::tags::AND;
 use pool::tags::OR;
@@ -115,12 +113,12 @@ fn split_sides(tags: &[u32], values: &[u32], n: usize, s: Places) -> Answer
     let from = operands(tags, values, s.body);
     let to = operands(tags, values, s.right);
     if let Checked::Refuses(k, a, b) = split(tags, values, s.kind, outer, from, to) {
-        return refuse(k, a, b);
+        return Answer::refused(k, a, b);
     }
     if let FirstName::Name(name) = first_free(tags, values, n, s.right, outer) {
-        return refuse(12, name, s.right.0);
+        return Answer::refused(12, name, s.right.0);
     }
-    accept()
+    Answer::accepted(0, 0)
 }
 
 // Rule 5: the conclusion at x.
@@ -129,12 +127,12 @@ pub fn miniscope_split(tags: &[u32], values: &[u32], n: usize, x: TermPlace) -> 
     ensures { λ r. ⌜ r ≡ answerOf (miniscopeSplit (now (tags .entry)) (now (values .entry)) n (x .0)) ⌝ }
 {
     let Matched::At(s) = either_sides(tags, values, OR, AND, x) else {
-        return refuse(2, x.0, 0);
+        return Answer::refused(2, x.0, 0);
     };
     let from_count = operand_count(tags, values, s.body);
     let to_count = operand_count(tags, values, s.right);
     if from_count != to_count {
-        return refuse(11, from_count, to_count);
+        return Answer::refused(11, from_count, to_count);
     }
     split_sides(tags, values, n, s)
 }

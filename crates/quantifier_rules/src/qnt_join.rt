@@ -9,8 +9,6 @@ use pool::Answer;
 use pool::SortPlace;
 use pool::TermPlace;
 use pool::binding::same_pair;
-use pool::outcome::accept;
-use pool::outcome::refuse;
 use pool::run::cell;
 ghost use mathlib.Core.Path.{_≡_};
 ghost use mathlib.Core.List.{[], _∷_};
@@ -97,30 +95,30 @@ pub fn qnt_join(tags: &[u32], values: &[u32], x: TermPlace) -> Answer
     ensures { λ r. ⌜ r ≡ answerOf (qntJoin (now (tags .entry)) (now (values .entry)) (x .0)) ⌝ }
 {
     let Two::Are(l, r) = equality_at(tags, values, x) else {
-        return refuse(2, x.0, 0);
+        return Answer::refused(2, x.0, 0);
     };
     let Quantified::Is(kind, body) = quantified_at(tags, values, l) else {
-        return refuse(3, l.0, 0);
+        return Answer::refused(3, l.0, 0);
     };
     let Quantified::Is(inner_kind, inner_body) = quantified_at(tags, values, body) else {
-        return refuse(3, body.0, 0);
+        return Answer::refused(3, body.0, 0);
     };
     let Quantified::Is(right_kind, right_body) = quantified_at(tags, values, r) else {
-        return refuse(3, r.0, 0);
+        return Answer::refused(3, r.0, 0);
     };
     if kind != inner_kind {
-        return refuse(4, quantifier_tag(kind), quantifier_tag(inner_kind));
+        return Answer::refused(4, quantifier_tag(kind), quantifier_tag(inner_kind));
     }
     if inner_kind != right_kind {
-        return refuse(4, quantifier_tag(inner_kind), quantifier_tag(right_kind));
+        return Answer::refused(4, quantifier_tag(inner_kind), quantifier_tag(right_kind));
     }
     if inner_body.0 != right_body.0 {
-        return refuse(5, inner_body.0, right_body.0);
+        return Answer::refused(5, inner_body.0, right_body.0);
     }
     let outer = bindings(tags, values, l);
     let inner = bindings(tags, values, body);
     if !same_joined(outer, inner, bindings(tags, values, r)) {
-        return refuse(7, l.0, r.0);
+        return Answer::refused(7, l.0, r.0);
     }
-    accept()
+    Answer::accepted(0, 0)
 }

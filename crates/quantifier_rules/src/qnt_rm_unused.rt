@@ -11,8 +11,6 @@ use pool::binding::FirstName;
 use pool::binding::first_new;
 use pool::free_lists::first_free;
 use pool::free_lists::first_missing;
-use pool::outcome::accept;
-use pool::outcome::refuse;
 ghost use mathlib.Core.Path.{_≡_};
 ghost use Rattle.answers.specs.Outcome.{answerOf};
 ghost use Rattle.bindings.specs.Binding.{bindingsOf};
@@ -32,22 +30,22 @@ fn removes(
     ensures { λ r. ⌜ r ≡ answerOf (removes (now (tags .entry)) (now (values .entry)) n (withList kind (bindingsOf (now (left .entry))) (body .0)) (x .0)) ⌝ }
 {
     let Quantified::Is(right_kind, right_body) = quantified_at(tags, values, x) else {
-        return refuse(3, x.0, 0);
+        return Answer::refused(3, x.0, 0);
     };
     if kind != right_kind {
-        return refuse(4, quantifier_tag(kind), quantifier_tag(right_kind));
+        return Answer::refused(4, quantifier_tag(kind), quantifier_tag(right_kind));
     }
     if body.0 != right_body.0 {
-        return refuse(5, body.0, right_body.0);
+        return Answer::refused(5, body.0, right_body.0);
     }
     let right = bindings(tags, values, x);
     if let FirstName::Name(name) = first_new(right, left) {
-        return refuse(8, name, 0);
+        return Answer::refused(8, name, 0);
     }
     if let FirstName::Name(name) = first_missing(tags, values, n, body, left, right) {
-        return refuse(9, name, 0);
+        return Answer::refused(9, name, 0);
     }
-    accept()
+    Answer::accepted(0, 0)
 }
 
 // Accepts the left body as right side if no left variable is free in it, else checks the right side at x.
@@ -68,7 +66,7 @@ fn body_or(
     if let FirstName::Name(_) = first_free(tags, values, n, body, left) {
         return removes(tags, values, n, kind, left, body, x);
     }
-    accept()
+    Answer::accepted(0, 0)
 }
 
 // The checks in 01's order.
@@ -76,10 +74,10 @@ pub fn qnt_rm_unused(tags: &[u32], values: &[u32], n: usize, x: TermPlace) -> An
     ensures { λ r. ⌜ r ≡ answerOf (qntRmUnused (now (tags .entry)) (now (values .entry)) n (x .0)) ⌝ }
 {
     let Two::Are(l, r) = equality_at(tags, values, x) else {
-        return refuse(2, x.0, 0);
+        return Answer::refused(2, x.0, 0);
     };
     let Quantified::Is(kind, body) = quantified_at(tags, values, l) else {
-        return refuse(3, l.0, 0);
+        return Answer::refused(3, l.0, 0);
     };
     body_or(tags, values, n, kind, bindings(tags, values, l), body, r)
 }

@@ -11,7 +11,7 @@ use lib.Dec.{eqb}
 use native.Mathlib.Omega.{arith}
 use borrow.Author.Tests.{eqb-false}
 use Rattle.answers.specs.Outcome.{Outcome, pass, refuse, _>>=_, _>>_, need, guard, unless, answerOf}
-use Rattle.bindings.specs.Binding.{Binding, has}
+use Rattle.bindings.specs.Binding.{Binding}
 use Rattle.formulas.specs.Pattern.{Quantifier}
 use Rattle.quantifier_rules.specs.QntJoin.{qntJoin}
 use Rattle.quantifier_rules.specs.QntRmUnused.{removes, unused, bodyOr, qntRmUnused}
@@ -160,11 +160,11 @@ module _ (tags values : List ℕ) (n x : ℕ) where
 
 -- ---- answers
 pub accepted : (o : Outcome (Unit {0})) → Coded o → answerOf o .code ≡ 0 → o ≡ pass tt
-unfolding Coded answerOf
+unfolding Coded
 accepted (pass a) c e = refl
 accepted (refuse k m n) c e = absurd (c .0 e)
 
 pub not-30 : (o : Outcome (Unit {0})) → Coded o → answerOf o .code ≡ 30 → ⊥
-unfolding Coded answerOf
+unfolding Coded
 not-30 (pass a) c e = omega arith
 not-30 (refuse k m n) c e = c .1 e

@@ -16,7 +16,7 @@ use Rattle.pool.specs.Check.{andThen, checkPool}
 use Rattle.answers.specs.declared.Answer.{Answer}
 use Rattle.meaning.specs.Tree.{tree}
 use Rattle.meaning.proofs.trees.Passed.{Passed, pool-passes, pool-accepts}
-use Rattle.answers.specs.Outcome.{pass, answerOf}
+use Rattle.answers.specs.Outcome.{pass}
 use Rattle.rules.specs.RuleSchema.{WithinLimits, RuleSchema, RuleHolds}
 use Rattle.rules.proofs.schemas.Join.{qnt-join-is}
 use Rattle.rules.proofs.schemas.RmUnused.{qnt-rm-unused-is}
@@ -58,7 +58,7 @@ module _ (tags values table : List ℕ) (n rule : ℕ) (conclusion : List ℕ) w
       record { pool = a .pool; code = a .rule-code; one = a .one; term = a .term; holds = rule-is (a .passed) (getD conclusion 0 0) (a .term) rule .0 (a .passes) }
 
   step-back : StepHolds tags values table n rule conclusion → stepAnswer tags values table n rule conclusion .code ≡ 0
-  unfolding stepAnswer andThen answerOf
+  unfolding stepAnswer andThen
   step-back h =
       let c = pool-passes tags values table n (pool-accepts tags values table n (h .pool)) in
       rw (

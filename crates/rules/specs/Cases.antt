@@ -29,7 +29,7 @@ use Rattle.formulas.specs.Normal.{Normal, lit}
 use Rattle.formulas.specs.Clauses.{Clause, emptyOr}
 use Rattle.meaning.specs.Skeleton.{skeleton, leftBool, formOf, notOf, iteOf, iffOf}
 use lib.ListN.{length, replicate}
-use Rattle.cells.specs.Cell.{cellsOf, operandsOf}
+use Rattle.cells.specs.Cell.{cellsOf, operandsOf, sortOf, sameCells, isAt}
 use Rattle.answers.specs.Outcome.{Outcome, pass, refuse, _>>=_, _>>_, need, guard}
 use Rattle.bindings.specs.Binding.{bindingsOf, same, sameAll}
 use Rattle.formulas.specs.Pattern.{quantifier, operator, equality as equalityAt}
@@ -38,7 +38,6 @@ use Rattle.schemas.specs.Schemas.{clausal, clausesOf}
 use Rattle.quantifier_rules.specs.QntJoin.{afterPair, withoutAdjacent, joined, qntJoin}
 use Rattle.cells.specs.Bounded.{everyIn, every}
 use Rattle.cells.specs.ByPlace.{downTo, byPlace}
-use Rattle.cells.specs.Cell.{sortOf, sameCells, isAt}
 use Rattle.cells.specs.Headers.{firstIn, firstFrom, firstHeader}
 use Rattle.headers.specs.WellFormed.{shapeOf, countFits, pairKind, kindAt, isSortTag, isTermTag, isTerm, valueFits, cellFits, boolFirst, headerFits, firstBad}
 use Rattle.descriptions.specs.Description.{find, repeats, firstRepeat}

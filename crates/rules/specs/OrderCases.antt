@@ -6,9 +6,8 @@
 --
 -- x, y and p are the names 1, 2 and 3, of sort Bool.
 -- Rests on joining's QntJoin and removing's QntRmUnused.
-use Prim.Native.Nat.{ℕ}
 use mathlib.Core.Path.{_≡_, refl}
-use mathlib.Core.List.{List, [], _∷_}
+use mathlib.Core.List.{[], _∷_}
 use Rattle.cells.specs.ByPlace.{downTo, byPlace}
 use Rattle.cells.specs.Cell.{cellsOf, sortOf, operandsOf, sameCells, isAt}
 use Rattle.cells.specs.Headers.{firstHeader, firstFrom, firstIn}

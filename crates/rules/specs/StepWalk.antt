@@ -24,12 +24,12 @@ beforeRule tags n rule conclusion checked =
     (unknownRule rule))
 
 -- arrays after a rule: only rule 3 changes cells, and it leaves zeroes past n
-pub record Kept (n rule : ℕ) (cells cells′ : List ℕ) : Type 0 where
+pub record CellsKept (n rule : ℕ) (cells cells′ : List ℕ) : Type 0 where
   pub same : (rule ≡ 3 → ⊥) → cells′ ≡ cells
   pub zeroed : rule ≡ 3 → cells′ ≡ zeroFrom n cells
 
 -- the answer is the one defined, and the arrays are so
 pub record Judged (n rule : ℕ) (defined r : Answer) (tags values tags′ values′ : List ℕ) : Type 0 where
   pub answer : r ≡ defined
-  pub tags-kept : Kept n rule tags tags′
-  pub values-kept : Kept n rule values values′
+  pub tags-kept : CellsKept n rule tags tags′
+  pub values-kept : CellsKept n rule values values′

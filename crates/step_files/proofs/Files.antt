@@ -1,19 +1,17 @@
 -- Laws of `fileText`, one for each way out of `answer_file`.
 -- Assumes nothing.
 use Prim.Native.Nat.{ℕ, _+_, _*_, _≤_, _<_}
-use mathlib.Core.Path.{_≡_, refl, sym, _∙_}
-use mathlib.Core.Bool.{true}
+use mathlib.Core.Path.{_≡_, _∙_}
 use mathlib.Core.List.{List}
 use lib.ListN.{length, length-append}
-use lib.Seq.{sets, sets-eq}
-use lib.Dec.{ltb}
+use lib.Seq.{sets-eq}
 use native.Mathlib.Omega.{arith}
 use borrow.Author.Tests.{lt-ltb, le-ltb, eq-eqb, ne-eqb}
 use Rattle.step_files.specs.Words.{wordAt}
 use Rattle.answers.specs.Answer.{illFormed, badArrays}
 use Rattle.answers.specs.declared.Answer.{Answer}
 use Rattle.step_files.specs.StepFile.{fileText, lines, written, Answered}
-use Rattle.step_files.specs.Text.{line, Put}
+use Rattle.step_files.specs.Text.{line, LinePut}
 use Rattle.step_files.proofs.Accepted.{file-follows}
 
 module _ (bytes out : List ℕ) where
@@ -22,7 +20,7 @@ module _ (bytes out : List ℕ) where
   file-unwritten h = record { end = rw (lt-ltb _ _ h); out-is = rw (lt-ltb _ _ h); follows = file-follows bytes }
 
   module _ (room : 11264 ≤ length out) (r : ℕ) (out′ : List ℕ) where
-    file-written : (text : List ℕ) (most : ℕ) → Put text most 0 out r out′ → most ≤ 11264 → text ≡ fileText bytes → Answered bytes out r out′
+    file-written : (text : List ℕ) (most : ℕ) → LinePut text most 0 out r out′ → most ≤ 11264 → text ≡ fileText bytes → Answered bytes out r out′
     unfolding written
     file-written text most p h e =
         let size : r ≡ length text = omega (arith, p .end) in
@@ -33,7 +31,7 @@ module _ (bytes out : List ℕ) where
           follows = file-follows bytes;
         }
 
-    module _ (a : Answer) (p : Put (line 0 a) 44 0 out r out′) where
+    module _ (a : Answer) (p : LinePut (line 0 a) 44 0 out r out′) where
       pub file-short : length bytes < 8 → a ≡ illFormed 0 → Answered bytes out r out′
       unfolding fileText
       file-short h is = file-written _ _ p (omega arith) (rw (lt-ltb _ _ h, is))
@@ -64,7 +62,7 @@ module _ (bytes out : List ℕ) where
               ))
 
     pub file-lines : 8 ≤ length bytes → (n steps m s : ℕ) → n ≡ wordAt bytes 0 → steps ≡ wordAt bytes 1 → n ≤ 8192 → steps ≤ 256 → m ≡ n
-        → s ≡ steps → length bytes ≡ 4 * (2 + 2 * m + 2 * s) → Put (lines bytes steps) 11264 0 out r out′ → Answered bytes out r out′
+        → s ≡ steps → length bytes ≡ 4 * (2 + 2 * m + 2 * s) → LinePut (lines bytes steps) 11264 0 out r out′ → Answered bytes out r out′
     unfolding fileText
     file-lines h n steps m s n-is steps-are g f same-m same-s size p =
         file-written _ _ p (omega arith)

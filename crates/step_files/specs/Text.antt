@@ -18,7 +18,7 @@ unfoldable pub line : ℕ → Answer → List ℕ
 line k a = field k 32 ++ field (a .code) 32 ++ field (a .first) 32 ++ field (a .second) 10
 
 -- the text stands in the array from position at on and ends at r, before `most` more bytes; the array's other bytes are as they were
-pub record Put (text : List ℕ) (most at : ℕ) (out : List ℕ) (r : ℕ) (out′ : List ℕ) : Type 0 where
+pub record LinePut (text : List ℕ) (most at : ℕ) (out : List ℕ) (r : ℕ) (out′ : List ℕ) : Type 0 where
   pub end : r ≡ at + length text
   pub short : length text ≤ most
   pub out-is : out′ ≡ sets out at text

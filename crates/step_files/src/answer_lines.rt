@@ -1,11 +1,10 @@
 // Lines of numbers in decimal, written into a lent array.
 ghost use Prim.Native.Nat.{_+_, _≤_};
 ghost use mathlib.Core.Path.{_≡_};
-ghost use mathlib.Core.List.{[], _∷_};
 ghost use lib.ListN.{length};
 ghost use lib.Seq.{sets};
 ghost use Rattle.step_files.specs.Decimal.{decimal};
-ghost use Rattle.step_files.specs.Text.{field, line, Put};
+ghost use Rattle.step_files.specs.Text.{field, line, LinePut};
 use pool::Answer;
 
 fn long(x: u32) -> u64
@@ -28,7 +27,7 @@ fn copy(out: &mut [u8], at: usize, bytes: &[u8])
 
 pub fn put_number(out: &mut [u8], at: usize, n: u32) -> usize
     requires { ⌜ at + 10 ≤ length (now out) ⌝ }
-    ensures { λ r. ⌜ Put (decimal n) 10 at (now (out .entry)) r (now (out .exit)) ⌝ }
+    ensures { λ r. ⌜ LinePut (decimal n) 10 at (now (out .entry)) r (now (out .exit)) ⌝ }
 {
     let mut digits = [0u8; 20];
     let k = io::decimal(long(n), &mut digits);
@@ -39,7 +38,7 @@ pub fn put_number(out: &mut [u8], at: usize, n: u32) -> usize
 // A number and the byte after it.
 fn put_field(out: &mut [u8], at: usize, n: u32, after: u8) -> usize
     requires { ⌜ at + 11 ≤ length (now out) ⌝ }
-    ensures { λ r. ⌜ Put (field n after) 11 at (now (out .entry)) r (now (out .exit)) ⌝ }
+    ensures { λ r. ⌜ LinePut (field n after) 11 at (now (out .entry)) r (now (out .exit)) ⌝ }
 {
     let end = put_number(out, at, n);
     out[end] = after;
@@ -49,7 +48,7 @@ fn put_field(out: &mut [u8], at: usize, n: u32, after: u8) -> usize
 // The line of a step's number and answer.
 pub fn put_line(out: &mut [u8], at: usize, number: u32, answer: Answer) -> usize
     requires { ⌜ at + 44 ≤ length (now out) ⌝ }
-    ensures { λ r. ⌜ Put (line number answer) 44 at (now (out .entry)) r (now (out .exit)) ⌝ }
+    ensures { λ r. ⌜ LinePut (line number answer) 44 at (now (out .entry)) r (now (out .exit)) ⌝ }
 {
     let code = put_field(out, at, number, 32);
     let first = put_field(out, code, answer.code, 32);

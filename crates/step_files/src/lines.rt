@@ -5,7 +5,7 @@ ghost use lib.ListN.{length};
 ghost use Rattle.pool.specs.Check.{Indexed};
 ghost use Rattle.step_files.specs.StepFile.{cellsFrom, lines};
 ghost use Rattle.step_files.specs.Steps.{Sized, Ready};
-ghost use Rattle.step_files.specs.Text.{Put};
+ghost use Rattle.step_files.specs.Text.{LinePut};
 use crate::answer_lines::put_line;
 use crate::words::read_words;
 use crate::words::word;
@@ -43,7 +43,7 @@ fn put_lines(
 ) -> usize
     requires { ⌜ Ready (now input) n steps (length (now out)) checked (now tags) (now values) ⌝ }
     requires { ⌜ Indexed (now tags) (now values) n checked (now index) ⌝ }
-    ensures { λ r. ⌜ Put (lines (now (input .entry)) steps) 11264 0 (now (out .entry)) r (now (out .exit)) ⌝ }
+    ensures { λ r. ⌜ LinePut (lines (now (input .entry)) steps) 11264 0 (now (out .entry)) r (now (out .exit)) ⌝ }
     ensures { λ _. ⌜ (now (tags .exit) ≡ now (tags .entry)) × (now (values .exit) ≡ now (values .entry)) ⌝ }
 {
     let rules = 2 + 2 * n;
@@ -65,7 +65,7 @@ fn put_lines(
 // The pool is checked once.
 pub(crate) fn answer_steps(input: &[u8], n: usize, steps: u32, out: &mut [u8]) -> usize
     requires { ⌜ Sized (now input) n steps (length (now out)) ⌝ }
-    ensures { λ r. ⌜ Put (lines (now (input .entry)) steps) 11264 0 (now (out .entry)) r (now (out .exit)) ⌝ }
+    ensures { λ r. ⌜ LinePut (lines (now (input .entry)) steps) 11264 0 (now (out .entry)) r (now (out .exit)) ⌝ }
 {
     let mut tags = [0u32; 8192];
     read_cells(input, 2, n, &mut tags);

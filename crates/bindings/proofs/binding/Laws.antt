@@ -9,7 +9,7 @@ use lib.Seq.{drop-cons}
 use lib.Dec.{eqb, ltb}
 use native.Mathlib.Omega.{arith}
 use native.Mathlib.Numerals.{add-one}
-use borrow.Author.Tests.{eq-eqb, ne-eqb, eqb-true, ltb-true, ltb-false, not-true, not-false}
+use borrow.Author.Tests.{eq-eqb, ne-eqb, eqb-true, ltb-true, ltb-false}
 use Rattle.cells.specs.ByPlace.{by-test}
 use Rattle.bindings.specs.Binding.{Binding, bindingsOf, same, has, firstOf}
 use Rattle.bindings.specs.BindingAnswer.{pair, pairAt, nameOf}

@@ -2,9 +2,9 @@
 -- Assumes nothing.
 use Prim.Native.Nat.{ℕ, suc, _≤_, _<_}
 use mathlib.Core.Path.{_≡_, refl, sym, ap, _∙_}
-use mathlib.Core.Bool.{true, false}
+use mathlib.Core.Bool.{false}
 use mathlib.Core.List.{List}
-use lib.ListN.{length, getD, take, set}
+use lib.ListN.{length, getD, set}
 use lib.Seq.{take-take, getD-set-same, getD-set-other}
 use native.Mathlib.Omega.{arith}
 use native.Mathlib.Decide.{ℕ-discrete}
@@ -13,10 +13,10 @@ use Rattle.cells.specs.declared.TermPlace.{TermPlace}
 use Rattle.building.specs.declared.build.Built.{Built}
 use Rattle.building.specs.declared.build.Built.the-variants.{At, Full}
 use Rattle.formulas.specs.Normal.{Normal}
-use Rattle.formulas.specs.Built.{Pool, Placed, count, put, intern}
+use Rattle.formulas.specs.Built.{Pool, Placed, count, intern}
 use Rattle.building.specs.Arrays.{poolOf, fits}
-use Rattle.building.specs.Walk.{State, Left, Holds, Puts, Stands, Right, Keeps, Noted, Remembers, Builds}
-use Rattle.building.proofs.Interning.{Good, GoesOn, stands-still, intern-stands}
+use Rattle.building.specs.Walk.{State, Left, Holds, Puts, Stands, Builds, FormsMemo, FormsNoted}
+use Rattle.building.proofs.Interning.{GoesOn, stands-still, intern-stands}
 use Rattle.building.proofs.build.Laws.{fits-not, pool-count, pool-good}
 
 -- ---- what is left
@@ -43,7 +43,7 @@ left-less lim n tags values tags′ values′ h l = record {
 
 module _ (formAt : ℕ → Normal (List ℕ) ℕ) (lim : ℕ) where
   -- one more term: nothing is kept in the memo
-  module _ (n : ℕ) (tags values memo : List ℕ) (s : State lim n tags values) (right : Right formAt (poolOf tags values n) memo) where
+  module _ (n : ℕ) (tags values memo : List ℕ) (s : State lim n tags values) (right : FormsMemo formAt (poolOf tags values n) memo) where
     pub builds-put : (o : Placed) → GoesOn (poolOf tags values n) (o .pool) → (r : Built) (tags′ values′ : List ℕ)
         → Puts n tags values o r tags′ values′ → Builds formAt lim tags values memo o r tags′ values′ memo
     builds-put o on (At p m) tags′ values′ y =
@@ -99,7 +99,7 @@ module _ (formAt : ℕ → Normal (List ℕ) ℕ) (lim : ℕ) where
       pub builds-holds : Holds lim o (p .0) m tags₁ values₁
       builds-holds = rw e at (b .puts .outcome)
 
-      pub builds-noted : Noted formAt (poolOf tags₁ values₁ m) memo memo₁
+      pub builds-noted : FormsNoted formAt (poolOf tags₁ values₁ m) memo memo₁
       builds-noted = rw e at (b .memo-is)
 
       -- the next step

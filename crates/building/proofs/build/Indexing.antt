@@ -3,7 +3,6 @@
 use Prim.Native.Nat.{ℕ}
 use mathlib.Core.Path.{_≡_}
 use mathlib.Core.List.{List}
-use Rattle.cells.specs.Place.{termAt}
 use Rattle.cells.specs.declared.TermPlace.{TermPlace}
 use Rattle.descriptions.specs.Index.{Index, countAfter}
 use Rattle.descriptions.specs.declared.description.Added.{Added}

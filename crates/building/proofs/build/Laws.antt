@@ -1,18 +1,17 @@
 -- Laws of the pool that two arrays hold: adding a description to the arrays puts it into the pool, or finds no room for it.
 -- Assumes nothing.
-use Prim.Native.Nat.{ℕ, suc, _+_, _-_, _≤_, _<_}
-use mathlib.Core.Path.{_≡_, refl, sym, ap, _∙_}
+use Prim.Native.Nat.{ℕ, _+_, _≤_, _<_}
+use mathlib.Core.Path.{_≡_, refl, sym, _∙_}
 use mathlib.Core.Bool.{Bool, true, false, _&&_, _||_}
-use mathlib.Core.List.{List, [], _∷_, _++_, append-assoc}
-use lib.ListN.{length, getD, take, drop, replicate, length-append, length-replicate}
+use mathlib.Core.List.{List, _∷_, _++_, append-assoc}
+use lib.ListN.{length, take, drop, replicate, length-append, length-replicate}
 use lib.Seq.{sets, length-sets, sets-eq, take-at, length-take-le, getD-take}
 use lib.Dec.{leb, ltb}
 use native.Mathlib.Omega.{arith}
-use borrow.Author.Tests.{le-ltb, le-leb, lt-leb, leb-true, leb-false, ltb-false}
+use borrow.Author.Tests.{le-ltb, le-leb, leb-true, ltb-false}
 use Rattle.cells.specs.Place.{termAt}
 use Rattle.cells.specs.ByPlace.{by-test}
 use Rattle.cells.specs.Cell.{isAt}
-use Rattle.cells.specs.Headers.{firstFrom}
 use Rattle.descriptions.specs.Description.{find, isFull, append, foundOr, adding, Added-is}
 use Rattle.cells.specs.declared.Found.{Found}
 use Rattle.cells.specs.declared.Found.the-variants.{At as FoundAt, Nothing}
@@ -21,11 +20,10 @@ use Rattle.descriptions.specs.declared.description.Added.the-variants.{There, N
 use Rattle.cells.proofs.Walks.{first-end, first-below}
 use Rattle.descriptions.proofs.description.Fills.{Fills, filled, orElse, fills-grown}
 use Rattle.descriptions.proofs.description.Growth.{Same, find-grown, new-grown}
-use Rattle.building.specs.declared.build.Built.{Built}
 use Rattle.building.specs.declared.build.Built.the-variants.{At, Full}
 use Rattle.formulas.specs.Built.{Pool, Placed, count, extend, placeAt, put}
 use Rattle.building.specs.Arrays.{poolOf, fits}
-use Rattle.building.specs.Walk.{State, Left, Holds, Outcome, Puts}
+use Rattle.building.specs.Walk.{State, Left, Puts}
 use Rattle.building.proofs.Interning.{Good, extend-count}
 
 -- ---- whether a pool fits

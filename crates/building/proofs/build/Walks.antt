@@ -17,7 +17,7 @@ use Rattle.formulas.specs.Normal.{Normal, Normals, nmany}
 use Rattle.formulas.specs.Built.{Pool, Placed, PlacedAll, count, put, intern, interns, normalsOf}
 use Rattle.formulas.specs.Formula.{connectiveTag}
 use Rattle.building.specs.Arrays.{poolOf}
-use Rattle.building.specs.Walk.{State, Left, Holds, Puts, Builds, slotOf, placesIn, Walk, normal, taken-out, formOf, runOf, entryForm, roomFor, Ready, Formed, Known, operandForms, OperandsKnown, Before, NormalBuilt}
+use Rattle.building.specs.Walk.{State, Left, Holds, Puts, Builds, slotOf, placesIn, Walk, normal, taken-out, formOf, runOf, entryForm, roomFor, Formed, Known, operandForms, OperandsKnown, Before, NormalBuilt, WalkReady}
 use Rattle.building.proofs.Interning.{becomes-longer, interns-becomes, put-becomes, put-goes-on}
 use Rattle.building.proofs.build.Laws.{fits-true, pool-count, pool-good}
 use Rattle.building.proofs.build.Building.{left-refl, builds-put, builds-stood, builds-full, builds-holds, builds-noted, builds-then, builds-kept}
@@ -34,7 +34,7 @@ unfolding slotOf
 slot-small t true h = omega arith
 slot-small t false h = omega arith
 
-module _ (w : Walk) (lim n : ℕ) (tags values memo : List ℕ) (ready : Ready w lim n tags values memo) (t : ℕ) where
+module _ (w : Walk) (lim n : ℕ) (tags values memo : List ℕ) (ready : WalkReady w lim n tags values memo) (t : ℕ) where
   place-within : t < lim → t < 8192
   place-within h = omega (arith, ready .state .source, ready .state .small)
 
@@ -45,7 +45,7 @@ module _ (w : Walk) (lim n : ℕ) (tags values memo : List ℕ) (ready : Ready w
   unfolding slotOf
   slot-first h i e = omega (arith, place-within h)
 
-pub own-ready : (w : Walk) (lim n : ℕ) (tags values memo : List ℕ) → Ready w lim n tags values memo → State n n tags values
+pub own-ready : (w : Walk) (lim n : ℕ) (tags values memo : List ℕ) → WalkReady w lim n tags values memo → State n n tags values
 own-ready w lim n tags values memo ready =
     let s = ready .state in
     record { size = s .size; within = s .within; small = s .small; fills = s .fills; source = omega arith }
@@ -87,7 +87,7 @@ module _ (w : Walk) (lim : ℕ) (tags values memo : List ℕ) (o : Placed) (r : 
       let h = builds-holds (entryForm w lim tags values) lim tags values memo o r tags₁ values₁ memo₁ b p m e in
       omega (arith, h .below, h .state .small)
 
-  pub ready-after : roomFor w ≤ length memo₁ → Ready w lim m tags₁ values₁ memo₁
+  pub ready-after : roomFor w ≤ length memo₁ → WalkReady w lim m tags₁ values₁ memo₁
   ready-after h = record {
     state = state-after;
     room = h;
@@ -116,7 +116,7 @@ module _ (w : Walk) (lim : ℕ) (tags values memo : List ℕ) (o : Placed) (r : 
       (put-goes-on (poolOf tags₁ values₁ m) tag cells (pool-good lim m tags₁ values₁ (h .state))) r₂ tags₂ values₂ y))
 
 -- ---- one term: the memo has its form, or it is built and kept
-module _ (w : Walk) (lim n : ℕ) (tags values memo : List ℕ) (ready : Ready w lim n tags values memo) (t : ℕ) (polarity : Bool) (within : t < lim) (i : ℕ) (is : i ≡ slotOf t polarity)
+module _ (w : Walk) (lim n : ℕ) (tags values memo : List ℕ) (ready : WalkReady w lim n tags values memo) (t : ℕ) (polarity : Bool) (within : t < lim) (i : ℕ) (is : i ≡ slotOf t polarity)
     (k : ℕ) (read : k ≡ getD memo i 0) where
   pub form-known : (k ≡ 0 → ⊥) → Known w lim n tags values memo t polarity (At (termAt (k - 1)) n) tags values memo
   form-known z =
@@ -143,7 +143,7 @@ pub ruleset one-term = (form-known, form-full, form-kept)
 
 -- ---- a run of operands
 module _ (w : Walk) (lim n : ℕ) (tags values memo : List ℕ) (t : ℕ) (polarity : Bool) (i : ℕ) (run : List ℕ) (are : run ≡ runOf lim tags values t) where
-  pub operands-end : Ready w lim n tags values memo → t < lim → length run ≤ i → OperandsKnown w lim n tags values memo t polarity i (At (termAt 0) n) tags values memo
+  pub operands-end : WalkReady w lim n tags values memo → t < lim → length run ≤ i → OperandsKnown w lim n tags values memo t polarity i (At (termAt 0) n) tags values memo
   unfolding interns
   operands-end ready h l =
       let e : drop i (runOf lim tags values t) ≡ [] = rw (← are) (drop-of-length-le run l) in
@@ -242,7 +242,7 @@ zeros-none (suc k) zero p e = omega arith
 zeros-none (suc k) (suc i) p e = zeros-none k i p e
 
 -- a memo that has nothing
-pub ready-first : (n : ℕ) (tags values : List ℕ) → State n n tags values → (w : Walk) (k : ℕ) → roomFor w ≤ k → Ready w n n tags values (replicate k 0)
+pub ready-first : (n : ℕ) (tags values : List ℕ) → State n n tags values → (w : Walk) (k : ℕ) → roomFor w ≤ k → WalkReady w n n tags values (replicate k 0)
 ready-first n tags values s w k h = record {
   state = s;
   room = rw length-replicate h;

@@ -18,7 +18,7 @@ use Rattle.formulas.specs.Normal.{lit, flip}
 use Rattle.formulas.specs.Built.{put, intern}
 use Rattle.formulas.specs.Formula.{quantifierTag, connectiveTag}
 use Rattle.building.specs.Arrays.{poolOf}
-use Rattle.building.specs.Walk.{State, Puts, Cells, slotOf, placesIn, runOf}
+use Rattle.building.specs.Walk.{State, Puts, slotOf, placesIn, runOf, FirstCells}
 
 -- ---- the memo's index
 module _ (t : ℕ) (polarity : Bool) where
@@ -68,7 +68,7 @@ module _ (memo : List ℕ) (polarity : Bool) (run row : List ℕ) where
           rw (add-one (j + 1), take-suc-set row (j + 1) p (omega (arith, s .room)), s .written, add-one j, take-suc run j 0 h, map-append (λ u. getD memo (slotOf u polarity) 0 - 1) (take j run) (getD run j 0 ∷ []), e);
     }
 
-    pub gather-end : length run ≤ j → Cells (0 ∷ placesIn memo polarity run) (j + 1) row
+    pub gather-end : length run ≤ j → FirstCells (0 ∷ placesIn memo polarity run) (j + 1) row
     gather-end h = record { within = omega (arith, s .room, s .within); are = rw (s .written, take-all j run h) }
 
 pub ruleset gatherings = (gather-start, gather-more, gather-end)
@@ -97,7 +97,7 @@ module _ (body : ℕ) (run row : List ℕ) (l : 2 ≤ length row) where
     written = take-suc-set (set row 0 0) 1 body (rw length-set (omega arith)) ∙ rw (take-suc-set row 0 0 (omega arith), body-there);
   }
 
-  pub pairs-end : (row′ : List ℕ) (j : ℕ) → Pairing run (set (set row 0 0) 1 body) row′ j → length run ≤ j → Cells (0 ∷ body ∷ drop 1 run) (j + 1) row′
+  pub pairs-end : (row′ : List ℕ) (j : ℕ) → Pairing run (set (set row 0 0) 1 body) row′ j → length run ≤ j → FirstCells (0 ∷ body ∷ drop 1 run) (j + 1) row′
   pairs-end row′ j s h = record {
     within = omega (arith, s .within);
     are = rw (s .written, take-all (j - 1) (drop 1 run) (rw length-drop (omega arith)), body-there);
@@ -120,7 +120,7 @@ pairs-more run row₀ row j s h = record {
 pub ruleset pairings = (pairs-start, pairs-more, pairs-end)
 
 -- ---- parts of the arrays
-pub cells-part : (cells : List ℕ) (k : ℕ) (row : List ℕ) → Cells cells k row → k ≡ length (take k row)
+pub cells-part : (cells : List ℕ) (k : ℕ) (row : List ℕ) → FirstCells cells k row → k ≡ length (take k row)
 cells-part cells k row c = sym (length-take-le k row (c .within))
 
 module _ (lim n : ℕ) (tags values : List ℕ) (s : State lim n tags values) where
@@ -149,11 +149,11 @@ put-tag n tags values tag tag′ is cells r tags′ values′ s = rw (← is) s
 module _ (lim n : ℕ) (tags values : List ℕ) (t tag : ℕ) (b polarity flipped : Bool) (is-flip : flipped ≡ flip b polarity)
     (run : List ℕ) (are : run ≡ runOf lim tags values t) (k : ℕ) (row : List ℕ)
     (r : Built) (tags′ values′ : List ℕ) (s : Puts n tags values (put (poolOf tags values n) tag (take k row)) r tags′ values′) where
-  pub put-places : tag ≡ connectiveTag flipped → (memo : List ℕ) → Cells (0 ∷ placesIn memo polarity run) k row
+  pub put-places : tag ≡ connectiveTag flipped → (memo : List ℕ) → FirstCells (0 ∷ placesIn memo polarity run) k row
       → Puts n tags values (put (poolOf tags values n) (connectiveTag (flip b polarity)) (0 ∷ placesIn memo polarity (runOf lim tags values t))) r tags′ values′
   put-places is memo c = rw (← is-flip, ← is, ← are, ← c .are) s
 
-  pub put-pairs : tag ≡ quantifierTag flipped → (body : ℕ) → Cells (0 ∷ body ∷ drop 1 run) k row
+  pub put-pairs : tag ≡ quantifierTag flipped → (body : ℕ) → FirstCells (0 ∷ body ∷ drop 1 run) k row
       → Puts n tags values (put (poolOf tags values n) (quantifierTag (flip b polarity)) (0 ∷ body ∷ drop 1 (runOf lim tags values t))) r tags′ values′
   put-pairs is body c = rw (← is-flip, ← is, ← are, ← c .are) s
 

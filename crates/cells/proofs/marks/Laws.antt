@@ -12,7 +12,7 @@ use native.Mathlib.Omega.{arith}
 use native.Mathlib.Numerals.{lt-of-le-of-ne}
 use borrow.Author.Tests.{eqb-true, eqb-false}
 use Rattle.cells.specs.ByPlace.{by-test}
-use Rattle.cells.specs.Marks.{Noted}
+use Rattle.cells.specs.Marks.{MarkNoted}
 
 -- ---- past the end nothing is set
 pub set-past : (l : List ℕ) (i : ℕ) → length l ≤ i → l ≡ set l i 1
@@ -26,10 +26,10 @@ zeros (suc k) (suc u) = zeros k u
 
 -- ---- noting an answer
 module _ (l : List ℕ) (i : ℕ) (s : Bool) where
-  pub note-yes : s ≡ true → Noted l i s l true
+  pub note-yes : s ≡ true → MarkNoted l i s l true
   note-yes e = record { same = sym e; kept = rw e }
 
-  pub note-marked : s ≡ false → (l′ : List ℕ) → l′ ≡ set l i 1 → Noted l i s l′ false
+  pub note-marked : s ≡ false → (l′ : List ℕ) → l′ ≡ set l i 1 → MarkNoted l i s l′ false
   note-marked e l′ is = record { same = sym e; kept = rw e is }
 
 pub ruleset notes = (note-yes, note-marked)

@@ -16,9 +16,9 @@ use Rattle.answers.specs.declared.Answer.{Answer}
 use Rattle.clauses.specs.declared.totals.Totals as code
 use Rattle.formulas.specs.Normal.{Normal}
 use Rattle.formulas.specs.Clauses.{cnf, literalTotal, emptyOr}
-use Rattle.clauses.specs.Lists.{emptyOrReached, tooManyClauses, padded, literalPlace, clausePlaces, literalPlaces, clauseEnds}
+use Rattle.clauses.specs.Lists.{emptyOrReached, tooManyClauses, padded, clausePlaces, literalPlaces, clauseEnds}
 use Rattle.clauses.specs.ClauseWalk.{formAt, TermCounted}
-use Rattle.clauses.specs.ClauseList.{Ask, Written, AskMore, Adds, Listed, Answered, Lent, Counted, Ready, countAnswer, listAnswer, held}
+use Rattle.clauses.specs.ClauseList.{Ask, Written, AskMore, Adds, Lent, Counted, countAnswer, listAnswer, held, ListAnswered, ListReady, ClausesHeld}
 use Rattle.clauses.specs.declared.clause_list.Filled.{Filled}
 use Rattle.clauses.proofs.totals.Laws.{clauses-cut, literals-cut}
 use Rattle.clauses.proofs.conjunctive_normal_form.Laws.{places-length, counts-one}
@@ -182,7 +182,7 @@ zero-all l = let z : length l - 0 ≡ length l = omega arith in ap (λ (n : ℕ)
 
 -- a refusal of code 13 or 32 leaves zeroes
 refused : (defined : Answer) (cs : Clauses) (k m : ℕ) (r : Answer) (literals ends : List ℕ) → r ≡ defined → eqb (r .code) 0 ≡ false
-    → literals ≡ replicate k 0 → ends ≡ replicate m 0 → Answered defined cs k m r literals ends
+    → literals ≡ replicate k 0 → ends ≡ replicate m 0 → ListAnswered defined cs k m r literals ends
 unfolding held
 refused defined cs k m r literals ends e n p q = record { answer = e; literals-are = rw n p; ends-are = rw n q }
 
@@ -190,7 +190,7 @@ pub counted : (tags values : List ℕ) (x : ℕ) (sizes₀ counts sizes : List �
     → Counted tags values x counts t
 counted tags values x sizes₀ counts sizes t is = record { is = is .is; counts-are = counts-one tags values counts x sizes (is .memo) (is .here) }
 
-module _ (tags values : List ℕ) (x : ℕ) (literals ends : List ℕ) (ready : Ready tags literals ends)
+module _ (tags values : List ℕ) (x : ℕ) (literals ends : List ℕ) (ready : ListReady tags literals ends)
     (counts : List ℕ) (t : code.Totals) (is : Counted tags values x counts t) where
   clauses-are-cut : t .clauses ≡ min 8193 (length (cnf (formAt tags values x)))
   clauses-are-cut = clauses-cut tags values x t (is .is)
@@ -199,7 +199,7 @@ module _ (tags values : List ℕ) (x : ℕ) (literals ends : List ℕ) (ready : 
   literals-are-cut = literals-cut tags values x t (is .is)
 
   pub many-clauses : 2048 < t .clauses → (r : Answer) → r ≡ tooManyClauses
-      → Answered (countAnswer (cnf (formAt tags values x))) (cnf (formAt tags values x)) (length literals) (length ends) r literals ends
+      → ListAnswered (countAnswer (cnf (formAt tags values x))) (cnf (formAt tags values x)) (length literals) (length ends) r literals ends
   unfolding countAnswer
   many-clauses h r e =
       refused _ _ _ _ _ _ _ (rw (e, lt-leb (length (cnf (formAt tags values x))) 2048 (omega (arith, clauses-are-cut)))) (rw e) (ready .literals-zero) (ready .ends-zero)
@@ -209,7 +209,7 @@ module _ (tags values : List ℕ) (x : ℕ) (literals ends : List ℕ) (ready : 
     clauses-are = omega (arith, clauses-are-cut)
 
     pub many-literals : 8192 < t .literals → (r : Answer) → r ≡ tooManyClauses
-        → Answered (countAnswer (cnf (formAt tags values x))) (cnf (formAt tags values x)) (length literals) (length ends) r literals ends
+        → ListAnswered (countAnswer (cnf (formAt tags values x))) (cnf (formAt tags values x)) (length literals) (length ends) r literals ends
     unfolding countAnswer
     many-literals g r e =
         refused _ _ _ _ _ _ _
@@ -230,7 +230,7 @@ module _ (tags values : List ℕ) (x : ℕ) (literals ends : List ℕ) (ready : 
       }
 
       listed : (literals′ ends′ : List ℕ) (f : Filled) → Adds (cnf (formAt tags values x)) literals ends 0 0 literals′ ends′ f
-          → Listed (cnf (formAt tags values x)) (length literals) (length ends) literals′ ends′
+          → ClausesHeld (cnf (formAt tags values x)) (length literals) (length ends) literals′ ends′
       listed literals′ ends′ f a = record {
         literals-are = a .literals-are
             ∙ (ap (λ (l : List ℕ). sets l 0 (literalPlaces (cnf (formAt tags values x)))) (ready .literals-zero)
@@ -244,7 +244,7 @@ module _ (tags values : List ℕ) (x : ℕ) (literals ends : List ℕ) (ready : 
 
       pub fits-answer : (literals′ ends′ : List ℕ) (f : Filled) → Adds (cnf (formAt tags values x)) literals ends 0 0 literals′ ends′ f
           → (r : Answer) → r ≡ accepted (t .clauses) (t .literals)
-          → Answered (countAnswer (cnf (formAt tags values x))) (cnf (formAt tags values x)) (length literals) (length ends) r literals′ ends′
+          → ListAnswered (countAnswer (cnf (formAt tags values x))) (cnf (formAt tags values x)) (length literals) (length ends) r literals′ ends′
       unfolding countAnswer held
       fits-answer literals′ ends′ f a r e = record {
         answer = rw (
@@ -267,7 +267,7 @@ module _ (literals₀ ends₀ literals ends : List ℕ) (cut : Cut 0 literals₀
   size-ends : length ends ≡ length ends₀
   size-ends = ap length (cut .values-are ∙ zero-all ends₀) ∙ length-replicate {A = ℕ} (length ends₀) 0
 
-  pub list-ready : (tags : List ℕ) → Lent (length tags) (length literals₀) (length ends₀) → Ready tags literals ends
+  pub list-ready : (tags : List ℕ) → Lent (length tags) (length literals₀) (length ends₀) → ListReady tags literals ends
   list-ready tags lent = record {
     lent = rw (size-literals, size-ends) lent;
     literals-zero = rw size-literals (cut .tags-are ∙ zero-all literals₀);
@@ -276,13 +276,13 @@ module _ (literals₀ ends₀ literals ends : List ℕ) (cut : Cut 0 literals₀
 
   module _ (tags values : List ℕ) (x : ℕ) (b : Bool) (is : b ≡ emptyOr (formAt tags values x)) where
     pub empty-answer : b ≡ true → (r : Answer) → r ≡ emptyOrReached
-        → Answered (listAnswer (formAt tags values x)) (cnf (formAt tags values x)) (length literals₀) (length ends₀) r literals ends
+        → ListAnswered (listAnswer (formAt tags values x)) (cnf (formAt tags values x)) (length literals₀) (length ends₀) r literals ends
     unfolding listAnswer
     empty-answer e r q = refused _ _ _ _ _ _ _ (rw (q, ← is, e)) (rw q) (cut .tags-are ∙ zero-all literals₀) (cut .values-are ∙ zero-all ends₀)
 
     pub list-answer : b ≡ false → (r : Answer) (literals′ ends′ : List ℕ)
-        → Answered (countAnswer (cnf (formAt tags values x))) (cnf (formAt tags values x)) (length literals) (length ends) r literals′ ends′
-        → Answered (listAnswer (formAt tags values x)) (cnf (formAt tags values x)) (length literals₀) (length ends₀) r literals′ ends′
+        → ListAnswered (countAnswer (cnf (formAt tags values x))) (cnf (formAt tags values x)) (length literals) (length ends) r literals′ ends′
+        → ListAnswered (listAnswer (formAt tags values x)) (cnf (formAt tags values x)) (length literals₀) (length ends₀) r literals′ ends′
     unfolding listAnswer
     list-answer e r literals′ ends′ a = record {
       answer = rw (← is, e) (a .answer);

@@ -2,7 +2,7 @@
 -- Assumes nothing.
 use Prim.Native.Nat.{ℕ, _+_, _-_}
 use mathlib.Core.Path.{_≡_, refl, sym, ap, ap₂, subst, _∙_}
-use mathlib.Core.Bool.{Bool, true, false}
+use mathlib.Core.Bool.{Bool, true}
 use mathlib.Core.List.{List, [], _∷_, _++_, append-assoc}
 use lib.ListN.{length, getD, take, drop, length-append}
 use lib.Seq.{sets, length-sets}
@@ -18,8 +18,7 @@ use Rattle.clauses.specs.Lists.{clausePlaces, literalPlaces, clauseEnds}
 use Rattle.clauses.specs.ClauseWalk.{formAt}
 use Rattle.clauses.specs.ClauseList.{runOf, AskMore, AskLists, Adds}
 use Rattle.clauses.specs.declared.clause_list.Filled.{Filled}
-use Rattle.clauses.proofs.ClauseAt.{clauses-and}
-use Rattle.clauses.proofs.Reading.{before-head, before-tail, read-literal, read-forall, read-connective, run-before, connective-within, run-split}
+use Rattle.clauses.proofs.Reading.{before-tail, read-literal, read-forall, read-connective, run-before, connective-within, run-split}
 use Rattle.clauses.proofs.conjunctive_normal_form.Laws.{exact, counts-head, counts-tail, counts-operands}
 use Rattle.clauses.proofs.clause_list.Laws.{Clauses, sets-join, places-total, ends-length}
 

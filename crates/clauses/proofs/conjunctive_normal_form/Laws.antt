@@ -2,12 +2,12 @@
 -- Assumes nothing.
 use Prim.Native.Nat.{ℕ, zero, suc, _+_, _-_, _*_, _/_, _%_, _^_, _≤_, _<_, min}
 use mathlib.Core.Path.{_≡_, refl, sym, ap, subst, _∙_}
-use mathlib.Core.Bool.{Bool, true, false, cond}
+use mathlib.Core.Bool.{Bool, true, false}
 use mathlib.Core.List.{List, [], _∷_, _++_}
 use lib.ListN.{length, getD, take, drop, set, length-append, drop-of-length-le}
 use lib.Seq.{sets, length-sets, drop-cons}
 use lib.Dec.{ltb}
-use native.Mathlib.Nat.{le-mul-of-pos-right, mul-div-cancel-left, mul-comm, mod-lt, div-lt-iff-lt-mul, mul-zero, zero-mul, add-assoc}
+use native.Mathlib.Nat.{le-mul-of-pos-right, mul-div-cancel-left, mul-comm, mod-lt, div-lt-iff-lt-mul, mul-zero, zero-mul}
 use native.Mathlib.Omega.{arith}
 use native.Mathlib.Numerals.{add-one}
 use borrow.Author.Tests.{lt-ltb, le-ltb, ltb-true, ltb-false}
@@ -19,8 +19,8 @@ use Rattle.formulas.specs.declared.view.NormalView.{NormalView}
 use Rattle.formulas.specs.declared.view.NormalView.the-variants.{Literal, Connective, Forall}
 use Rattle.clauses.specs.declared.conjunctive_normal_form.Chosen.{Chosen}
 use Rattle.formulas.specs.Formula.{allBefore}
-use Rattle.formulas.specs.Normal.{Normal, Normals, lit, nmany, nall, nnil, ncons}
-use Rattle.formulas.specs.Clauses.{product, cnf, cnfAnd, cnfOr}
+use Rattle.formulas.specs.Normal.{Normal}
+use Rattle.formulas.specs.Clauses.{cnf, cnfAnd, cnfOr}
 use Rattle.formulas.specs.Built.{normalView}
 use Rattle.formulas.specs.Totals.{Totals}
 use Rattle.formulas.proofs.Totals.{totals-are}

@@ -18,7 +18,7 @@ use Rattle.formulas.specs.Formula.{allBefore}
 use Rattle.formulas.specs.Normal.{Normal}
 use Rattle.formulas.specs.Clauses.{emptyOr, emptyOrs, isEmptyOr}
 use Rattle.formulas.specs.Built.{normalView, normalsOf}
-use Rattle.cells.specs.Marks.{Noted}
+use Rattle.cells.specs.Marks.{MarkNoted}
 use Rattle.clauses.specs.ClauseWalk.{formAt, NoneReached, Reached}
 use Rattle.clauses.proofs.Reading.{read-literal, read-forall, read-connective, run-before, run-split, zeros}
 
@@ -70,7 +70,7 @@ module _ (tags values : List ℕ) (x : ℕ) (memo : List ℕ) (s : Bool) (a : Re
         (λ o. a .right .at u (sym (getD-set-other memo x u 1 0 (eqb-false u x o)) ∙ q));
   }
 
-  pub noted : (after : List ℕ) (r : Bool) → Noted memo x s after r → Reached tags values after r (emptyOr (formAt tags values x))
+  pub noted : (after : List ℕ) (r : Bool) → MarkNoted memo x s after r → Reached tags values after r (emptyOr (formAt tags values x))
   noted after r n = record {
     is = n .same ∙ a .is;
     right = rw (n .kept) (by-test s (λ e. rw e (a .right)) (λ e. rw e (more-right e)));

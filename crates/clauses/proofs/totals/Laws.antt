@@ -19,7 +19,7 @@ use Rattle.clauses.specs.declared.totals.Totals as code
 use Rattle.formulas.specs.Clauses.{cnf, literalTotal}
 use Rattle.formulas.specs.Built.{normalView, normalsOf}
 use Rattle.formulas.specs.Totals.{Totals, startOf, combine, oneLiteral, cap, totals, totalsOf}
-use Rattle.clauses.specs.ClauseWalk.{formAt, asTotals, memoAt, runTotals, AllCounted, Kept, Memo, TotalsNoted, TermCounted, AskOperands, OperandsCounted}
+use Rattle.clauses.specs.ClauseWalk.{formAt, asTotals, memoAt, runTotals, AllCounted, Memo, TotalsNoted, TermCounted, AskOperands, OperandsCounted, SizesKept}
 use Rattle.formulas.proofs.Totals.{totals-are, cut-add, cap-combine}
 use Rattle.clauses.proofs.Reading.{no-literal, no-forall, before-at, run-split, rest-before, zeros, read-literal, read-forall, read-connective, run-before, connective-within}
 
@@ -96,10 +96,10 @@ counted-within sizes x h =
     (λ q. absurd (omega (arith, List·getD-eq-default sizes 0 (leb-true (length sizes) x q))))
     (λ q. leb-false (length sizes) x q)
 
-kept-all : (sizes after run : List ℕ) → Kept sizes after → AllCounted sizes run → AllCounted after run
+kept-all : (sizes after run : List ℕ) → SizesKept sizes after → AllCounted sizes run → AllCounted after run
 kept-all sizes after run kept all = record { at = λ i h. kept .at _ (all .at i h) }
 
-kept-set : (sizes : List ℕ) (x n : ℕ) → Kept sizes (set sizes x (n + 1))
+kept-set : (sizes : List ℕ) (x n : ℕ) → SizesKept sizes (set sizes x (n + 1))
 kept-set sizes x n = record {
   at = λ u h. by-test (eqb u x)
       (λ q. rw (eqb-true u x q) (omega (arith, getD-set-same sizes x (n + 1) 0 (rw (eqb-true u x q) at (counted-within sizes u h)))))
@@ -134,7 +134,7 @@ module _ (tags values : List ℕ) (x : ℕ) (counts sizes : List ℕ) (memo : Me
       before : (u : ℕ) → (u ≡ x → ⊥) → 0 < getD (set sizes x (t .literals + 1)) u 0 → 0 < getD sizes u 0
       before u n h = rw (getD-set-other sizes x u (t .literals + 1) 0 n) at h
 
-  noted-counted : (sizes₀ : List ℕ) → Kept sizes₀ sizes → (counts′ sizes′ : List ℕ) (r : code.Totals) → TotalsNoted counts sizes x t counts′ sizes′ r
+  noted-counted : (sizes₀ : List ℕ) → SizesKept sizes₀ sizes → (counts′ sizes′ : List ℕ) (r : code.Totals) → TotalsNoted counts sizes x t counts′ sizes′ r
       → TermCounted tags values x sizes₀ counts′ sizes′ r
   noted-counted sizes₀ kept counts′ sizes′ r n = record {
     is = ap asTotals (n .same) ∙ is;

@@ -4,7 +4,7 @@ use Prim.Native.Nat.{ℕ, _+_, _≤_, _<_}
 use mathlib.Core.Path.{_≡_, refl, sym, ap, ap₂, _∙_}
 use mathlib.Core.Bool.{true, false, not, _&&_}
 use mathlib.Core.List.{List}
-use lib.ListN.{length, getD, take}
+use lib.ListN.{length, take}
 use lib.Seq.{length-take-le, getD-take}
 use lib.Dec.{leb}
 use native.Mathlib.Omega.{arith}
@@ -19,7 +19,7 @@ use Rattle.formulas.specs.Normal.{Normal}
 use Rattle.formulas.specs.Clauses.{cnf, emptyOr, literalTotal}
 use Rattle.formulas.specs.Built.{normalAt, takenOut}
 use Rattle.clauses.specs.ClauseWalk.{formAt}
-use Rattle.clauses.specs.ClauseList.{Lent, Answered, countAnswer, listAnswer, held}
+use Rattle.clauses.specs.ClauseList.{Lent, countAnswer, listAnswer, held, ListAnswered}
 use Rattle.building.specs.declared.build.Built.the-variants as stands
 use Rattle.building.specs.Arrays.{poolOf, fits, normalIn, clausalIn, clausalFormIn}
 use Rattle.building.specs.Walk.{State, Left, Holds, NormalBuilt}
@@ -30,7 +30,7 @@ use Rattle.clausification.specs.ClauseSearch.{clausesIn}
 use Rattle.clausification.specs.ClausalForms.{Both, FormsBuilt}
 use Rattle.clausification.specs.declared.clausal_forms.Forms.{Forms}
 use Rattle.clausification.specs.declared.clausal_forms.Forms.the-variants.{At, Full}
-use Rattle.clausification.specs.Promises.{forallAt, followsIn, Sides, Leaves}
+use Rattle.clausification.specs.Promises.{forallAt, followsIn, Leaves, ForallSides}
 use Rattle.clausification.proofs.clausal_forms.Laws.{cell-same}
 use Rattle.clausification.proofs.clause_search.Laws.{clauses-listed}
 use Rattle.clausification.proofs.qnt_cnf.Follows.{follows-kept}
@@ -39,7 +39,7 @@ use Rattle.clausification.proofs.qnt_cnf.Follows.{follows-kept}
 module _ (f : Normal (List ℕ) ℕ) (a : Answer) (is : a ≡ listAnswer f) where
   list-refused : (a .code ≡ 0 → ⊥) → (next : Outcome (Unit {0}))
       → a ≡ answerOf (guard 13 0 0 (not (emptyOr f)) >> (guard 32 0 0 (withinLimits (cnf f)) >> next))
-  unfolding listAnswer countAnswer withinLimits guard _>>_ answerOf
+  unfolding listAnswer countAnswer withinLimits guard _>>_
   list-refused n next =
       by-test (emptyOr f) (λ o. rw (is, o))
       (λ o. by-test (leb (length (cnf f)) 2048 && leb (literalTotal (cnf f)) 8192)
@@ -104,7 +104,7 @@ module _ (n t : ℕ) (tags values : List ℕ) (f : Forms) (tags₂ values₂ : L
 pub ruleset parts = (all-within, all-within-values, all-part, all-part-values, source-within, source-within-values, source-part, source-part-values)
 
 -- ---- the answers
-module _ (tags values : List ℕ) (n l left r right : ℕ) (ask : Sides tags values n l left r right) where
+module _ (tags values : List ℕ) (n l left r right : ℕ) (ask : ForallSides tags values n l left r right) where
   passed : Passed tags values builtIn n
   passed = pool-passes tags values builtIn n (pool-accepts tags values builtIn n (ask .passed))
 
@@ -126,7 +126,7 @@ module _ (tags values : List ℕ) (n l left r right : ℕ) (ask : Sides tags val
     clausified-full e a is = let (kept, full) = rw e at built in record { answer = is ∙ ap answerOf (no-room full); left = kept }
 
     module _ (x : TermPlace) (m : ℕ) (y : TermPlace) (k : ℕ) (e : f ≡ At x m y k) (a : Answer) (literals ends : List ℕ)
-        (listed : Answered (listAnswer (formAt (take k tags₂) (take k values₂) (y .0))) (cnf (formAt (take k tags₂) (take k values₂) (y .0))) 8192 2048 a literals ends) where
+        (listed : ListAnswered (listAnswer (formAt (take k tags₂) (take k values₂) (y .0))) (cnf (formAt (take k tags₂) (take k values₂) (y .0))) 8192 2048 a literals ends) where
       forms : Both n left tags values x m y k tags₂ values₂
       forms = rw e at built
 
@@ -158,7 +158,7 @@ module _ (tags values : List ℕ) (n l left r right : ℕ) (ask : Sides tags val
       form-is : formAt (take k tags₂) (take k values₂) (y .0) ≡ clausalFormIn tags values n left
       form-is = ap₂ normalAt (clausal-holds .pool-is) (clausal-holds .place-is)
 
-      lists : Answered (listAnswer (clausalFormIn tags values n left)) (cnf (clausalFormIn tags values n left)) 8192 2048 a literals ends
+      lists : ListAnswered (listAnswer (clausalFormIn tags values n left)) (cnf (clausalFormIn tags values n left)) 8192 2048 a literals ends
       lists = rw form-is at listed
 
       pub clausified-refused : (a .code ≡ 0 → ⊥) → Leaves n tags values outcome a tags₂ values₂
@@ -199,10 +199,9 @@ module _ (tags values : List ℕ) (n l left r right : ℕ) (ask : Sides tags val
         unfolding clausified guard _>>_
         clausified-follows p is =
             let (some, limits, number) = list-made (clausalFormIn tags values n left) a (lists .answer) z in
-            record {
-              answer = is ∙ ap answerOf (follows-kept n tags values (take m tags₂) (take m values₂) same (passed .formed) l left r right (x .0)
-                  (ask .left-place) (ask .right-place) (ask .right-body) normal-form _ clauses-are ∙ sym (rw (room, some, limits)));
-              left = kept;
-            }
+            let follows : followsIn (take m tags₂) (take m values₂) n (x .0) l r right (clausesIn literals ends 0 (a .first)) ≡ outcome =
+            follows-kept n tags values (take m tags₂) (take m values₂) same (passed .formed) l left r right (x .0)
+            (ask .left-place) (ask .right-place) (ask .right-body) normal-form _ clauses-are ∙ sym (rw (room, some, limits)) in
+            record { answer = rw (← follows) is; left = kept }
 
 pub ruleset answers-of = (clausified-full, clausified-refused, clausified-follows)

@@ -22,7 +22,7 @@ use Rattle.bindings.specs.BindingAnswer.{nameOf}
 use Rattle.formulas.specs.PatternAnswer.{pairsOf}
 use Rattle.bindings.specs.declared.binding.FirstName.{FirstName}
 use Rattle.bindings.specs.declared.binding.FirstName.the-variants.{Name, Nothing}
-use Rattle.bindings.proofs.Outcomes.{answers, unless-name, unless-none}
+use Rattle.bindings.proofs.Outcomes.{answers-refused, answers-accepted, unless-name, unless-none}
 use Rattle.clausification.specs.QntCnf.{isClause, anyClause, takenFrom, clausesFrom, leftAndTaken, clauseFollows}
 use Rattle.clausification.specs.TakenSearch.{isSought}
 use Rattle.clausification.specs.declared.taken_search.Sought.the-variants.{Missing}
@@ -82,7 +82,7 @@ module _ (tags values : List ℕ) (n x l r body : ℕ) (cs : List (List ℕ)) (l
         pub follows-passes : h ≡ Nothing → pass tt ≡ followsIn tags values n x l r body cs
         follows-passes j = sym (taken-last ∙ unless-none 9 0 _ (sym j ∙ h-is))
 
-pub ruleset comparison = (answers, follows-new, follows-absent, follows-missing, follows-taken, follows-passes)
+pub ruleset comparison = (answers-refused, answers-accepted, follows-new, follows-absent, follows-missing, follows-taken, follows-passes)
 
 -- ---- over arrays whose first n cells are the pool's, with the left body's normal form at x
 module _ (n : ℕ) (tags values tags′ values′ : List ℕ) (s : Same n tags values tags′ values′) (formed : firstBad tags values n ≡ found.Nothing)

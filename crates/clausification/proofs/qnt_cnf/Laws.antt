@@ -8,6 +8,7 @@ use mathlib.Core.Option.{some}
 use lib.Dec.{eqb, ltb}
 use native.Mathlib.Omega.{arith}
 use borrow.Author.Tests.{eqb-true, eqb-false, ltb-true, not-true, not-false}
+use Rattle.answers.specs.Answer.{refused}
 use Rattle.cells.specs.declared.TermPlace.{TermPlace}
 use Rattle.cells.specs.ByPlace.{by-test}
 use Rattle.sorts.specs.Table.{builtIn}
@@ -31,7 +32,7 @@ use Rattle.formulas.proofs.matching.Laws.{Reads}
 use Rattle.meaning.proofs.patterns.Passes.{then-some}
 use Rattle.meaning.proofs.patterns.Trees.{AllTerms, two-are, quantifier-tree, operator-tree}
 use Rattle.clausification.specs.QntCnf.{implication, clausified, qntCnf}
-use Rattle.clausification.specs.Promises.{forallAt, Sides, Leaves, Clausified}
+use Rattle.clausification.specs.Promises.{forallAt, Leaves, Clausified, ForallSides}
 
 -- ---- `(or (not l) r)`
 module _ (tags values : List ℕ) (x : ℕ) (t : Two) (outer : andThen (operator tags values 37 x) twoOf ≡ twoIn t) where
@@ -116,7 +117,7 @@ module _ (tags values : List ℕ) (n x : ℕ) (t : Two) (form : implication tags
         unfolding qntCnf twoIn quantifierIn need guard _>>=_ _>>_
         sides-rest o o′ = rw (form, e, left, q-is, right, q′-is, not-false k o, not-false k′ o′)
 
-        pub sides-are : checkTerm tags values builtIn n x .code ≡ 0 → Sides tags values n (l .0) (b .0) (r .0) (b′ .0)
+        pub sides-are : checkTerm tags values builtIn n x .code ≡ 0 → ForallSides tags values n (l .0) (b .0) (r .0) (b′ .0)
         unfolding twoIn quantifierIn
         sides-are ok =
             let (pool-ok, term) = term-checked tags values builtIn n x ok in
@@ -131,16 +132,16 @@ module _ (tags values : List ℕ) (n x : ℕ) (t : Two) (form : implication tags
             }
 
 -- ---- what is left in the arrays
-module _ (n : ℕ) (tags values : List ℕ) (a : Answer) (o p : Outcome (Unit {0})) where
-  -- nothing is built
-  pub leaves-all : a ≡ answerOf o → o ≡ p → Leaves n tags values p a tags values
-  leaves-all is e = record {
-    answer = is ∙ ap answerOf e;
-    left = record { tags-size = refl; values-size = refl; tags-kept = refl; values-kept = refl };
-  }
+-- nothing is built
+pub leaves-all : (n : ℕ) (tags values : List ℕ) (a : Answer) (k m j : ℕ) (p : Outcome (Unit {0})) → a ≡ refused k m j → refuse k m j ≡ p → Leaves n tags values p a tags values
+leaves-all n tags values a k m j p is e = record {
+  answer = rw (← e) is;
+  left = record { tags-size = refl; values-size = refl; tags-kept = refl; values-kept = refl };
+}
 
+module _ (n : ℕ) (tags values : List ℕ) (a : Answer) (o p : Outcome (Unit {0})) where
   pub leaves-after : (tags′ values′ : List ℕ) → Leaves n tags values o a tags′ values′ → o ≡ p → Leaves n tags values p a tags′ values′
-  leaves-after tags′ values′ h e = record { answer = h .answer ∙ ap answerOf e; left = h .left }
+  leaves-after tags′ values′ h e = record { answer = rw (← e) (h .answer); left = h .left }
 
 pub ruleset matching = (leaves-all, sides-form, sides-left, sides-right, sides-kind, sides-right-kind)
 

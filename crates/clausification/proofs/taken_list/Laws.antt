@@ -26,7 +26,7 @@ use Rattle.bindings.specs.declared.binding.FirstName.{FirstName}
 use Rattle.bindings.proofs.binding.Laws.{pairs-end, pairs-next}
 use Rattle.clausification.specs.declared.taken_list.Collected.{Collected}
 use Rattle.clausification.specs.declared.taken_list.Collected.the-variants.{From, Full}
-use Rattle.clausification.specs.TakenList.{pairsFrom, takenAt, takenIn, Joined, Put, Right, Gathered, Walked}
+use Rattle.clausification.specs.TakenList.{pairsFrom, takenAt, takenIn, Joined, Gathered, PairsPut, CollectedMemo, CollectedBy}
 use Rattle.cells.proofs.marks.Laws.{zeros}
 use Rattle.clausification.proofs.taken_search.Laws.{look-below, has-append, unbound-left}
 
@@ -81,7 +81,7 @@ module _ (cells : List ℕ) (k : ℕ) (list : List ℕ) where
   put-start = record { size = refl; within = omega arith; passed = omega arith; left = λ a. refl }
 
   module _ (cells′ : List ℕ) (i j : ℕ) (p : Putting cells k list cells′ i j) where
-    pub put-end : length list - i < 2 → Put cells k (bindingsOf list) cells′ (From j)
+    pub put-end : length list - i < 2 → PairsPut cells k (bindingsOf list) cells′ (From j)
     unfolding has
     put-end h = record {
       within = p .within;
@@ -122,19 +122,19 @@ module _ (tags values : List ℕ) (x : ℕ) (v : NormalView) (is : v ≡ normalV
   operands-before b e run o = rw o (run-before tags values x v is b e)
 
 -- ---- what was put, and then collected
-pub put-from : (cells : List ℕ) (k : ℕ) (more : List Binding) (cells′ : List ℕ) (r : Collected) → Put cells k more cells′ r → (j : ℕ) → r ≡ From j → Joined cells k more cells′ j
+pub put-from : (cells : List ℕ) (k : ℕ) (more : List Binding) (cells′ : List ℕ) (r : Collected) → PairsPut cells k more cells′ r → (j : ℕ) → r ≡ From j → Joined cells k more cells′ j
 put-from cells k more cells′ r p j e = rw e at p
 
-pub walk-from : (tags values cells : List ℕ) (k : ℕ) (seen cells′ : List ℕ) (more : List Binding) (r : Collected) → Walked tags values cells k seen cells′ more r
+pub walk-from : (tags values cells : List ℕ) (k : ℕ) (seen cells′ : List ℕ) (more : List Binding) (r : Collected) → CollectedBy tags values cells k seen cells′ more r
     → (j : ℕ) → r ≡ From j → Gathered tags values cells k seen cells′ more j
 walk-from tags values cells k seen cells′ more r w j e = rw e at (w .leaves)
 
 module _ (tags values cells : List ℕ) (k : ℕ) (own : List Binding) (cells′ : List ℕ) (j : ℕ) (p : Joined cells k own cells′ j) where
-  pub right-joined : (seen : List ℕ) → Right tags values seen (pairsFrom cells k) → Right tags values seen (pairsFrom cells′ j)
+  pub right-joined : (seen : List ℕ) → CollectedMemo tags values seen (pairsFrom cells k) → CollectedMemo tags values seen (pairsFrom cells′ j)
   right-joined seen r = record { at = λ u e a h. p .joins .has-is a ∙ rw (r .at u e a h) }
 
-  composed : (seen cells″ : List ℕ) (inner : List Binding) (r : Collected) → Walked tags values cells′ j seen cells″ inner r
-      → Walked tags values cells k seen cells″ (own ++ inner) r
+  composed : (seen cells″ : List ℕ) (inner : List Binding) (r : Collected) → CollectedBy tags values cells′ j seen cells″ inner r
+      → CollectedBy tags values cells k seen cells″ (own ++ inner) r
   composed seen cells″ inner Full w = record { leaves = tt }
   composed seen cells″ inner (From i) w = record {
     leaves = record {
@@ -149,20 +149,20 @@ module _ (tags values cells : List ℕ) (k : ℕ) (own : List Binding) (cells′
   }
 
 -- nothing to collect, or no room
-unchanged : (tags values cells : List ℕ) (k : ℕ) (seen : List ℕ) → Right tags values seen (pairsFrom cells k) → (more : List Binding)
-    → ((a : Binding) → has (pairsFrom cells k) a ≡ (has (pairsFrom cells k) a || has more a)) → Walked tags values cells k seen cells more (From k)
+unchanged : (tags values cells : List ℕ) (k : ℕ) (seen : List ℕ) → CollectedMemo tags values seen (pairsFrom cells k) → (more : List Binding)
+    → ((a : Binding) → has (pairsFrom cells k) a ≡ (has (pairsFrom cells k) a || has more a)) → CollectedBy tags values cells k seen cells more (From k)
 unchanged tags values cells k seen r more same-pairs = record {
   leaves = record { joined = record { within = omega arith; joins = record { has-is = same-pairs } }; right = r };
 }
 
-pub walk-full : (tags values cells : List ℕ) (k : ℕ) (seen′ cells′ : List ℕ) (more : List Binding) → Walked tags values cells k seen′ cells′ more Full
+pub walk-full : (tags values cells : List ℕ) (k : ℕ) (seen′ cells′ : List ℕ) (more : List Binding) → CollectedBy tags values cells k seen′ cells′ more Full
 walk-full tags values cells k seen′ cells′ more = record { leaves = tt }
 
 -- ---- the walk at x
 module _ (tags values cells : List ℕ) (k x : ℕ) where
   -- the variables taken out of x are collected, and x is noted
-  noted : (seen cells′ : List ℕ) (more : List Binding) → takenAt tags values x ≡ more → (r : Collected) → Walked tags values cells k seen cells′ more r
-      → (seen′ : List ℕ) → seen′ ≡ set seen x 1 → Walked tags values cells k seen′ cells′ (takenAt tags values x) r
+  noted : (seen cells′ : List ℕ) (more : List Binding) → takenAt tags values x ≡ more → (r : Collected) → CollectedBy tags values cells k seen cells′ more r
+      → (seen′ : List ℕ) → seen′ ≡ set seen x 1 → CollectedBy tags values cells k seen′ cells′ (takenAt tags values x) r
   noted seen cells′ more e Full w seen′ is = record { leaves = tt }
   noted seen cells′ more e (From j) w seen′ is = record {
     leaves = record {
@@ -175,26 +175,26 @@ module _ (tags values cells : List ℕ) (k x : ℕ) where
     };
   }
 
-  module _ (seen : List ℕ) (r : Right tags values seen (pairsFrom cells k)) where
-    pub walk-seen : (m : ℕ) → m ≡ getD seen x 0 → m ≡ 1 → Walked tags values cells k seen cells (takenAt tags values x) (From k)
+  module _ (seen : List ℕ) (r : CollectedMemo tags values seen (pairsFrom cells k)) where
+    pub walk-seen : (m : ℕ) → m ≡ getD seen x 0 → m ≡ 1 → CollectedBy tags values cells k seen cells (takenAt tags values x) (From k)
     walk-seen m is e =
         unchanged tags values cells k seen r (takenAt tags values x)
         (λ a. by-test (has (takenAt tags values x) a) (λ o. rw (o, r .at x (sym is ∙ e) a o)) (λ o. rw o (sym (or-false _))))
 
-    pub walk-literal : (v : NormalView) → v ≡ normalView tags values x → v ≡ Literal → Walked tags values cells k seen cells (takenAt tags values x) (From k)
+    pub walk-literal : (v : NormalView) → v ≡ normalView tags values x → v ≡ Literal → CollectedBy tags values cells k seen cells (takenAt tags values x) (From k)
     unfolding has
     walk-literal v is e = unchanged tags values cells k seen r (takenAt tags values x) (λ a. rw (taken-literal tags values x v is e) (sym (or-false _)))
 
   module _ (v : NormalView) (is : v ≡ normalView tags values x) where
     pub walk-run : (b : Bool) → v ≡ Connective b → (run : List ℕ) → run ≡ operandsOf tags values x
-        → (seen cells′ : List ℕ) (r : Collected) → Walked tags values cells k seen cells′ (takenIn tags values run) r
-        → (seen′ : List ℕ) → seen′ ≡ set seen x 1 → Walked tags values cells k seen′ cells′ (takenAt tags values x) r
+        → (seen cells′ : List ℕ) (r : Collected) → CollectedBy tags values cells k seen cells′ (takenIn tags values run) r
+        → (seen′ : List ℕ) → seen′ ≡ set seen x 1 → CollectedBy tags values cells k seen′ cells′ (takenAt tags values x) r
     walk-run b e run o seen cells′ r w = noted seen cells′ (takenIn tags values run) (rw o (taken-run tags values x v is b e)) r w
 
     pub walk-forall : (body : TermPlace) → v ≡ Forall body → (list : List ℕ) → list ≡ pairsOf tags values x
-        → (cells₁ : List ℕ) (own : Collected) → Put cells k (bindingsOf list) cells₁ own → (j : ℕ) → own ≡ From j
-        → (seen cells′ : List ℕ) (r : Collected) → Walked tags values cells₁ j seen cells′ (takenAt tags values (body .0)) r
-        → (seen′ : List ℕ) → seen′ ≡ set seen x 1 → Walked tags values cells k seen′ cells′ (takenAt tags values x) r
+        → (cells₁ : List ℕ) (own : Collected) → PairsPut cells k (bindingsOf list) cells₁ own → (j : ℕ) → own ≡ From j
+        → (seen cells′ : List ℕ) (r : Collected) → CollectedBy tags values cells₁ j seen cells′ (takenAt tags values (body .0)) r
+        → (seen′ : List ℕ) → seen′ ≡ set seen x 1 → CollectedBy tags values cells k seen′ cells′ (takenAt tags values x) r
     walk-forall body e list l cells₁ own p j q seen cells′ r w =
         noted seen cells′ (bindingsOf list ++ takenAt tags values (body .0)) (rw l (taken-forall tags values x v is body e)) r
         (composed tags values cells k (bindingsOf list) cells₁ j (put-from cells k _ cells₁ own p j q) seen cells′ (takenAt tags values (body .0)) r w)
@@ -206,7 +206,7 @@ run-none tags values [] e = refl
 run-none tags values (u ∷ run) e = absurd (omega arith)
 
 module _ (tags values cells : List ℕ) (k : ℕ) (run : List ℕ) where
-  pub run-end : (seen : List ℕ) → Right tags values seen (pairsFrom cells k) → length run ≡ 0 → Walked tags values cells k seen cells (takenIn tags values run) (From k)
+  pub run-end : (seen : List ℕ) → CollectedMemo tags values seen (pairsFrom cells k) → length run ≡ 0 → CollectedBy tags values cells k seen cells (takenIn tags values run) (From k)
   unfolding has
   run-end seen r e = unchanged tags values cells k seen r (takenIn tags values run) (λ a. rw (run-none tags values run e) (sym (or-false _)))
 
@@ -217,10 +217,10 @@ module _ (tags values cells : List ℕ) (k : ℕ) (run : List ℕ) where
         rw (take-all (length run - 1) (drop 1 run) (rw (length-drop 1 run) (omega arith)))
         (ap (takenIn tags values) (drop-cons run 0 0 (omega arith)))
 
-    pub run-on : (seen cells′ : List ℕ) (first : Collected) → Walked tags values cells k seen cells′ (takenAt tags values (getD run 0 0)) first
+    pub run-on : (seen cells′ : List ℕ) (first : Collected) → CollectedBy tags values cells k seen cells′ (takenAt tags values (getD run 0 0)) first
         → (j : ℕ) → first ≡ From j → (seen′ cells″ : List ℕ) (r : Collected)
-        → Walked tags values cells′ j seen′ cells″ (takenIn tags values (take (length run - 1) (drop 1 run))) r
-        → Walked tags values cells k seen′ cells″ (takenIn tags values run) r
+        → CollectedBy tags values cells′ j seen′ cells″ (takenIn tags values (take (length run - 1) (drop 1 run))) r
+        → CollectedBy tags values cells k seen′ cells″ (takenIn tags values run) r
     run-on seen cells′ first w j e seen′ cells″ r w′ =
         rw run-is
         (composed tags values cells k _ cells′ j (walk-from tags values cells k seen cells′ _ first w j e .joined) seen′ cells″ _ r w′)
@@ -235,10 +235,10 @@ neither-taken left bs a s h is e t q = rw (has-append left bs (pair a s), ← is
 pub ruleset neither = (unbound-left, neither-taken)
 
 -- ---- the whole walk, from a fresh memo and no pairs
-pub fresh : (tags values : List ℕ) (k : ℕ) (list : List Binding) → Right tags values (replicate k 0) list
+pub fresh : (tags values : List ℕ) (k : ℕ) (list : List Binding) → CollectedMemo tags values (replicate k 0) list
 fresh tags values k list = record { at = λ u e a h. absurd (omega (arith, zeros k u)) }
 
-module _ (tags values : List ℕ) (n x : ℕ) (seen cells : List ℕ) (r : Collected) (w : Walked tags values (replicate n 0) n seen cells (takenAt tags values x) r)
+module _ (tags values : List ℕ) (n x : ℕ) (seen cells : List ℕ) (r : Collected) (w : CollectedBy tags values (replicate n 0) n seen cells (takenAt tags values x) r)
     (k : ℕ) (e : r ≡ From k) where
   collected-are : (a : Binding) → has (bindingsOf (drop k cells)) a ≡ has (taken bindingsOf (formAt tags values x)) a
   unfolding pairsFrom takenAt bindingsOf has

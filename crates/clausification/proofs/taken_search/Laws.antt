@@ -14,7 +14,7 @@ use Rattle.cells.specs.declared.TermPlace.{TermPlace}
 use Rattle.cells.specs.declared.SortPlace.{SortPlace}
 use Rattle.cells.specs.ByPlace.{by-test}
 use Rattle.cells.specs.Cell.{operandsOf}
-use Rattle.free_variables.specs.Names.{freeIn, Listed}
+use Rattle.free_variables.specs.Names.{freeIn, NamesMarked}
 use Rattle.formulas.specs.declared.view.NormalView.{NormalView}
 use Rattle.formulas.specs.declared.view.NormalView.the-variants.{Literal, Connective, Forall}
 use Rattle.formulas.specs.Formula.{allBefore}
@@ -35,7 +35,7 @@ use Rattle.clausification.specs.declared.taken_search.Sought.{Sought}
 use Rattle.clausification.specs.declared.taken_search.Sought.the-variants.{Pair, Missing}
 use Rattle.clausification.specs.declared.taken_search.Step.{Step}
 use Rattle.clausification.specs.declared.taken_search.Step.the-variants as step
-use Rattle.clausification.specs.TakenSearch.{isSought, Tabled, foundAt, foundIn, Means, Right, Answered, afterNote, Noted}
+use Rattle.clausification.specs.TakenSearch.{isSought, Tabled, foundAt, foundIn, afterNote, StepMeans, SearchMemo, SearchAnswered, SearchNoted}
 
 -- ---- the first pair of a list that is sought
 first-same : (a s : ℕ) (l : List Binding) → has l (pair a s) ≡ true → nameOf (firstOf (λ b. same b (pair a s)) l) ≡ Name a
@@ -73,14 +73,14 @@ pub ruleset seeks = (sought-here, sought-nowhere, sought-missing)
 
 -- the table that a search for a missing variable has
 pub tabled-missing : (tags values names : List ℕ) (sought : Sought) → Tabled tags values names sought → (t : TermPlace) → sought ≡ Missing t
-    → Listed tags values names (freeIn tags values (t .0))
+    → NamesMarked tags values names (freeIn tags values (t .0))
 tabled-missing tags values names sought tabled t e = rw e at tabled
 
 module _ (tags values names : List ℕ) (sought : Sought) where
   pub tabled-pair : (a : ℕ) (s : SortPlace) → sought ≡ Pair a s → Tabled tags values names sought
   tabled-pair a s e = rw e tt
 
-  pub tabled-there : (t : TermPlace) → sought ≡ Missing t → Listed tags values names (freeIn tags values (t .0)) → Tabled tags values names sought
+  pub tabled-there : (t : TermPlace) → sought ≡ Missing t → NamesMarked tags values names (freeIn tags values (t .0)) → Tabled tags values names sought
   tabled-there t e l = rw e l
 
 pub ruleset tables = (tabled-pair, tabled-there)
@@ -105,7 +105,7 @@ pub look-below : (tags values : List ℕ) (x : ℕ) (v : NormalView) → v ≡ n
 look-below tags values x v is body e = body-before tags values x body (sym e ∙ is)
 
 module _ (tags values : List ℕ) (test : Binding → Bool) (x : ℕ) where
-  pub look-seen : (seen : List ℕ) → Right tags values test seen → (m : ℕ) → m ≡ getD seen x 0 → m ≡ 1 → Nothing ≡ foundAt tags values test x
+  pub look-seen : (seen : List ℕ) → SearchMemo tags values test seen → (m : ℕ) → m ≡ getD seen x 0 → m ≡ 1 → Nothing ≡ foundAt tags values test x
   look-seen seen right m is e = right .at x (sym is ∙ e)
 
   module _ (v : NormalView) (is : v ≡ normalView tags values x) where
@@ -135,56 +135,56 @@ pub ruleset looks = (look-seen, look-literal, run-before, look-run, look-below, 
 
 -- ---- noting an answer; past the end of the memo nothing is set
 module _ (seen : List ℕ) (x : ℕ) (f : FirstName) where
-  pub note-found : (a : ℕ) → f ≡ Name a → Noted seen x f seen (Name a)
+  pub note-found : (a : ℕ) → f ≡ Name a → SearchNoted seen x f seen (Name a)
   note-found a e = record { same = sym e; kept = rw e }
 
   module _ (e : f ≡ Nothing) where
-    pub note-nothing : Noted seen x f (set seen x 1) Nothing
+    pub note-nothing : SearchNoted seen x f (set seen x 1) Nothing
     note-nothing = record { same = sym e; kept = rw e }
 
-    pub note-past : length seen ≤ x → Noted seen x f seen Nothing
+    pub note-past : length seen ≤ x → SearchNoted seen x f seen Nothing
     note-past h = record { same = sym e; kept = rw (e, set-out seen x 1 h) }
 
 pub ruleset notes = (note-found, note-nothing, note-past)
 
 -- ---- the answer at x, from the step s at x
-module _ (tags values : List ℕ) (test : Binding → Bool) (x : ℕ) (s : Step) (m : Means tags values test x s) where
-  module _ (seen : List ℕ) (right : Right tags values test seen) where
-    pub step-found : (a : ℕ) → s ≡ step.Found a → Answered tags values test seen (Name a) (foundAt tags values test x)
+module _ (tags values : List ℕ) (test : Binding → Bool) (x : ℕ) (s : Step) (m : StepMeans tags values test x s) where
+  module _ (seen : List ℕ) (right : SearchMemo tags values test seen) where
+    pub step-found : (a : ℕ) → s ≡ step.Found a → SearchAnswered tags values test seen (Name a) (foundAt tags values test x)
     step-found a e = record { is = rw e at m; right = right }
 
-    pub step-nothing : s ≡ step.Nothing → Answered tags values test seen Nothing (foundAt tags values test x)
+    pub step-nothing : s ≡ step.Nothing → SearchAnswered tags values test seen Nothing (foundAt tags values test x)
     step-nothing e = record { is = rw e at m; right = right }
 
   module _ (u : TermPlace) (e : s ≡ step.Body u) where
     pub step-below : u .0 < x
     step-below = (rw e at m) .0
 
-    pub step-body : (seen : List ℕ) (r : FirstName) → Answered tags values test seen r (foundAt tags values test (u .0)) → Answered tags values test seen r (foundAt tags values test x)
+    pub step-body : (seen : List ℕ) (r : FirstName) → SearchAnswered tags values test seen r (foundAt tags values test (u .0)) → SearchAnswered tags values test seen r (foundAt tags values test x)
     step-body seen r a = record { is = a .is ∙ (rw e at m) .1; right = a .right }
 
   module _ (e : s ≡ step.Run) (run : List ℕ) (o : run ≡ operandsOf tags values x) where
     pub step-before : allBefore x run ≡ true
     step-before = rw o ((rw e at m) .0)
 
-    pub step-run : (seen : List ℕ) (r : FirstName) → Answered tags values test seen r (foundIn tags values test run) → Answered tags values test seen r (foundAt tags values test x)
+    pub step-run : (seen : List ℕ) (r : FirstName) → SearchAnswered tags values test seen r (foundIn tags values test run) → SearchAnswered tags values test seen r (foundAt tags values test x)
     step-run seen r a = record { is = a .is ∙ rw o ((rw e at m) .1); right = a .right }
 
 module _ (tags values : List ℕ) (test : Binding → Bool) (x : ℕ) (seen : List ℕ) (f : FirstName)
-    (a : Answered tags values test seen f (foundAt tags values test x)) where
+    (a : SearchAnswered tags values test seen f (foundAt tags values test x)) where
   -- a right `Nothing` keeps the memo right
-  more-right : f ≡ Nothing → Right tags values test (set seen x 1)
+  more-right : f ≡ Nothing → SearchMemo tags values test (set seen x 1)
   more-right e = record {
     at = λ u q. by-test (eqb u x)
         (λ o. rw (eqb-true u x o) (sym e ∙ a .is))
         (λ o. a .right .at u (sym (getD-set-other seen x u 1 0 (eqb-false u x o)) ∙ q));
   }
 
-  after-right : (g : FirstName) → f ≡ g → Right tags values test (afterNote g seen x)
+  after-right : (g : FirstName) → f ≡ g → SearchMemo tags values test (afterNote g seen x)
   after-right (Name b) e = a .right
   after-right Nothing e = more-right e
 
-  pub noted : (after : List ℕ) (r : FirstName) → Noted seen x f after r → Answered tags values test after r (foundAt tags values test x)
+  pub noted : (after : List ℕ) (r : FirstName) → SearchNoted seen x f after r → SearchAnswered tags values test after r (foundAt tags values test x)
   noted after r n = record { is = n .same ∙ a .is; right = rw (n .kept) (after-right f refl) }
 
 -- ---- the walk along a run
@@ -203,28 +203,28 @@ run-none tags values test [] e = refl
 run-none tags values test (u ∷ run) e = absurd (omega arith)
 
 module _ (tags values : List ℕ) (test : Binding → Bool) (run : List ℕ) where
-  pub run-end : (seen : List ℕ) → Right tags values test seen → length run ≡ 0 → Answered tags values test seen Nothing (foundIn tags values test run)
+  pub run-end : (seen : List ℕ) → SearchMemo tags values test seen → length run ≡ 0 → SearchAnswered tags values test seen Nothing (foundIn tags values test run)
   run-end seen right e = record { is = run-none tags values test run e; right = right }
 
-  module _ (some : length run ≡ 0 → ⊥) (seen : List ℕ) (f : FirstName) (a : Answered tags values test seen f (foundAt tags values test (getD run 0 0))) where
+  module _ (some : length run ≡ 0 → ⊥) (seen : List ℕ) (f : FirstName) (a : SearchAnswered tags values test seen f (foundAt tags values test (getD run 0 0))) where
     run-is : foundIn tags values test run ≡ orElse f (foundIn tags values test (take (length run - 1) (drop 1 run)))
     unfolding foundIn foundAt
     run-is =
         rw (take-all (length run - 1) (drop 1 run) (rw (length-drop 1 run) (omega arith)), a .is)
         (ap (foundIn tags values test) (drop-cons run 0 0 (omega arith)) ∙ name-append test _ _)
 
-    pub run-found : (b : ℕ) → f ≡ Name b → Answered tags values test seen (Name b) (foundIn tags values test run)
+    pub run-found : (b : ℕ) → f ≡ Name b → SearchAnswered tags values test seen (Name b) (foundIn tags values test run)
     run-found b e = record { is = rw (run-is, e); right = a .right }
 
     pub run-on : f ≡ Nothing → (seen′ : List ℕ) (r : FirstName)
-        → Answered tags values test seen′ r (foundIn tags values test (take (length run - 1) (drop 1 run)))
-        → Answered tags values test seen′ r (foundIn tags values test run)
+        → SearchAnswered tags values test seen′ r (foundIn tags values test (take (length run - 1) (drop 1 run)))
+        → SearchAnswered tags values test seen′ r (foundIn tags values test run)
     run-on e seen′ r b = record { is = rw (run-is, e) (b .is); right = b .right }
 
 pub ruleset walks = (step-found, step-nothing, step-body, step-run, noted, run-end, run-found, run-on)
 
 -- ---- the whole walk, from a fresh memo
-pub fresh : (tags values : List ℕ) (test : Binding → Bool) (k : ℕ) → Right tags values test (replicate k 0)
+pub fresh : (tags values : List ℕ) (test : Binding → Bool) (k : ℕ) → SearchMemo tags values test (replicate k 0)
 fresh tags values test k = record { at = λ u e. absurd (omega (arith, zero-at u)) }
   where
     zero-at : (u : ℕ) → getD {A = ℕ} (replicate k 0) u 0 ≡ 0
@@ -233,7 +233,7 @@ fresh tags values test k = record { at = λ u e. absurd (omega (arith, zero-at u
         (λ e. getD-replicate k u 0 0 (ltb-true u k e))
         (λ e. List·getD-eq-default (replicate k 0) 0 (rw (length-replicate {A = ℕ} k 0) (ltb-false u k e)))
 
-pub whole : (tags values : List ℕ) (test : Binding → Bool) (seen : List ℕ) (r : FirstName) (x : ℕ) → Answered tags values test seen r (foundAt tags values test x)
+pub whole : (tags values : List ℕ) (test : Binding → Bool) (seen : List ℕ) (r : FirstName) (x : ℕ) → SearchAnswered tags values test seen r (foundAt tags values test x)
     → r ≡ nameOf (firstOf test (taken bindingsOf (formAt tags values x)))
 unfolding foundAt
 whole tags values test seen r x a = a .is

@@ -1,12 +1,11 @@
 -- Laws of how a term is read, one for each way out of the code.
 -- Assumes nothing.
-use Prim.Native.Nat.{ℕ, suc, _+_, _≤_, _<_}
-use mathlib.Core.Path.{_≡_, refl}
+use Prim.Native.Nat.{ℕ, _+_, _≤_, _<_}
+use mathlib.Core.Path.{_≡_}
 use mathlib.Core.Bool.{Bool, true, false, not}
-use mathlib.Core.List.{List, [], _∷_}
+use mathlib.Core.List.{List}
 use lib.ListN.{length, getD, drop, drop-of-length-le}
 use lib.Seq.{drop-cons}
-use lib.Dec.{ltb, eqb}
 use native.Mathlib.Omega.{arith}
 use native.Mathlib.Numerals.{add-one}
 use borrow.Author.Tests.{lt-ltb, le-ltb, eq-eqb, ne-eqb, not-true, not-false}
@@ -16,7 +15,6 @@ use Rattle.formulas.specs.Formula.{allBefore, equality, connective, quan
 use Rattle.formulas.specs.Built.{normalView}
 use Rattle.formulas.specs.declared.view.View.{View}
 use Rattle.formulas.specs.declared.view.View.the-variants.{Opaque, Not, AndOr, Implies, Ite, Iff, Quantifier}
-use Rattle.formulas.specs.declared.view.NormalView.{NormalView}
 use Rattle.formulas.specs.declared.view.NormalView.the-variants.{Literal, Connective, Forall}
 
 -- w says whether the operands from i on stand before t

@@ -14,11 +14,11 @@ use Rattle.cells.specs.ByPlace.{by-test}
 use Rattle.cells.specs.declared.Found.{Found}
 use Rattle.cells.specs.declared.Found.the-variants as found
 use Rattle.descriptions.specs.Description.{find}
-use Rattle.free_variables.specs.Names.{mayBeFree, freeIn, Listed}
+use Rattle.free_variables.specs.Names.{mayBeFree, freeIn, NamesMarked}
 use Rattle.free_variables.proofs.term_names.Laws.{not-listed}
 use Rattle.bindings.specs.Binding.{Binding, bindingsOf, has, firstOf}
 use Rattle.free_variables.specs.BindingFree.{bindingFree, freeAt}
-use Rattle.bindings.specs.BindingAnswer.{pair, pairAt, nameOf}
+use Rattle.bindings.specs.BindingAnswer.{pairAt, nameOf}
 use Rattle.bindings.specs.declared.binding.FirstName.{FirstName}
 use Rattle.bindings.specs.declared.binding.FirstName.the-variants.{Name, Nothing}
 use Rattle.bindings.proofs.binding.Laws.{pairs-end, pairs-next, first-next}
@@ -87,7 +87,7 @@ module _ (there free s : Bool) (is : s ≡ free) where
 pub ruleset missing = (missing-closed, missing-open)
 
 -- a pair whose bucket is not set: its variable, if it stands in the pool, is a variable of that name and sort
-free-unlisted : (tags values names : List ℕ) (n t : ℕ) → Listed tags values names (freeIn tags values t) → (a : Binding) → mayBeFree names (a .name) (a .sort) ≡ false
+free-unlisted : (tags values names : List ℕ) (n t : ℕ) → NamesMarked tags values names (freeIn tags values t) → (a : Binding) → mayBeFree names (a .name) (a .sort) ≡ false
     → bindingFree tags values n t a ≡ false
 unfolding bindingFree
 free-unlisted tags values names n t l a e = at (find tags values n 21 (a .sort ∷ (a .name ∷ []))) refl
@@ -96,7 +96,7 @@ free-unlisted tags values names n t l a e = at (find tags values n 21 (a .sort �
     at found.Nothing q = refl
     at (found.At v) q = let w = stands tags values n (a .name) (a .sort) v q in not-listed tags values names t l v (w .tag) (rw (w .name-is, w .sort-is) e)
 
-not-missing : (tags values names : List ℕ) (n t : ℕ) → Listed tags values names (freeIn tags values t) → (other : List Binding) (a : Binding)
+not-missing : (tags values names : List ℕ) (n t : ℕ) → NamesMarked tags values names (freeIn tags values t) → (other : List Binding) (a : Binding)
     → (not (has other a) && mayBeFree names (a .name) (a .sort)) ≡ false → isMissing tags values n t other a ≡ false
 not-missing tags values names n t l other a e =
     by-test (has other a)
@@ -158,7 +158,7 @@ module _ (w : FirstName) (test : Binding → Bool) (l : List ℕ) (i : ℕ) (h :
   group-fits g q = rw (q, whole, length-take 62 (drop i l), length-drop i l) (omega arith, omega arith)
 
 -- a pair that is not missing by the table
-pub skip-next : (tags values names : List ℕ) (n t : ℕ) → Listed tags values names (freeIn tags values t) → (other : List Binding) (w : FirstName) (l : List ℕ) (i : ℕ)
+pub skip-next : (tags values names : List ℕ) (n t : ℕ) → NamesMarked tags values names (freeIn tags values t) → (other : List Binding) (w : FirstName) (l : List ℕ) (i : ℕ)
     → w ≡ nameOf (firstOf (isMissing tags values n t other) (bindingsOf (drop i l))) → 2 ≤ length l - i
     → (r : Bool) → r ≡ (not (has other (pairAt l i)) && mayBeFree names (getD l i 0) (getD l (i + 1) 0)) → r ≡ false
     → w ≡ nameOf (firstOf (isMissing tags values n t other) (bindingsOf (drop (i + 2) l)))

@@ -22,16 +22,16 @@ use Rattle.free_variables.specs.FreeMemo.{pairSort, pairsBind, freeBelow
 use Rattle.cells.proofs.marks.Laws.{zeros}
 use Rattle.free_variables.proofs.free_vars.Laws.{any-none, any-first, no-value, first-value, look-self, look-low}
 use Rattle.free_variables.specs.Names.{freeIn}
-use Rattle.free_variables.specs.NamesWalk.{freeAmong, freeUnder, freeInLet, Exactly, Means}
-use Rattle.free_variables.specs.declared.term_names.Below.{Below}
-use Rattle.free_variables.specs.declared.term_names.Below.the-variants as below
+use Rattle.free_variables.specs.NamesWalk.{freeAmong, freeUnder, freeInLet, Exactly, FreeFromMeans}
+use Rattle.free_variables.specs.declared.term_names.FreeFrom.{FreeFrom}
+use Rattle.free_variables.specs.declared.term_names.FreeFrom.the-variants as below
 use Rattle.bindings.specs.Binding.{Binding, bindingsOf, same}
 use Rattle.free_variables.specs.BindingFree.{bindingFree, freeAt}
 use Rattle.bindings.specs.BindingAnswer.{pair, pairAt}
 use Rattle.bindings.proofs.binding.Laws.{pairs-end, pairs-next, same-is}
 use Rattle.free_variables.specs.Mask.{maskOf, without, boundIn}
-use Rattle.free_variables.specs.MaskWalk.{bindingBelow, maskAmong, Right, Walked, Noted}
-use Rattle.free_variables.proofs.free_masks.Variables.{Variable, stands}
+use Rattle.free_variables.specs.MaskWalk.{bindingBelow, maskAmong, MaskMemo, MaskWalked, MaskNoted}
+use Rattle.free_variables.proofs.free_masks.Variables.{stands}
 use Rattle.free_variables.proofs.free_masks.Masks.{mask-fits, mask-same, mask-none, mask-less, mask-or, mask-without, without-le}
 
 -- ---- the pairs of a list: none, or the first and the rest
@@ -161,10 +161,10 @@ pub ruleset variable = (variable-none, variable-lost, variable-here, variable-el
 
 -- ---- noting a mask; past the end of the memo nothing is set
 module _ (memo : List ℕ) (t mask : ℕ) where
-  pub note-here : Noted memo t mask (set memo t (mask + 1)) mask
+  pub note-here : MaskNoted memo t mask (set memo t (mask + 1)) mask
   note-here = record { same = refl; kept = refl }
 
-  pub note-past : length memo ≤ t → Noted memo t mask memo mask
+  pub note-past : length memo ≤ t → MaskNoted memo t mask memo mask
   note-past h = record { same = refl; kept = sym (set-out memo t (mask + 1) h) }
 
 pub ruleset notes = (note-here, note-past)
@@ -231,8 +231,8 @@ module _ (tags values : List ℕ) (n t : ℕ) where
       binding-is _ w a ∙ (let-found u f ∙ ap₂ _||_ (among-found (letValues (operandsOf tags values t)) f) (under-found u a f refl))
 
 -- a mask noted for t keeps the memo right
-module _ (tags values : List ℕ) (n t : ℕ) (list : List ℕ) (memo : List ℕ) (right : Right tags values n list memo) (mask : ℕ) (is : mask ≡ maskOf (bindingFree tags values n t) (bindingsOf list)) where
-  more-right : Right tags values n list (set memo t (mask + 1))
+module _ (tags values : List ℕ) (n t : ℕ) (list : List ℕ) (memo : List ℕ) (right : MaskMemo tags values n list memo) (mask : ℕ) (is : mask ≡ maskOf (bindingFree tags values n t) (bindingsOf list)) where
+  more-right : MaskMemo tags values n list (set memo t (mask + 1))
   more-right = record {
     at = λ u o. by-test (eqb u t)
         (λ e. here u (eqb-true u t e) o)
@@ -245,10 +245,10 @@ module _ (tags values : List ℕ) (n t : ℕ) (list : List ℕ) (memo : List ℕ
           (λ b. let q : getD (set memo t (mask + 1)) t 0 - 1 ≡ mask = rw (getD-set-same memo t (mask + 1) 0 (ltb-true _ _ b)) (omega arith) in rw e (q ∙ is))
           (λ b. let q : set memo t (mask + 1) ≡ memo = set-out memo t (mask + 1) (ltb-false _ _ b) in rw q (right .at u (λ z. o (rw q z))))
 
-  noted : (after : List ℕ) (r : ℕ) → Noted memo t mask after r → Walked tags values n list after r (maskOf (bindingFree tags values n t) (bindingsOf list))
+  noted : (after : List ℕ) (r : ℕ) → MaskNoted memo t mask after r → MaskWalked tags values n list after r (maskOf (bindingFree tags values n t) (bindingsOf list))
   noted after r m = record { is = m .same ∙ is; right = rw (m .kept) more-right }
 
-module _ (tags values : List ℕ) (t : ℕ) (s : Below) (m : Means tags values t s) where
+module _ (tags values : List ℕ) (t : ℕ) (s : FreeFrom) (m : FreeFromMeans tags values t s) where
   pub variable-tag : s ≡ below.Variable → getD tags t 0 ≡ 21
   variable-tag e = (rw e at m) .0
 
@@ -259,43 +259,43 @@ module _ (tags values : List ℕ) (t : ℕ) (s : Below) (m : Means tags values t
   let-below u e = (rw e at m) .0
 
 module _ (tags values : List ℕ) (n t : ℕ) (list : List ℕ) where
-  pub walk-known : (memo : List ℕ) → Right tags values n list memo → (known : ℕ) → known ≡ getD memo t 0 → (known ≡ 0 → ⊥)
-      → Walked tags values n list memo (known - 1) (maskOf (bindingFree tags values n t) (bindingsOf list))
+  pub walk-known : (memo : List ℕ) → MaskMemo tags values n list memo → (known : ℕ) → known ≡ getD memo t 0 → (known ≡ 0 → ⊥)
+      → MaskWalked tags values n list memo (known - 1) (maskOf (bindingFree tags values n t) (bindingsOf list))
   walk-known memo right known is o = record { is = rw is (right .at t (λ z. o (is ∙ z))); right = right }
 
-  module _ (s : Below) (m : Means tags values t s) where
-    module _ (memo : List ℕ) (right : Right tags values n list memo) where
-      pub walk-nothing : s ≡ below.Nothing → (after : List ℕ) (r : ℕ) → Noted memo t 0 after r
-          → Walked tags values n list after r (maskOf (bindingFree tags values n t) (bindingsOf list))
+  module _ (s : FreeFrom) (m : FreeFromMeans tags values t s) where
+    module _ (memo : List ℕ) (right : MaskMemo tags values n list memo) where
+      pub walk-nothing : s ≡ below.Nothing → (after : List ℕ) (r : ℕ) → MaskNoted memo t 0 after r
+          → MaskWalked tags values n list after r (maskOf (bindingFree tags values n t) (bindingsOf list))
       walk-nothing e =
           noted tags values n t list memo right 0
           (sym (mask-none _ _ (λ a. binding-is tags values n t _ (rw e at m) a ∙ no-found tags values n t (find tags values n 21 (a .sort ∷ (a .name ∷ []))))))
 
       pub walk-variable : s ≡ below.Variable → (mask : ℕ) → mask ≡ maskOf (bindingFree tags values n t) (bindingsOf list)
-          → (after : List ℕ) (r : ℕ) → Noted memo t mask after r → Walked tags values n list after r (maskOf (bindingFree tags values n t) (bindingsOf list))
+          → (after : List ℕ) (r : ℕ) → MaskNoted memo t mask after r → MaskWalked tags values n list after r (maskOf (bindingFree tags values n t) (bindingsOf list))
       walk-variable e mask is = noted tags values n t list memo right mask is
 
     module _ (u : TermPlace) (e : s ≡ below.Body u) where
-      pub walk-body : (memo : List ℕ) (inside : ℕ) → Walked tags values n list memo inside (maskOf (bindingFree tags values n (u .0)) (bindingsOf list))
+      pub walk-body : (memo : List ℕ) (inside : ℕ) → MaskWalked tags values n list memo inside (maskOf (bindingFree tags values n (u .0)) (bindingsOf list))
           → (run : List ℕ) → run ≡ operandsOf tags values t → (tag : ℕ) → tag ≡ getD tags t 0
           → (mask : ℕ) → mask ≡ without (boundIn values (eqb tag 27) run) (bindingsOf list) inside
-          → (after : List ℕ) (r : ℕ) → Noted memo t mask after r → Walked tags values n list after r (maskOf (bindingFree tags values n t) (bindingsOf list))
+          → (after : List ℕ) (r : ℕ) → MaskNoted memo t mask after r → MaskWalked tags values n list after r (maskOf (bindingFree tags values n t) (bindingsOf list))
       walk-body memo inside w run o tag k mask is =
           noted tags values n t list memo (w .right) mask
           (is ∙ rw (w .is, o, k) (mask-without _ _ (bindingsOf list))
           ∙ sym (mask-same _ _ (bindingsOf list) (under-is tags values n t (u .0) ((rw e at m) .1))))
 
     pub walk-run : s ≡ below.Run → (run : List ℕ) → run ≡ operandsOf tags values t
-        → (memo : List ℕ) (mask : ℕ) → Walked tags values n list memo mask (maskAmong tags values n list t run)
-        → (after : List ℕ) (r : ℕ) → Noted memo t mask after r → Walked tags values n list after r (maskOf (bindingFree tags values n t) (bindingsOf list))
+        → (memo : List ℕ) (mask : ℕ) → MaskWalked tags values n list memo mask (maskAmong tags values n list t run)
+        → (after : List ℕ) (r : ℕ) → MaskNoted memo t mask after r → MaskWalked tags values n list after r (maskOf (bindingFree tags values n t) (bindingsOf list))
     unfolding maskAmong
     walk-run e run o memo mask w =
         noted tags values n t list memo (w .right) mask
         (w .is ∙ rw o (sym (mask-same _ _ (bindingsOf list) (among-is tags values n t (operandsOf tags values t) (rw e at m)))))
 
     pub walk-values : s ≡ below.Values → (run : List ℕ) → run ≡ operandsOf tags values t
-        → (memo : List ℕ) (mask : ℕ) → Walked tags values n list memo mask (maskAmong tags values n list t (letValues run))
-        → (after : List ℕ) (r : ℕ) → Noted memo t mask after r → Walked tags values n list after r (maskOf (bindingFree tags values n t) (bindingsOf list))
+        → (memo : List ℕ) (mask : ℕ) → MaskWalked tags values n list memo mask (maskAmong tags values n list t (letValues run))
+        → (after : List ℕ) (r : ℕ) → MaskNoted memo t mask after r → MaskWalked tags values n list after r (maskOf (bindingFree tags values n t) (bindingsOf list))
     unfolding maskAmong
     walk-values e run o memo mask w =
         noted tags values n t list memo (w .right) mask
@@ -303,10 +303,10 @@ module _ (tags values : List ℕ) (n t : ℕ) (list : List ℕ) where
 
     module _ (u : TermPlace) (e : s ≡ below.Let u) where
       pub walk-let : (run : List ℕ) → run ≡ operandsOf tags values t
-          → (memo : List ℕ) (among : ℕ) → Walked tags values n list memo among (maskAmong tags values n list t (letValues run))
-          → (memo′ : List ℕ) (inside : ℕ) → Walked tags values n list memo′ inside (maskOf (bindingFree tags values n (u .0)) (bindingsOf list))
+          → (memo : List ℕ) (among : ℕ) → MaskWalked tags values n list memo among (maskAmong tags values n list t (letValues run))
+          → (memo′ : List ℕ) (inside : ℕ) → MaskWalked tags values n list memo′ inside (maskOf (bindingFree tags values n (u .0)) (bindingsOf list))
           → (tag : ℕ) → tag ≡ getD tags t 0 → (rest : ℕ) → rest ≡ without (boundIn values (eqb tag 27) run) (bindingsOf list) inside
-          → (after : List ℕ) (r : ℕ) → Noted memo′ t (bitOr among rest) after r → Walked tags values n list after r (maskOf (bindingFree tags values n t) (bindingsOf list))
+          → (after : List ℕ) (r : ℕ) → MaskNoted memo′ t (bitOr among rest) after r → MaskWalked tags values n list after r (maskOf (bindingFree tags values n t) (bindingsOf list))
       unfolding maskAmong
       walk-let run o memo among w memo′ inside w′ tag k rest is =
           let A : Binding → Bool = λ a. anyOf (bindingBelow tags values n a t) (letValues (operandsOf tags values t)) in
@@ -319,17 +319,17 @@ module _ (tags values : List ℕ) (n t : ℕ) (list : List ℕ) where
 -- ---- the walk along the places l, of which the first is u
 module _ (tags values : List ℕ) (n t u : ℕ) (list l left : List ℕ)
     (first : (a : Binding) → anyOf (bindingBelow tags values n a t) l ≡ bindingBelow tags values n a t u || anyOf (bindingBelow tags values n a t) left) where
-  skip : t ≤ u → (memo : List ℕ) (r : ℕ) → Walked tags values n list memo r (maskAmong tags values n list t left)
-      → Walked tags values n list memo r (maskAmong tags values n list t l)
+  skip : t ≤ u → (memo : List ℕ) (r : ℕ) → MaskWalked tags values n list memo r (maskAmong tags values n list t left)
+      → MaskWalked tags values n list memo r (maskAmong tags values n list t l)
   unfolding maskAmong bindingBelow
   skip h memo r w = record {
     is = w .is ∙ sym (mask-same _ _ (bindingsOf list) (λ a. first a ∙ rw (le-ltb u t h)));
     right = w .right;
   }
 
-  go-on : u < t → (memo : List ℕ) (mask : ℕ) → Walked tags values n list memo mask (maskOf (bindingFree tags values n u) (bindingsOf list))
-      → (memo′ : List ℕ) (rest : ℕ) → Walked tags values n list memo′ rest (maskAmong tags values n list t left)
-      → Walked tags values n list memo′ (bitOr mask rest) (maskAmong tags values n list t l)
+  go-on : u < t → (memo : List ℕ) (mask : ℕ) → MaskWalked tags values n list memo mask (maskOf (bindingFree tags values n u) (bindingsOf list))
+      → (memo′ : List ℕ) (rest : ℕ) → MaskWalked tags values n list memo′ rest (maskAmong tags values n list t left)
+      → MaskWalked tags values n list memo′ (bitOr mask rest) (maskAmong tags values n list t l)
   unfolding maskAmong bindingBelow
   go-on h memo mask w memo′ rest w′ =
       let among : Binding → Bool = λ a. anyOf (bindingBelow tags values n a t) left in
@@ -342,38 +342,38 @@ module _ (tags values : List ℕ) (n t u : ℕ) (list l left : List ℕ)
 
 -- ---- along a run
 module _ (tags values : List ℕ) (n t : ℕ) (list run : List ℕ) where
-  pub run-end : (memo : List ℕ) → Right tags values n list memo → length run ≡ 0 → Walked tags values n list memo 0 (maskAmong tags values n list t run)
+  pub run-end : (memo : List ℕ) → MaskMemo tags values n list memo → length run ≡ 0 → MaskWalked tags values n list memo 0 (maskAmong tags values n list t run)
   unfolding maskAmong
   run-end memo right e = record { is = sym (mask-none _ _ (λ a. sym (any-none _ run e))); right = right }
 
   module _ (some : length run ≡ 0 → ⊥) where
     pub run-skip : t ≤ getD run 0 0 → (memo : List ℕ) (r : ℕ)
-        → Walked tags values n list memo r (maskAmong tags values n list t (take (length run - 1) (drop 1 run)))
-        → Walked tags values n list memo r (maskAmong tags values n list t run)
+        → MaskWalked tags values n list memo r (maskAmong tags values n list t (take (length run - 1) (drop 1 run)))
+        → MaskWalked tags values n list memo r (maskAmong tags values n list t run)
     run-skip = skip tags values n t (getD run 0 0) list run _ (λ a. any-first _ run some)
 
     pub run-on : getD run 0 0 < t
-        → (memo : List ℕ) (mask : ℕ) → Walked tags values n list memo mask (maskOf (bindingFree tags values n (getD run 0 0)) (bindingsOf list))
-        → (memo′ : List ℕ) (rest : ℕ) → Walked tags values n list memo′ rest (maskAmong tags values n list t (take (length run - 1) (drop 1 run)))
-        → Walked tags values n list memo′ (bitOr mask rest) (maskAmong tags values n list t run)
+        → (memo : List ℕ) (mask : ℕ) → MaskWalked tags values n list memo mask (maskOf (bindingFree tags values n (getD run 0 0)) (bindingsOf list))
+        → (memo′ : List ℕ) (rest : ℕ) → MaskWalked tags values n list memo′ rest (maskAmong tags values n list t (take (length run - 1) (drop 1 run)))
+        → MaskWalked tags values n list memo′ (bitOr mask rest) (maskAmong tags values n list t run)
     run-on = go-on tags values n t (getD run 0 0) list run _ (λ a. any-first _ run some)
 
 -- ---- along a let's values
 module _ (tags values : List ℕ) (n t : ℕ) (list run : List ℕ) where
-  pub values-end : (memo : List ℕ) → Right tags values n list memo → length run < 3 → Walked tags values n list memo 0 (maskAmong tags values n list t (letValues run))
+  pub values-end : (memo : List ℕ) → MaskMemo tags values n list memo → length run < 3 → MaskWalked tags values n list memo 0 (maskAmong tags values n list t (letValues run))
   unfolding maskAmong
   values-end memo right e = record { is = sym (mask-none _ _ (λ a. sym (no-value _ run e))); right = right }
 
   module _ (some : 3 ≤ length run) where
     pub values-skip : t ≤ getD run 2 0 → (memo : List ℕ) (r : ℕ)
-        → Walked tags values n list memo r (maskAmong tags values n list t (letValues (take (length run - 2) (drop 2 run))))
-        → Walked tags values n list memo r (maskAmong tags values n list t (letValues run))
+        → MaskWalked tags values n list memo r (maskAmong tags values n list t (letValues (take (length run - 2) (drop 2 run))))
+        → MaskWalked tags values n list memo r (maskAmong tags values n list t (letValues run))
     values-skip = skip tags values n t (getD run 2 0) list (letValues run) _ (λ a. first-value _ run some)
 
     pub values-on : getD run 2 0 < t
-        → (memo : List ℕ) (mask : ℕ) → Walked tags values n list memo mask (maskOf (bindingFree tags values n (getD run 2 0)) (bindingsOf list))
-        → (memo′ : List ℕ) (rest : ℕ) → Walked tags values n list memo′ rest (maskAmong tags values n list t (letValues (take (length run - 2) (drop 2 run))))
-        → Walked tags values n list memo′ (bitOr mask rest) (maskAmong tags values n list t (letValues run))
+        → (memo : List ℕ) (mask : ℕ) → MaskWalked tags values n list memo mask (maskOf (bindingFree tags values n (getD run 2 0)) (bindingsOf list))
+        → (memo′ : List ℕ) (rest : ℕ) → MaskWalked tags values n list memo′ rest (maskAmong tags values n list t (letValues (take (length run - 2) (drop 2 run))))
+        → MaskWalked tags values n list memo′ (bitOr mask rest) (maskAmong tags values n list t (letValues run))
     values-on = go-on tags values n t (getD run 2 0) list (letValues run) _ (λ a. first-value _ run some)
 
 pub ruleset walks = (walk-known, walk-nothing, walk-variable, walk-body, walk-run, walk-values, walk-let, run-end, run-skip, run-on, values-end, values-skip, values-on)
@@ -384,12 +384,12 @@ module _ (list : List ℕ) (h : length list ≤ 62) where
   known-room test mask is = rw is (mask-fits test list h)
 
   module _ (tags values : List ℕ) (n : ℕ) (memo : List ℕ) (mask : ℕ) where
-    pub among-room : (t : ℕ) (run : List ℕ) → Walked tags values n list memo mask (maskAmong tags values n list t run) → mask < 2147483648
+    pub among-room : (t : ℕ) (run : List ℕ) → MaskWalked tags values n list memo mask (maskAmong tags values n list t run) → mask < 2147483648
     unfolding maskAmong
     among-room t run w = known-room _ mask (w .is)
 
     -- a let's values and its body
-    pub let-room : (t : ℕ) (run : List ℕ) → Walked tags values n list memo mask (maskAmong tags values n list t run)
+    pub let-room : (t : ℕ) (run : List ℕ) → MaskWalked tags values n list memo mask (maskAmong tags values n list t run)
         → (test bound : Binding → Bool) (inside : ℕ) → inside ≡ maskOf test (bindingsOf list) → (rest : ℕ) → rest ≡ without bound (bindingsOf list) inside
         → bitOr mask rest < 2147483648
     unfolding maskAmong
@@ -399,12 +399,12 @@ module _ (list : List ℕ) (h : length list ≤ 62) where
         let q : rest ≡ maskOf B (bindingsOf list) = is ∙ rw i (mask-without _ _ (bindingsOf list)) in
         known-room (λ a. A a || B a) (bitOr mask rest) (rw (w .is, q) (mask-or A B (bindingsOf list)))
 
-    pub unbound-fits : (test : Binding → Bool) → Walked tags values n list memo mask (maskOf test (bindingsOf list))
+    pub unbound-fits : (test : Binding → Bool) → MaskWalked tags values n list memo mask (maskOf test (bindingsOf list))
         → (bound : Binding → Bool) (rest : ℕ) → rest ≡ without bound (bindingsOf list) mask → rest < 2147483648
     unbound-fits test w bound rest is = let whole = known-room test mask (w .is) in let less = without-le bound (bindingsOf list) mask in rw is (omega arith)
 
 -- ---- a fresh memo
-pub fresh : (tags values : List ℕ) (n : ℕ) (list : List ℕ) (k : ℕ) → Right tags values n list (replicate k 0)
+pub fresh : (tags values : List ℕ) (n : ℕ) (list : List ℕ) (k : ℕ) → MaskMemo tags values n list (replicate k 0)
 fresh tags values n list k = record { at = λ u o. absurd (o (zeros k u)) }
 
 -- ---- the first 31 pairs of a list
@@ -412,6 +412,6 @@ module _ (l g : List ℕ) (is : g ≡ take 62 l) where
   pub group-fits : length g ≤ 62
   group-fits = rw (is, length-take 62 l) (min-le-left 62 (length l))
 
-  pub group-mask : (tags values : List ℕ) (n t : ℕ) (memo : List ℕ) (r : ℕ) → Walked tags values n g memo r (maskOf (bindingFree tags values n t) (bindingsOf g))
+  pub group-mask : (tags values : List ℕ) (n t : ℕ) (memo : List ℕ) (r : ℕ) → MaskWalked tags values n g memo r (maskOf (bindingFree tags values n t) (bindingsOf g))
       → r ≡ maskOf (bindingFree tags values n t) (bindingsOf (take 62 l))
   group-mask tags values n t memo r w = rw (← is) (w .is)

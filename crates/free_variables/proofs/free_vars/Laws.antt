@@ -12,10 +12,10 @@ use native.Mathlib.Numerals.{add-one}
 use borrow.Author.Tests.{lt-ltb, le-ltb, eq-eqb, ne-eqb, eqb-true, eqb-false, ltb-true}
 use Rattle.cells.specs.Cell.{sortOf, operandsOf}
 use Rattle.cells.specs.ByPlace.{by-test, downTo, byPlace, byPlace-is}
-use Rattle.cells.specs.Marks.{Noted}
+use Rattle.cells.specs.Marks.{MarkNoted}
 use Rattle.cells.proofs.marks.Laws.{zeros, Filled, fill-start, fill-next, fill-end}
 use Rattle.free_variables.specs.Free.{pairIn, boundBy, letBinds, anyOf, valuesIn, letValues, underPairs, freeStep, isFree, markOf, Marked}
-use Rattle.free_variables.specs.FreeMemo.{pairSort, isPair, pairsBind, freeBelow, Means, Right, Answered}
+use Rattle.free_variables.specs.FreeMemo.{pairSort, isPair, pairsBind, freeBelow, FreeMeans, NotFreeMemo, FreeAnswered}
 use Rattle.cells.specs.declared.TermPlace.{TermPlace}
 use Rattle.free_variables.specs.declared.free_vars.Step.{Step}
 use Rattle.free_variables.specs.declared.free_vars.Step.the-variants.{Yes, No, Body, Run, Values, Let}
@@ -85,7 +85,7 @@ module _ (tags values : List ℕ) (v t u : ℕ) where
 
 -- ---- what the walk does at t
 module _ (tags values : List ℕ) (v t : ℕ) where
-  pub look-noted : (memo : List ℕ) → Right tags values v memo → (m : ℕ) → m ≡ getD memo t 0 → m ≡ 1 → false ≡ isFree tags values v t
+  pub look-noted : (memo : List ℕ) → NotFreeMemo tags values v memo → (m : ℕ) → m ≡ getD memo t 0 → m ≡ 1 → false ≡ isFree tags values v t
   look-noted memo right m is e = right .at t (sym is ∙ e)
 
   pub look-self : t ≡ v → true ≡ isFree tags values v t
@@ -148,27 +148,27 @@ module _ (tags values : List ℕ) (v t : ℕ) where
 pub ruleset looks = (look-noted, look-self, look-low, look-application, look-operator, look-bound, look-late, look-body, let-bound, let-late, let-body)
 
 -- ---- the answer at t, from the step r at t
-module _ (tags values : List ℕ) (v t : ℕ) (r : Step) (m : Means tags values v t r) where
-  module _ (memo : List ℕ) (right : Right tags values v memo) where
-    pub step-yes : r ≡ Yes → Answered tags values v memo true (isFree tags values v t)
+module _ (tags values : List ℕ) (v t : ℕ) (r : Step) (m : FreeMeans tags values v t r) where
+  module _ (memo : List ℕ) (right : NotFreeMemo tags values v memo) where
+    pub step-yes : r ≡ Yes → FreeAnswered tags values v memo true (isFree tags values v t)
     step-yes e = record { is = rw e at m; right = right }
 
-    pub step-no : r ≡ No → Answered tags values v memo false (isFree tags values v t)
+    pub step-no : r ≡ No → FreeAnswered tags values v memo false (isFree tags values v t)
     step-no e = record { is = rw e at m; right = right }
 
   module _ (u : TermPlace) (e : r ≡ Body u) where
     pub step-below : u .0 < t
     step-below = (rw e at m) .0
 
-    pub step-body : (memo : List ℕ) (s : Bool) → Answered tags values v memo s (isFree tags values v (u .0)) → Answered tags values v memo s (isFree tags values v t)
+    pub step-body : (memo : List ℕ) (s : Bool) → FreeAnswered tags values v memo s (isFree tags values v (u .0)) → FreeAnswered tags values v memo s (isFree tags values v t)
     step-body memo s a = record { is = a .is ∙ (rw e at m) .1; right = a .right }
 
   pub step-run : r ≡ Run → (run : List ℕ) → run ≡ operandsOf tags values t
-      → (memo : List ℕ) (s : Bool) → Answered tags values v memo s (anyOf (freeBelow tags values v t) run) → Answered tags values v memo s (isFree tags values v t)
+      → (memo : List ℕ) (s : Bool) → FreeAnswered tags values v memo s (anyOf (freeBelow tags values v t) run) → FreeAnswered tags values v memo s (isFree tags values v t)
   step-run e run o memo s a = record { is = a .is ∙ rw o (rw e at m); right = a .right }
 
   pub step-values : r ≡ Values → (run : List ℕ) → run ≡ operandsOf tags values t
-      → (memo : List ℕ) (s : Bool) → Answered tags values v memo s (anyOf (freeBelow tags values v t) (letValues run)) → Answered tags values v memo s (isFree tags values v t)
+      → (memo : List ℕ) (s : Bool) → FreeAnswered tags values v memo s (anyOf (freeBelow tags values v t) (letValues run)) → FreeAnswered tags values v memo s (isFree tags values v t)
   step-values e run o memo s a = record { is = a .is ∙ rw o (rw e at m); right = a .right }
 
   module _ (u : TermPlace) (e : r ≡ Let u) where
@@ -179,26 +179,26 @@ module _ (tags values : List ℕ) (v t : ℕ) (r : Step) (m : Means tags values 
     let-is = sym ((rw e at m) .1)
 
     module _ (run : List ℕ) (o : run ≡ operandsOf tags values t) (memo : List ℕ) (s : Bool)
-        (a : Answered tags values v memo s (anyOf (freeBelow tags values v t) (letValues run))) where
+        (a : FreeAnswered tags values v memo s (anyOf (freeBelow tags values v t) (letValues run))) where
       found : anyOf (freeBelow tags values v t) (letValues (operandsOf tags values t)) ≡ s
       found = rw (← o) (sym (a .is))
 
-      pub let-found : s ≡ true → Answered tags values v memo true (isFree tags values v t)
+      pub let-found : s ≡ true → FreeAnswered tags values v memo true (isFree tags values v t)
       let-found y = record { is = rw (let-is, found, y); right = a .right }
 
-      pub let-on : s ≡ false → (memo′ : List ℕ) (b : Bool) → Answered tags values v memo′ b (isFree tags values v (u .0)) → Answered tags values v memo′ b (isFree tags values v t)
+      pub let-on : s ≡ false → (memo′ : List ℕ) (b : Bool) → FreeAnswered tags values v memo′ b (isFree tags values v (u .0)) → FreeAnswered tags values v memo′ b (isFree tags values v t)
       let-on y memo′ b c = record { is = rw (let-is, found, y) (c .is); right = c .right }
 
-module _ (tags values : List ℕ) (v t : ℕ) (memo : List ℕ) (s : Bool) (a : Answered tags values v memo s (isFree tags values v t)) where
+module _ (tags values : List ℕ) (v t : ℕ) (memo : List ℕ) (s : Bool) (a : FreeAnswered tags values v memo s (isFree tags values v t)) where
   -- a right no keeps the memo right
-  more-right : s ≡ false → Right tags values v (set memo t 1)
+  more-right : s ≡ false → NotFreeMemo tags values v (set memo t 1)
   more-right e = record {
     at = λ u q. by-test (eqb u t)
         (λ o. rw (eqb-true u t o) (sym e ∙ a .is))
         (λ o. a .right .at u (sym (getD-set-other memo t u 1 0 (eqb-false u t o)) ∙ q));
   }
 
-  pub noted : (after : List ℕ) (r : Bool) → Noted memo t s after r → Answered tags values v after r (isFree tags values v t)
+  pub noted : (after : List ℕ) (r : Bool) → MarkNoted memo t s after r → FreeAnswered tags values v after r (isFree tags values v t)
   noted after r n = record {
     is = n .same ∙ a .is;
     right = rw (n .kept) (by-test s (λ e. rw e (a .right)) (λ e. rw e (more-right e)));
@@ -217,7 +217,7 @@ any-first test l some =
     (ap (anyOf test) (drop-cons l 0 0 (omega arith)))
 
 module _ (tags values : List ℕ) (v t : ℕ) (run : List ℕ) where
-  pub run-end : (memo : List ℕ) → Right tags values v memo → length run ≡ 0 → Answered tags values v memo false (anyOf (freeBelow tags values v t) run)
+  pub run-end : (memo : List ℕ) → NotFreeMemo tags values v memo → length run ≡ 0 → FreeAnswered tags values v memo false (anyOf (freeBelow tags values v t) run)
   run-end memo right e = record { is = any-none _ run e; right = right }
 
   module _ (some : length run ≡ 0 → ⊥) where
@@ -226,17 +226,17 @@ module _ (tags values : List ℕ) (v t : ℕ) (run : List ℕ) where
     any-is = any-first (freeBelow tags values v t) run some
 
     pub run-skip : t ≤ getD run 0 0 → (memo : List ℕ) (s : Bool)
-        → Answered tags values v memo s (anyOf (freeBelow tags values v t) (take (length run - 1) (drop 1 run)))
-        → Answered tags values v memo s (anyOf (freeBelow tags values v t) run)
+        → FreeAnswered tags values v memo s (anyOf (freeBelow tags values v t) (take (length run - 1) (drop 1 run)))
+        → FreeAnswered tags values v memo s (anyOf (freeBelow tags values v t) run)
     run-skip h memo s a = record { is = rw (any-is, below-not tags values v t (getD run 0 0) h) (a .is); right = a .right }
 
-    module _ (h : getD run 0 0 < t) (memo : List ℕ) (r : Bool) (a : Answered tags values v memo r (isFree tags values v (getD run 0 0))) where
-      pub run-found : r ≡ true → Answered tags values v memo true (anyOf (freeBelow tags values v t) run)
+    module _ (h : getD run 0 0 < t) (memo : List ℕ) (r : Bool) (a : FreeAnswered tags values v memo r (isFree tags values v (getD run 0 0))) where
+      pub run-found : r ≡ true → FreeAnswered tags values v memo true (anyOf (freeBelow tags values v t) run)
       run-found e = record { is = rw (any-is, below-is tags values v t (getD run 0 0) h, ← a .is, e); right = a .right }
 
       pub run-on : r ≡ false → (memo′ : List ℕ) (s : Bool)
-          → Answered tags values v memo′ s (anyOf (freeBelow tags values v t) (take (length run - 1) (drop 1 run)))
-          → Answered tags values v memo′ s (anyOf (freeBelow tags values v t) run)
+          → FreeAnswered tags values v memo′ s (anyOf (freeBelow tags values v t) (take (length run - 1) (drop 1 run)))
+          → FreeAnswered tags values v memo′ s (anyOf (freeBelow tags values v t) run)
       run-on e memo′ s b = record { is = rw (any-is, below-is tags values v t (getD run 0 0) h, ← a .is, e) (b .is); right = b .right }
 
 -- ---- the walk along a let's values
@@ -257,8 +257,8 @@ first-value test (a ∷ (b ∷ (c ∷ l))) h =
     rw (take-all (length (a ∷ (b ∷ (c ∷ l))) - 2) (drop 2 (a ∷ (b ∷ (c ∷ l)))) (rw (length-drop 2 (a ∷ (b ∷ (c ∷ l)))) (omega arith)))
 
 module _ (tags values : List ℕ) (v t : ℕ) (run : List ℕ) where
-  pub values-end : (memo : List ℕ) → Right tags values v memo → length run < 3
-      → Answered tags values v memo false (anyOf (freeBelow tags values v t) (letValues run))
+  pub values-end : (memo : List ℕ) → NotFreeMemo tags values v memo → length run < 3
+      → FreeAnswered tags values v memo false (anyOf (freeBelow tags values v t) (letValues run))
   values-end memo right e = record { is = no-value _ run e; right = right }
 
   module _ (some : 3 ≤ length run) where
@@ -267,21 +267,21 @@ module _ (tags values : List ℕ) (v t : ℕ) (run : List ℕ) where
     value-is = first-value (freeBelow tags values v t) run some
 
     pub values-skip : t ≤ getD run 2 0 → (memo : List ℕ) (s : Bool)
-        → Answered tags values v memo s (anyOf (freeBelow tags values v t) (letValues (take (length run - 2) (drop 2 run))))
-        → Answered tags values v memo s (anyOf (freeBelow tags values v t) (letValues run))
+        → FreeAnswered tags values v memo s (anyOf (freeBelow tags values v t) (letValues (take (length run - 2) (drop 2 run))))
+        → FreeAnswered tags values v memo s (anyOf (freeBelow tags values v t) (letValues run))
     values-skip h memo s a = record { is = rw (value-is, below-not tags values v t (getD run 2 0) h) (a .is); right = a .right }
 
-    module _ (h : getD run 2 0 < t) (memo : List ℕ) (r : Bool) (a : Answered tags values v memo r (isFree tags values v (getD run 2 0))) where
-      pub values-found : r ≡ true → Answered tags values v memo true (anyOf (freeBelow tags values v t) (letValues run))
+    module _ (h : getD run 2 0 < t) (memo : List ℕ) (r : Bool) (a : FreeAnswered tags values v memo r (isFree tags values v (getD run 2 0))) where
+      pub values-found : r ≡ true → FreeAnswered tags values v memo true (anyOf (freeBelow tags values v t) (letValues run))
       values-found e = record { is = rw (value-is, below-is tags values v t (getD run 2 0) h, ← a .is, e); right = a .right }
 
       pub values-on : r ≡ false → (memo′ : List ℕ) (s : Bool)
-          → Answered tags values v memo′ s (anyOf (freeBelow tags values v t) (letValues (take (length run - 2) (drop 2 run))))
-          → Answered tags values v memo′ s (anyOf (freeBelow tags values v t) (letValues run))
+          → FreeAnswered tags values v memo′ s (anyOf (freeBelow tags values v t) (letValues (take (length run - 2) (drop 2 run))))
+          → FreeAnswered tags values v memo′ s (anyOf (freeBelow tags values v t) (letValues run))
       values-on e memo′ s b = record { is = rw (value-is, below-is tags values v t (getD run 2 0) h, ← a .is, e) (b .is); right = b .right }
 
 -- ---- a fresh memo
-pub fresh : (tags values : List ℕ) (v k : ℕ) → Right tags values v (replicate k 0)
+pub fresh : (tags values : List ℕ) (v k : ℕ) → NotFreeMemo tags values v (replicate k 0)
 fresh tags values v k = record { at = λ u e. absurd (omega (arith, zeros k u)) }
 
 -- ---- a variable after t is not free in the term at t

@@ -15,13 +15,12 @@ use Rattle.cells.specs.ByPlace.{by-test}
 use Rattle.cells.specs.declared.TermPlace.{TermPlace}
 use Rattle.free_variables.specs.Free.{anyOf, letValues, isFree}
 use Rattle.free_variables.specs.FreeMemo.{pairsBind, freeBelow}
-use Rattle.free_variables.specs.Names.{bucketOf, mayBeFree, freeIn, Listed}
-use Rattle.free_variables.specs.NamesWalk.{freeAmong, freeUnder, freeInLet, Exactly, Means, Right, Grown, Walked}
-use Rattle.free_variables.specs.declared.term_names.Below.{Below}
-use Rattle.free_variables.specs.declared.term_names.Below.the-variants.{Nothing, Variable, Body, Run, Values, Let}
+use Rattle.free_variables.specs.Names.{bucketOf, mayBeFree, freeIn, NamesMarked}
+use Rattle.free_variables.specs.NamesWalk.{freeAmong, freeUnder, freeInLet, Exactly, Grown, FreeFromMeans, NamesMemo, NamesWalked}
+use Rattle.free_variables.specs.declared.term_names.FreeFrom.{FreeFrom}
+use Rattle.free_variables.specs.declared.term_names.FreeFrom.the-variants.{Nothing, Variable, Body, Run, Values, Let}
 use Rattle.cells.proofs.marks.Laws.{zeros}
-use Rattle.free_variables.proofs.free_vars.Laws.{any-none, any-first, no-value, first-value, below-is, below-not, look-low, look-self, look-application, look-operator}
-use Rattle.free_variables.proofs.free_vars.Laws.{look-bound, look-late, look-body, let-bound, let-late, let-body}
+use Rattle.free_variables.proofs.free_vars.Laws.{any-none, any-first, no-value, first-value, below-is, below-not, look-low, look-self, look-application, look-operator, look-bound, look-late, look-body, let-bound, let-late, let-body}
 
 clash : {C : Type 0} → false ≡ true → C
 clash e = absurd (let z : _≡_ {A = ℕ} 0 1 = cc in omega arith)
@@ -150,15 +149,15 @@ module _ (names names′ : List ℕ) (g : Grown names names′) where
   more-grown : (names″ : List ℕ) → Grown names′ names″ → Grown names names″
   more-grown names″ g′ = record { kept = λ name sort m. g′ .kept name sort (g .kept name sort m) }
 
-  listed-grown : (tags values : List ℕ) (test : ℕ → Bool) → Listed tags values names test → Listed tags values names′ test
+  listed-grown : (tags values : List ℕ) (test : ℕ → Bool) → NamesMarked tags values names test → NamesMarked tags values names′ test
   listed-grown tags values test l = record { at = λ v e f. g .kept _ _ (l .at v e f) }
 
-  right-grown : (tags values seen : List ℕ) → Right tags values seen names → Right tags values seen names′
+  right-grown : (tags values seen : List ℕ) → NamesMemo tags values seen names → NamesMemo tags values seen names′
   right-grown tags values seen r = record { at = λ u e. listed-grown tags values _ (r .at u e) }
 
 -- ---- the walk at t
 -- a variable that is free under pairs is free in the body
-under-listed : (tags values : List ℕ) (t u : ℕ) (names : List ℕ) → Listed tags values names (freeIn tags values u) → Listed tags values names (freeUnder tags values t u)
+under-listed : (tags values : List ℕ) (t u : ℕ) (names : List ℕ) → NamesMarked tags values names (freeIn tags values u) → NamesMarked tags values names (freeUnder tags values t u)
 unfolding freeUnder
 under-listed tags values t u names l = record {
   at = λ v e f. by-test (pairsBind values (eqb (getD tags t 0) 27) v (operandsOf tags values t))
@@ -167,15 +166,15 @@ under-listed tags values t u names l = record {
 }
 
 module _ (tags values : List ℕ) (t : ℕ) where
-  pub walk-seen : (seen names : List ℕ) → Right tags values seen names → (m : ℕ) → m ≡ getD seen t 0 → m ≡ 1 → Walked tags values names seen names (freeIn tags values t)
+  pub walk-seen : (seen names : List ℕ) → NamesMemo tags values seen names → (m : ℕ) → m ≡ getD seen t 0 → m ≡ 1 → NamesWalked tags values names seen names (freeIn tags values t)
   walk-seen seen names r m is e = record { grown = same-grown names; right = r; listed = r .at t (sym is ∙ e) }
 
   -- the variables that are free at t are in the table, and t is noted
-  module _ (test : ℕ → Bool) (w : Exactly tags values t test) (names seen names′ : List ℕ) (d : Walked tags values names seen names′ test) where
-    inside : Listed tags values names′ (freeIn tags values t)
+  module _ (test : ℕ → Bool) (w : Exactly tags values t test) (names seen names′ : List ℕ) (d : NamesWalked tags values names seen names′ test) where
+    inside : NamesMarked tags values names′ (freeIn tags values t)
     inside = record { at = λ v e f. d .listed .at v e (sym (w .at v e) ∙ f) }
 
-    done : (seen′ : List ℕ) → seen′ ≡ set seen t 1 → Walked tags values names seen′ names′ (freeIn tags values t)
+    done : (seen′ : List ℕ) → seen′ ≡ set seen t 1 → NamesWalked tags values names seen′ names′ (freeIn tags values t)
     done seen′ is = record {
       grown = d .grown;
       right = rw is (record {
@@ -186,9 +185,9 @@ module _ (tags values : List ℕ) (t : ℕ) where
       listed = inside;
     }
 
-  module _ (s : Below) (m : Means tags values t s) where
-    module _ (seen names : List ℕ) (r : Right tags values seen names) where
-      pub walk-nothing : s ≡ Nothing → (seen′ : List ℕ) → seen′ ≡ set seen t 1 → Walked tags values names seen′ names (freeIn tags values t)
+  module _ (s : FreeFrom) (m : FreeFromMeans tags values t s) where
+    module _ (seen names : List ℕ) (r : NamesMemo tags values seen names) where
+      pub walk-nothing : s ≡ Nothing → (seen′ : List ℕ) → seen′ ≡ set seen t 1 → NamesWalked tags values names seen′ names (freeIn tags values t)
       walk-nothing e = done _ (rw e at m) names seen names (record {
         grown = same-grown names;
         right = r;
@@ -196,7 +195,7 @@ module _ (tags values : List ℕ) (t : ℕ) where
       })
 
       pub walk-variable : s ≡ Variable → (names′ : List ℕ) → names′ ≡ set names (bucketOf (getD values (t + 2) 0) (sortOf values t)) 1
-          → (seen′ : List ℕ) → seen′ ≡ set seen t 1 → Walked tags values names seen′ names′ (freeIn tags values t)
+          → (seen′ : List ℕ) → seen′ ≡ set seen t 1 → NamesWalked tags values names seen′ names′ (freeIn tags values t)
       unfolding mayBeFree
       walk-variable e names′ is =
           let g : Grown names names′ = rw is (set-grown names _) in
@@ -207,24 +206,24 @@ module _ (tags values : List ℕ) (t : ℕ) where
           })
 
     module _ (names seen names′ : List ℕ) where
-      pub walk-body : (u : TermPlace) → s ≡ Body u → Walked tags values names seen names′ (freeIn tags values (u .0))
-          → (seen′ : List ℕ) → seen′ ≡ set seen t 1 → Walked tags values names seen′ names′ (freeIn tags values t)
+      pub walk-body : (u : TermPlace) → s ≡ Body u → NamesWalked tags values names seen names′ (freeIn tags values (u .0))
+          → (seen′ : List ℕ) → seen′ ≡ set seen t 1 → NamesWalked tags values names seen′ names′ (freeIn tags values t)
       walk-body u e d = done _ ((rw e at m) .1) names seen names′ (record { grown = d .grown; right = d .right; listed = under-listed tags values t (u .0) names′ (d .listed) })
 
-      pub walk-run : s ≡ Run → (run : List ℕ) → run ≡ operandsOf tags values t → Walked tags values names seen names′ (freeAmong tags values t run)
-          → (seen′ : List ℕ) → seen′ ≡ set seen t 1 → Walked tags values names seen′ names′ (freeIn tags values t)
+      pub walk-run : s ≡ Run → (run : List ℕ) → run ≡ operandsOf tags values t → NamesWalked tags values names seen names′ (freeAmong tags values t run)
+          → (seen′ : List ℕ) → seen′ ≡ set seen t 1 → NamesWalked tags values names seen′ names′ (freeIn tags values t)
       walk-run e run o d = done _ (rw e at m) names seen names′ (rw o at d)
 
-      pub walk-values : s ≡ Values → (run : List ℕ) → run ≡ operandsOf tags values t → Walked tags values names seen names′ (freeAmong tags values t (letValues run))
-          → (seen′ : List ℕ) → seen′ ≡ set seen t 1 → Walked tags values names seen′ names′ (freeIn tags values t)
+      pub walk-values : s ≡ Values → (run : List ℕ) → run ≡ operandsOf tags values t → NamesWalked tags values names seen names′ (freeAmong tags values t (letValues run))
+          → (seen′ : List ℕ) → seen′ ≡ set seen t 1 → NamesWalked tags values names seen′ names′ (freeIn tags values t)
       walk-values e run o d = done _ (rw e at m) names seen names′ (rw o at d)
 
-      pub walk-let : (u : TermPlace) → s ≡ Let u → (run : List ℕ) → run ≡ operandsOf tags values t → Walked tags values names seen names′ (freeAmong tags values t (letValues run))
-          → (seen′ names″ : List ℕ) → Walked tags values names′ seen′ names″ (freeIn tags values (u .0))
-          → (seen″ : List ℕ) → seen″ ≡ set seen′ t 1 → Walked tags values names seen″ names″ (freeIn tags values t)
+      pub walk-let : (u : TermPlace) → s ≡ Let u → (run : List ℕ) → run ≡ operandsOf tags values t → NamesWalked tags values names seen names′ (freeAmong tags values t (letValues run))
+          → (seen′ names″ : List ℕ) → NamesWalked tags values names′ seen′ names″ (freeIn tags values (u .0))
+          → (seen″ : List ℕ) → seen″ ≡ set seen′ t 1 → NamesWalked tags values names seen″ names″ (freeIn tags values t)
       unfolding freeInLet
       walk-let u e run o d seen′ names″ d′ =
-          let w : Walked tags values names seen names′ (freeAmong tags values t (letValues (operandsOf tags values t))) = rw o at d in
+          let w : NamesWalked tags values names seen names′ (freeAmong tags values t (letValues (operandsOf tags values t))) = rw o at d in
           done _ ((rw e at m) .1) names seen′ names″ (record {
             grown = more-grown names names′ (d .grown) names″ (d′ .grown);
             right = d′ .right;
@@ -244,8 +243,8 @@ module _ (tags values : List ℕ) (t : ℕ) where
 -- ---- the walk along the places l, of which the first is u
 module _ (tags values : List ℕ) (t u : ℕ) (l rest : List ℕ)
     (first : (v : ℕ) → anyOf (freeBelow tags values v t) l ≡ freeBelow tags values v t u || anyOf (freeBelow tags values v t) rest) where
-  skip : t ≤ u → (names seen names′ : List ℕ) → Walked tags values names seen names′ (freeAmong tags values t rest)
-      → Walked tags values names seen names′ (freeAmong tags values t l)
+  skip : t ≤ u → (names seen names′ : List ℕ) → NamesWalked tags values names seen names′ (freeAmong tags values t rest)
+      → NamesWalked tags values names seen names′ (freeAmong tags values t l)
   unfolding freeAmong
   skip h names seen names′ d = record {
     grown = d .grown;
@@ -253,9 +252,9 @@ module _ (tags values : List ℕ) (t u : ℕ) (l rest : List ℕ)
     listed = record { at = λ v q f. d .listed .at v q (rw (first v, below-not tags values v t u h) at f) };
   }
 
-  go-on : u < t → (names seen names′ : List ℕ) → Walked tags values names seen names′ (freeIn tags values u)
-      → (seen′ names″ : List ℕ) → Walked tags values names′ seen′ names″ (freeAmong tags values t rest)
-      → Walked tags values names seen′ names″ (freeAmong tags values t l)
+  go-on : u < t → (names seen names′ : List ℕ) → NamesWalked tags values names seen names′ (freeIn tags values u)
+      → (seen′ names″ : List ℕ) → NamesWalked tags values names′ seen′ names″ (freeAmong tags values t rest)
+      → NamesWalked tags values names seen′ names″ (freeAmong tags values t l)
   unfolding freeAmong freeIn
   go-on h names seen names′ d seen′ names″ d′ = record {
     grown = more-grown names names′ (d .grown) names″ (d′ .grown);
@@ -268,7 +267,7 @@ module _ (tags values : List ℕ) (t u : ℕ) (l rest : List ℕ)
   }
 
 none-left : (tags values : List ℕ) (t : ℕ) (l : List ℕ) → ((v : ℕ) → false ≡ anyOf (freeBelow tags values v t) l)
-    → (seen names : List ℕ) → Right tags values seen names → Walked tags values names seen names (freeAmong tags values t l)
+    → (seen names : List ℕ) → NamesMemo tags values seen names → NamesWalked tags values names seen names (freeAmong tags values t l)
 unfolding freeAmong
 none-left tags values t l none seen names r = record {
   grown = same-grown names;
@@ -278,42 +277,42 @@ none-left tags values t l none seen names r = record {
 
 -- ---- along a run
 module _ (tags values : List ℕ) (t : ℕ) (run : List ℕ) where
-  pub run-end : (seen names : List ℕ) → Right tags values seen names → length run ≡ 0 → Walked tags values names seen names (freeAmong tags values t run)
+  pub run-end : (seen names : List ℕ) → NamesMemo tags values seen names → length run ≡ 0 → NamesWalked tags values names seen names (freeAmong tags values t run)
   run-end seen names r e = none-left tags values t run (λ v. any-none _ run e) seen names r
 
   module _ (some : length run ≡ 0 → ⊥) where
     pub run-skip : t ≤ getD run 0 0 → (names seen names′ : List ℕ)
-        → Walked tags values names seen names′ (freeAmong tags values t (take (length run - 1) (drop 1 run)))
-        → Walked tags values names seen names′ (freeAmong tags values t run)
+        → NamesWalked tags values names seen names′ (freeAmong tags values t (take (length run - 1) (drop 1 run)))
+        → NamesWalked tags values names seen names′ (freeAmong tags values t run)
     run-skip = skip tags values t (getD run 0 0) run _ (λ v. any-first _ run some)
 
-    pub run-on : getD run 0 0 < t → (names seen names′ : List ℕ) → Walked tags values names seen names′ (freeIn tags values (getD run 0 0))
-        → (seen′ names″ : List ℕ) → Walked tags values names′ seen′ names″ (freeAmong tags values t (take (length run - 1) (drop 1 run)))
-        → Walked tags values names seen′ names″ (freeAmong tags values t run)
+    pub run-on : getD run 0 0 < t → (names seen names′ : List ℕ) → NamesWalked tags values names seen names′ (freeIn tags values (getD run 0 0))
+        → (seen′ names″ : List ℕ) → NamesWalked tags values names′ seen′ names″ (freeAmong tags values t (take (length run - 1) (drop 1 run)))
+        → NamesWalked tags values names seen′ names″ (freeAmong tags values t run)
     run-on = go-on tags values t (getD run 0 0) run _ (λ v. any-first _ run some)
 
 -- ---- along a let's values
 module _ (tags values : List ℕ) (t : ℕ) (run : List ℕ) where
-  pub values-end : (seen names : List ℕ) → Right tags values seen names → length run < 3 → Walked tags values names seen names (freeAmong tags values t (letValues run))
+  pub values-end : (seen names : List ℕ) → NamesMemo tags values seen names → length run < 3 → NamesWalked tags values names seen names (freeAmong tags values t (letValues run))
   values-end seen names r e = none-left tags values t (letValues run) (λ v. no-value _ run e) seen names r
 
   module _ (some : 3 ≤ length run) where
     pub values-skip : t ≤ getD run 2 0 → (names seen names′ : List ℕ)
-        → Walked tags values names seen names′ (freeAmong tags values t (letValues (take (length run - 2) (drop 2 run))))
-        → Walked tags values names seen names′ (freeAmong tags values t (letValues run))
+        → NamesWalked tags values names seen names′ (freeAmong tags values t (letValues (take (length run - 2) (drop 2 run))))
+        → NamesWalked tags values names seen names′ (freeAmong tags values t (letValues run))
     values-skip = skip tags values t (getD run 2 0) (letValues run) _ (λ v. first-value _ run some)
 
-    pub values-on : getD run 2 0 < t → (names seen names′ : List ℕ) → Walked tags values names seen names′ (freeIn tags values (getD run 2 0))
-        → (seen′ names″ : List ℕ) → Walked tags values names′ seen′ names″ (freeAmong tags values t (letValues (take (length run - 2) (drop 2 run))))
-        → Walked tags values names seen′ names″ (freeAmong tags values t (letValues run))
+    pub values-on : getD run 2 0 < t → (names seen names′ : List ℕ) → NamesWalked tags values names seen names′ (freeIn tags values (getD run 2 0))
+        → (seen′ names″ : List ℕ) → NamesWalked tags values names′ seen′ names″ (freeAmong tags values t (letValues (take (length run - 2) (drop 2 run))))
+        → NamesWalked tags values names seen′ names″ (freeAmong tags values t (letValues run))
     values-on = go-on tags values t (getD run 2 0) (letValues run) _ (λ v. first-value _ run some)
 
 -- ---- the whole walk, from a fresh memo
-pub fresh : (tags values names : List ℕ) (k : ℕ) → Right tags values (replicate k 0) names
+pub fresh : (tags values names : List ℕ) (k : ℕ) → NamesMemo tags values (replicate k 0) names
 fresh tags values names k = record { at = λ u e. absurd (omega (arith, zeros k u)) }
 
 -- ---- what a bucket that is not set says
-pub not-listed : (tags values names : List ℕ) (t : ℕ) → Listed tags values names (freeIn tags values t) → (v : ℕ) → getD tags v 0 ≡ 21
+pub not-listed : (tags values names : List ℕ) (t : ℕ) → NamesMarked tags values names (freeIn tags values t) → (v : ℕ) → getD tags v 0 ≡ 21
     → mayBeFree names (getD values (v + 2) 0) (sortOf values v) ≡ false → isFree tags values v t ≡ false
 unfolding freeIn
 not-listed tags values names t l v e f = by-test (isFree tags values v t) (λ o. clash (sym f ∙ l .at v e o)) (λ o. o)

@@ -25,10 +25,9 @@ use Rattle.answers.specs.declared.Answer.{Answer}
 use Rattle.cells.specs.declared.Found.{Found}
 use Rattle.cells.specs.declared.Found.the-variants.{At, Nothing}
 use Rattle.cells.proofs.Cells.{same-refl, same-eq}
-use Rattle.cells.proofs.Walks.{first-below}
+use Rattle.cells.proofs.Walks.{first-below, found-holds}
 use Rattle.meaning.proofs.trees.Header.{Header, header, term-tagged}
 use Rattle.meaning.proofs.trees.Walk.{place-fits, place-passes}
-use Rattle.cells.proofs.Walks.{found-holds}
 use Rattle.meaning.proofs.trees.Sorts.{sort-is, sort-one}
 use Rattle.meaning.proofs.trees.Terms.{term-is, term-one}
 use Rattle.meaning.proofs.trees.Stated.{sort-place, stated-is, var-cells}

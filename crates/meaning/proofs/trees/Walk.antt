@@ -13,7 +13,7 @@ use lib.Dec.{leb, eqb, ltb}
 use native.Mathlib.Omega.{arith}
 use borrow.Author.Tests.{leb-true, leb-false, eqb-true, eqb-false, ltb-true, ltb-false, eq-eqb, not-false}
 use Rattle.cells.specs.ByPlace.{by-test}
-use Rattle.cells.specs.Headers.{firstIn, firstFrom, firstHeader}
+use Rattle.cells.specs.Headers.{firstFrom, firstHeader}
 use Rattle.cells.specs.Cell.{cellsOf, isAt}
 use Rattle.headers.specs.WellFormed.{headerFits, firstBad}
 use Rattle.descriptions.specs.Description.{find, isFound, repeats, firstRepeat}

@@ -5,8 +5,7 @@
 --     clause-sound       the same of terms: what rule 3 says
 -- Assumes that no variable taken out is free in the quantified formula.
 use mathlib.Core.Path.{_≡_, refl, sym, ap, ap₂, _∙_}
-use mathlib.Core.Bool.{Bool, true, false, not, _&&_, _||_, or-true, or-false, and-true, and-assoc, or-assoc}
-use mathlib.Core.Bool.{or-and-distrib-left, or-and-distrib-right}
+use mathlib.Core.Bool.{Bool, true, false, not, _&&_, _||_, or-true, or-false, and-true, and-assoc, or-assoc, or-and-distrib-left, or-and-distrib-right}
 use mathlib.Core.List.{List, [], _∷_, _++_, map, List·Memᴰ, List·Memᴰ·head, List·Memᴰ·tail}
 use Rattle.meaning.specs.Sort.{Sort}
 use Rattle.meaning.specs.Term.{Var, Vars, Term, quant}
@@ -15,10 +14,8 @@ use Rattle.formulas.specs.Formula.{Form, all}
 use Rattle.formulas.specs.Normal.{Normal, Normals, lit, nmany, nall, nnil, ncons, nnf, prenex, prenexes, taken}
 use Rattle.formulas.specs.Clauses.{Clause, product, cnf, cnfAnd, cnfOr, reachesForall, reachForall}
 use Rattle.meaning.specs.Skeleton.{skeleton, IsOpaque, build, normals, clauseForm, clauseTerm, clauseTermsOf, NoForallReached}
-use Rattle.meaning.specs.Truth.{Assignment, Reading, Local, over, truth, True, truthN, truthNs, clauseTruth, clausesTruth}
-use Rattle.meaning.specs.Truth.{someTrue, eachSomeTrue, Says}
-use Rattle.meaning.proofs.truth.Over.{bool-cases, not-both, andOr-intro, andOr-left, andOr-right, or-left, or-right, or-cases}
-use Rattle.meaning.proofs.truth.Over.{Subset, outside, has-append, Within, mix, mix-in, mix-out, over-elim, over-intro}
+use Rattle.meaning.specs.Truth.{Assignment, Reading, Local, over, truth, True, truthN, truthNs, clauseTruth, clausesTruth, someTrue, eachSomeTrue, Says}
+use Rattle.meaning.proofs.truth.Over.{bool-cases, not-both, andOr-intro, andOr-left, andOr-right, or-left, or-right, or-cases, Subset, outside, has-append, Within, mix, mix-in, mix-out, over-elim, over-intro}
 use Rattle.meaning.proofs.truth.Leaves.{Each, EachN, EachC, EachCs, nnf-each, prenex-each, cnf-each, clause-each, skeleton-leaves}
 use Rattle.meaning.proofs.truth.NormalTruth.{nnf-truth, build-truth}
 use Rattle.meaning.proofs.truth.Coincide.{freeF, Rests, coincide, free-skeleton}

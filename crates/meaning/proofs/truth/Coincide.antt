@@ -14,8 +14,7 @@ use Rattle.formulas.specs.Formula.{Form, Forms, opaque, neg, many, imp, ite, if
 use Rattle.meaning.specs.Skeleton.{skeleton, skeletons, IsOpaque, leftBool, notOf, impliesOf, iteOf, iffOf, formOf}
 use Rattle.meaning.specs.Truth.{Assignment, Reading, Local, andOr, over, truth, truths, True}
 use Rattle.meaning.proofs.truth.Leaves.{Each, EachOf, skeleton-leaves}
-use Rattle.meaning.proofs.truth.Over.{bool-cases, same-at, andOr-intro, or-left, or-right}
-use Rattle.meaning.proofs.truth.Over.{Within, mix, mix-in, mix-out, over-elim, over-intro}
+use Rattle.meaning.proofs.truth.Over.{bool-cases, same-at, andOr-intro, or-left, or-right, Within, mix, mix-in, mix-out, over-elim, over-intro}
 
 -- the free variables of a formula, from those of its opaque terms
 abbrev mutual

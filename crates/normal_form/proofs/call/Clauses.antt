@@ -2,7 +2,7 @@
 -- Assumes nothing.
 use Prim.Native.Nat.{ℕ, _≤_, _<_}
 use mathlib.Core.Path.{_≡_, refl, sym, ap, ap₂, _∙_}
-use mathlib.Core.Bool.{_&&_, cond}
+use mathlib.Core.Bool.{_&&_}
 use mathlib.Core.List.{List}
 use lib.ListN.{length, take}
 use lib.Seq.{length-take-le}
@@ -24,12 +24,11 @@ use Rattle.formulas.specs.Normal.{Normal}
 use Rattle.formulas.specs.Clauses.{cnf, emptyOr, literalTotal}
 use Rattle.formulas.specs.Built.{count, normalAt}
 use Rattle.clauses.specs.Lists.{literalPlaces, clauseEnds}
-use Rattle.building.specs.Arrays.{fits}
 use Rattle.normal_form.specs.Calls.{noRoom, clausal, clausalForm, clauseAnswer, listLeft, countLeft, ClauseList}
 use Rattle.building.specs.Walk.{State, Holds, NormalBuilt}
 use Rattle.clauses.specs.ClauseWalk.{formAt}
-use Rattle.clauses.specs.ClauseList.{Lent, Answered, countAnswer, listAnswer, held}
-use Rattle.normal_form.specs.ClauseCall.{Passes, Refuses, ClausalBuilt, unlisted, Kept}
+use Rattle.clauses.specs.ClauseList.{Lent, countAnswer, listAnswer, held, ListAnswered}
+use Rattle.normal_form.specs.ClauseCall.{Passes, Refuses, ClausalBuilt, unlisted, ListKept}
 use Rattle.building.proofs.build.Building.{left-refl}
 use Rattle.normal_form.proofs.Clausal.{zero-kept, tags-kept, values-kept, clausal-on}
 use Rattle.clauses.proofs.clause_list.Laws.{zero-all}
@@ -93,10 +92,10 @@ pub ruleset clausals = (clausal-refused, clausal-full, clausal-made)
 
 -- ---- the new terms are kept or cut back
 module _ (n m : ℕ) (a : Answer) (tags values tags′ values′ : List ℕ) where
-  pub kept-not : (a .code ≡ 0 → ⊥) → Cut n tags values tags′ values′ → (r : Listed) → r ≡ unlisted a → Kept n m a tags values r tags′ values′
+  pub kept-not : (a .code ≡ 0 → ⊥) → Cut n tags values tags′ values′ → (r : Listed) → r ≡ unlisted a → ListKept n m a tags values r tags′ values′
   kept-not h cut r e = let z = ne-eqb _ _ h in record { listed = rw z e; cut = rw z cut }
 
-  pub kept-all : a .code ≡ 0 → Cut m tags values tags′ values′ → Kept n m a tags values (record { answer = a; count = m }) tags′ values′
+  pub kept-all : a .code ≡ 0 → Cut m tags values tags′ values′ → ListKept n m a tags values (record { answer = a; count = m }) tags′ values′
   kept-all h cut = let z = eq-eqb _ _ h in record { listed = rw z; cut = rw z cut }
 
 pub ruleset keeps = (kept-not, kept-all)
@@ -198,9 +197,9 @@ module _ (tags values rules : List ℕ) (n t : ℕ) (literals ends : List ℕ) w
       list-lent = record { small = omega (arith, list-part, list-small); literals = l; ends = k }
 
       module _ (a : Answer) (literals′ ends′ : List ℕ)
-          (listed : Answered (listAnswer (formAt (take m tags₁) (take m values₁) (x .0))) (cnf (formAt (take m tags₁) (take m values₁) (x .0)))
+          (listed : ListAnswered (listAnswer (formAt (take m tags₁) (take m values₁) (x .0))) (cnf (formAt (take m tags₁) (take m values₁) (x .0)))
           (length literals) (length ends) a literals′ ends′) where
-        lists : Answered (listAnswer (clausalForm tags values rules n t)) (cnf (clausalForm tags values rules n t)) (length literals) (length ends) a literals′ ends′
+        lists : ListAnswered (listAnswer (clausalForm tags values rules n t)) (cnf (clausalForm tags values rules n t)) (length literals) (length ends) a literals′ ends′
         lists = rw form-is at listed
 
         not-30 : a .code ≡ 30 → ⊥
@@ -243,7 +242,7 @@ module _ (tags values rules : List ℕ) (n t : ℕ) (literals ends : List ℕ) w
             ends-are = ends-left;
           }
 
-          pub list-kept : (r : Listed) → Kept n m a tags₁ values₁ r tags′ values′
+          pub list-kept : (r : Listed) → ListKept n m a tags₁ values₁ r tags′ values′
               → ClauseList tags values rules n t literals ends (r .answer) (r .count) tags′ values′ literals′ ends′
           list-kept r kept =
               rw (kept .listed)

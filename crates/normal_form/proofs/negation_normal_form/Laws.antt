@@ -1,6 +1,6 @@
 -- Laws of the walkers that build the normal form: a term by how it is read; and what the walks are measured by.
 -- Assumes nothing.
-use Prim.Native.Nat.{ℕ, _-_, _≤_, _<_}
+use Prim.Native.Nat.{ℕ, _≤_, _<_}
 use mathlib.Core.Path.{_≡_}
 use mathlib.Core.Bool.{Bool, not, cond}
 use mathlib.Core.List.{List, _∷_}
@@ -18,7 +18,7 @@ use Rattle.formulas.specs.Formula.{viewOf, connectiveTag, quantifierTag}
 use Rattle.formulas.specs.Normal.{lit, nmany, nall, flip, pair}
 use Rattle.formulas.specs.Built.{Placed, put, intern}
 use Rattle.building.specs.Arrays.{poolOf}
-use Rattle.building.specs.Walk.{Puts, placesIn, normal, formOf, normalOf, runOf, entryForm, Ready, Formed, Known, operandForms, OperandsKnown, Before, twoPairs}
+use Rattle.building.specs.Walk.{Puts, placesIn, normal, formOf, normalOf, runOf, entryForm, Formed, Known, operandForms, OperandsKnown, Before, twoPairs, WalkReady}
 use Rattle.building.proofs.Interning.{becomes-longer, put-becomes, intern-goes-on}
 use Rattle.building.proofs.build.Laws.{pool-good}
 use Rattle.building.proofs.build.Building.{builds-put, builds-full, builds-holds}
@@ -26,7 +26,7 @@ use Rattle.normal_form.proofs.negation_normal_form.Forms.{many-below, n
 use Rattle.building.proofs.build.Walks.{run-same, then-put, connective-full, connective-put}
 
 -- ---- expand
-module _ (lim n : ℕ) (tags values memo : List ℕ) (ready : Ready normal lim n tags values memo) (t : ℕ) (polarity : Bool) (v : View)
+module _ (lim n : ℕ) (tags values memo : List ℕ) (ready : WalkReady normal lim n tags values memo) (t : ℕ) (polarity : Bool) (v : View)
     (is : v ≡ viewOf (take lim tags) (take lim values) t) where
   pub expand-opaque : v ≡ Opaque → (r : Built) (tags₁ values₁ : List ℕ) → Puts n tags values (intern (lit polarity t) (poolOf tags values n)) r tags₁ values₁
       → Formed normal lim n tags values memo (normalOf lim tags values t polarity) r tags₁ values₁ memo

@@ -1,6 +1,6 @@
 -- Laws of the walkers that build the normal form of two operands.
 -- Assumes nothing.
-use Prim.Native.Nat.{ℕ, _-_, _≤_}
+use Prim.Native.Nat.{ℕ, _≤_}
 use mathlib.Core.Path.{_≡_}
 use mathlib.Core.Bool.{Bool, not}
 use mathlib.Core.List.{List, [], _∷_}

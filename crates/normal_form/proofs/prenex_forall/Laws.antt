@@ -20,7 +20,7 @@ use Rattle.formulas.specs.Formula.{allBefore, connectiveTag}
 use Rattle.formulas.specs.Normal.{Normal, lit, nmany, prenex, prenexes}
 use Rattle.formulas.specs.Built.{put, intern, normalsOf, normalView, takenOut}
 use Rattle.building.specs.Arrays.{poolOf}
-use Rattle.building.specs.Walk.{Puts, placesIn, taken-out, formOf, runOf, entryForm, Ready, Formed, Known, operandForms, OperandsKnown, Before, NormalBuilt}
+use Rattle.building.specs.Walk.{Puts, placesIn, taken-out, formOf, runOf, entryForm, Formed, Known, operandForms, OperandsKnown, Before, NormalBuilt, WalkReady}
 use Rattle.clauses.proofs.Reading.{before-at, read-literal, read-forall, read-connective, run-before}
 use Rattle.building.proofs.build.Building.{builds-stood}
 use Rattle.building.proofs.build.Walks.{connective-full, connective-put, whole-built}
@@ -52,7 +52,7 @@ prenexes-are f [] = refl
 prenexes-are f (u ∷ us) = rw (prenexes-are f us)
 
 -- ---- take_out
-module _ (lim n : ℕ) (tags values memo : List ℕ) (ready : Ready taken-out lim n tags values memo) (x : ℕ) (within : x < lim) (v : NormalView)
+module _ (lim n : ℕ) (tags values memo : List ℕ) (ready : WalkReady taken-out lim n tags values memo) (x : ℕ) (within : x < lim) (v : NormalView)
     (is : v ≡ normalView (take lim tags) (take lim values) x) where
   pub take-literal : v ≡ Literal → Formed taken-out lim n tags values memo (formOf taken-out lim tags values x true) (At (termAt x) n) tags values memo
   unfolding formOf intern

@@ -18,7 +18,7 @@ use Rattle.formulas.specs.declared.matching.Quantified.the-variants as quantifi
 use Rattle.formulas.specs.declared.matching.Two.{Two}
 use Rattle.formulas.specs.declared.matching.Two.the-variants as two
 use Rattle.formulas.proofs.matching.Laws.{Reads}
-use Rattle.bindings.proofs.Outcomes.{answers}
+use Rattle.bindings.proofs.Outcomes.{answers-refused, answers-accepted}
 
 module _ (tags values : List ℕ) (x : ℕ) (t : Two) (form : equality tags values x ≡ twoIn t) where
   pub join-form : t ≡ two.Not → refuse 2 x 0 ≡ qntJoin tags values x
@@ -76,4 +76,4 @@ module _ (tags values : List ℕ) (x : ℕ) (t : Two) (form : equality tags valu
                 join-passes n =
                     rw (checks, not-false (Bool·beq k k′) same, not-false (Bool·beq k′ k″) same′, eq-eqb _ _ bodies, ← o-is, ← i-is, ← g-is, ← s-is, not-false s n)
 
-pub ruleset join = (answers, join-form, join-left, join-inner, join-right, join-kinds, join-kinds-right, join-bodies, join-lists, join-passes)
+pub ruleset join = (answers-refused, answers-accepted, join-form, join-left, join-inner, join-right, join-kinds, join-kinds-right, join-bodies, join-lists, join-passes)

@@ -24,7 +24,7 @@ use Rattle.formulas.specs.declared.matching.Quantified.the-variants as quantifi
 use Rattle.formulas.specs.declared.matching.Two.{Two}
 use Rattle.formulas.specs.declared.matching.Two.the-variants as two
 use Rattle.formulas.proofs.matching.Laws.{Reads}
-use Rattle.bindings.proofs.Outcomes.{answers, unless-name, unless-none}
+use Rattle.bindings.proofs.Outcomes.{answers-refused, answers-accepted, unless-name, unless-none}
 
 -- ---- the checks of the right side at x
 module _ (tags values : List ℕ) (n : ℕ) (kind : Bool) (left : List ℕ) (body x : ℕ)
@@ -62,7 +62,7 @@ module _ (tags values : List ℕ) (n : ℕ) (kind : Bool) (left : List ℕ) (bod
           removes-passes e′ =
               rw (right, q-is, not-false (Bool·beq kind k) same, eq-eqb _ _ bodies, ← g-is, unless-none 8 0 _ (sym e ∙ f-is), unless-none 9 0 _ (sym e′ ∙ f′-is))
 
-pub ruleset right-side = (answers, removes-none, removes-kinds, removes-bodies, removes-new, removes-missing, removes-passes)
+pub ruleset right-side = (answers-refused, answers-accepted, removes-none, removes-kinds, removes-bodies, removes-new, removes-missing, removes-passes)
 
 -- ---- the early acceptance
 found-some : (o : Option Binding) (m : ℕ) → Name m ≡ nameOf o → isSome o ≡ true
@@ -95,7 +95,7 @@ module _ (tags values : List ℕ) (n : ℕ) (kind : Bool) (left : List ℕ) (bod
   unfolding bodyOr unused
   body-alone same f f-is e = rw (found-none (firstOf (bindingFree tags values n body) (bindingsOf left)) (sym e ∙ f-is), eq-eqb body x same)
 
-pub ruleset early = (answers, body-other, body-used, body-alone)
+pub ruleset early = (answers-refused, answers-accepted, body-other, body-used, body-alone)
 
 -- ---- the rule
 module _ (tags values : List ℕ) (n x : ℕ) (t : Two) (form : equality tags values x ≡ twoIn t) where
@@ -113,4 +113,4 @@ module _ (tags values : List ℕ) (n x : ℕ) (t : Two) (form : equality tags va
     unfolding qntRmUnused twoIn quantifierIn need _>>=_
     unused-rest k b q-is g g-is a is = rw (is, form, e, left, q-is, g-is)
 
-pub ruleset unused-rule = (answers, unused-form, unused-left, unused-rest)
+pub ruleset unused-rule = (answers-refused, answers-accepted, unused-form, unused-left, unused-rest)

@@ -1,6 +1,6 @@
 -- Laws of `check`: each exit's answer, and the arrays after it.
 -- Assumes nothing.
-use Prim.Native.Nat.{ℕ, suc, _-_, _≤_, _<_, min}
+use Prim.Native.Nat.{ℕ, suc, _≤_, _<_, min}
 use mathlib.Core.Path.{_≡_, refl, sym, ap, _∙_}
 use mathlib.Core.Logic.{_↔_}
 use mathlib.Core.Bool.{Bool, true, false, not, _&&_, cond}
@@ -20,7 +20,6 @@ use Rattle.answers.specs.declared.Answer.{Answer}
 use Rattle.meaning.proofs.trees.Header.{both, cells-length, term-tagged}
 use Rattle.meaning.proofs.trees.Passed.{Passed, pool-passes, pool-accepts, header-at}
 use Rattle.answers.specs.Outcome.{answerOf}
-use Rattle.formulas.specs.Pattern.{equality}
 use Rattle.meaning.proofs.patterns.Trees.{equality-tree}
 use Rattle.quantifier_rules.specs.QntJoin.{qntJoin}
 use Rattle.quantifier_rules.specs.QntRmUnused.{qntRmUnused}
@@ -30,7 +29,7 @@ use Rattle.quantifier_rules.specs.MiniscopeIte.{miniscopeIte}
 use Rattle.quantifier_rules.specs.LeftFits.{LeftFits}
 use Rattle.rules.specs.Step.{isRule, ruleOutcome, stepAnswer, cellsLeft, Follows, StepHolds, Step}
 use Rattle.clausification.specs.Promises.{Clausified}
-use Rattle.rules.specs.StepWalk.{beforeRule, Kept, Judged}
+use Rattle.rules.specs.StepWalk.{beforeRule, Judged, CellsKept}
 use Rattle.rules.proofs.Codes.{rule-codes, not-30}
 use Rattle.rules.proofs.Accepted.{step-follows}
 use Rattle.rules.proofs.Schema.{step-is}
@@ -86,7 +85,7 @@ module _ (tags values : List ℕ) (n rule x : ℕ) (r : Answer) where
   pub apply-other : (rule ≡ 3 → ⊥) → r ≡ answerOf (ruleOutcome tags values n rule x) → After tags values
   apply-other other e = record { answer = e; tags-kept = kept tags; values-kept = kept values }
     where
-      kept : (l : List ℕ) → Kept n rule l l
+      kept : (l : List ℕ) → CellsKept n rule l l
       kept l = record { same = λ o. refl; zeroed = λ o. absurd (other o) }
 
   pub apply-cnf : rule ≡ 3 → (tags′ values′ : List ℕ) → Clausified tags values n x r tags′ values′ → After tags′ values′
@@ -191,7 +190,7 @@ module _ (tags values table : List ℕ) (n rule : ℕ) (conclusion : List ℕ) (
       never : r .code ≡ 30 → ⊥
       never o = not-30 (ruleOutcome tags values n rule x) (rule-codes tags values n x rule) (sym (ap (λ (q : Answer). q .code) (j .answer)) ∙ o)
 
-      left : (l l′ : List ℕ) → Kept n rule l l′ → l′ ≡ cellsLeft tags values table n rule conclusion r l
+      left : (l l′ : List ℕ) → CellsKept n rule l l′ → l′ ≡ cellsLeft tags values table n rule conclusion r l
       unfolding cellsLeft
       left l l′ k =
           by-test (eqb rule 3)

@@ -34,8 +34,7 @@ use Rattle.normal_form.proofs.NormalFormTruth.{used-count}
 use Rattle.normal_form.proofs.ClauseListTruth.{old-term, clausal-form-is, clausal-form-read, clauses-are, clause-places-are}
 use Rattle.formulas.specs.Pattern.{operator}
 use Rattle.meaning.proofs.patterns.Passes.{cond-some}
-use Rattle.meaning.proofs.patterns.Trees.{term-below}
-use Rattle.meaning.proofs.patterns.Trees.{AllTerms as Operands}
+use Rattle.meaning.proofs.patterns.Trees.{term-below, AllTerms as Operands}
 use Rattle.clausification.specs.QntCnf.{isClause, anyClause, clausesFrom}
 use Rattle.rules.proofs.sound.QntCnf.{passing, or-tree}
 use Rattle.schemas.specs.Schemas.{IsClause, clausesOf}

@@ -32,7 +32,7 @@ use Rattle.rules.proofs.schemas.Clause.{clause-there, clause-back}
 -- what is left of a step that passes 31, 13 and 32
 past-limits : (b₁ b₂ b₃ : Bool) (rest : Outcome (Unit {0})) → Unlimited (answerOf (guard 31 0 0 b₁ >> (guard 13 0 0 b₂ >> (guard 32 0 0 b₃ >> rest)))) → rest ≡ pass tt
     → (guard 31 0 0 b₁ >> (guard 13 0 0 b₂ >> (guard 32 0 0 b₃ >> rest))) ≡ pass tt
-unfolding guard _>>_ answerOf
+unfolding guard _>>_
 past-limits true true true rest u e = e
 past-limits true true false rest u e = absurd (u .2 refl)
 past-limits true false b₃ rest u e = absurd (u .1 refl)

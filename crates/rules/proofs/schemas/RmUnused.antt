@@ -18,14 +18,13 @@ use Rattle.answers.specs.Outcome.{pass, _>>=_, _>>_, need, guard, unless}
 use Rattle.bindings.specs.Binding.{firstOf}
 use Rattle.free_variables.specs.BindingFree.{bindingFree}
 use Rattle.meaning.proofs.patterns.Bindings.{varsAt}
-use Rattle.meaning.proofs.patterns.Sound.{beq-eq}
+use Rattle.meaning.proofs.patterns.Sound.{beq-eq, beq-same}
 use Rattle.formulas.specs.Pattern.{Quantifier}
 use Rattle.meaning.proofs.patterns.Passes.{need-passes, guard-passes, unless-passes, unless-last, by-option}
 use Rattle.meaning.proofs.patterns.Trees.{IsQuantifier, IsEquality, quantifier-tree, equality-tree, list-unfree}
 use Rattle.quantifier_rules.specs.QntRmUnused.{removes as removesAt, unused, bodyOr, qntRmUnused}
 use Rattle.schemas.specs.Schemas.{QntRmUnused, removes, removes-all, equal, binder, Among, FreeAmong, NotFree}
 use Rattle.meaning.proofs.patterns.Back.{quantifier-back, equality-back, equality-found, same-place, list-unfree-back}
-use Rattle.meaning.proofs.patterns.Sound.{beq-same}
 use Rattle.rules.proofs.schemas.Lists.{fewer-there, fewer-back, used-there, used-back}
 
 module _ {tags values rules : List ℕ} {n : ℕ} (c : Passed tags values rules n) where

@@ -12,7 +12,7 @@ use Rattle.meaning.specs.Tree.{tree}
 use Rattle.meaning.specs.FreeTree.{same, has}
 use Rattle.meaning.proofs.trees.Passed.{Passed}
 use Rattle.meaning.specs.Skeleton.{skeleton}
-use Rattle.meaning.specs.Truth.{Assignment, Reading, Local, over, True}
+use Rattle.meaning.specs.Truth.{Assignment, Reading, Local, True}
 use Rattle.meaning.proofs.truth.Over.{bool-cases, not-both}
 use Rattle.answers.specs.Outcome.{pass}
 use Rattle.bindings.specs.Binding.{Binding, same as samePair}

@@ -1,16 +1,13 @@
 -- Laws of `decimal`: `io::decimal`'s digits are these, and a u32 has at most ten.
 -- Assumes nothing.
-use Prim.Native.Nat.{ℕ, zero, suc, _+_, _-_, _*_, _/_, _%_, _^_, _≤_, _<_}
-use mathlib.Core.Path.{_≡_, refl, sym, ap, _∙_}
-use mathlib.Core.Bool.{Bool, true, false}
-use mathlib.Core.List.{List, [], _∷_, _++_}
-use lib.ListN.{length}
-use lib.Dec.{leb, ltb}
+use Prim.Native.Nat.{ℕ, zero, suc, _-_, _*_, _/_, _%_, _^_, _≤_, _<_}
+use mathlib.Core.Path.{_≡_}
+use lib.Dec.{leb}
 use native.Mathlib.Omega.{arith}
 use native.Mathlib.Numerals.{unary-clauses}
 use native.Mathlib.Nat.{pow-suc, pow-le-pow-right, one-le-pow}
 use borrow.Author.Tests.{lt-ltb, le-ltb, leb-true, leb-false}
-use Rattle.io.specs.Digits.{digits, glyph, Fewest}
+use Rattle.io.specs.Digits.{digits, Fewest}
 use Rattle.cells.specs.ByPlace.{by-test}
 use Rattle.step_files.specs.Decimal.{decimal, decimalIn}
 

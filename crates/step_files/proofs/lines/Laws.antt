@@ -19,7 +19,7 @@ use Rattle.answers.specs.declared.Answer.{Answer}
 use Rattle.rules.specs.Step.{cellsLeft, Step}
 use Rattle.step_files.specs.StepFile.{cellsFrom, answerTo, lines}
 use Rattle.step_files.specs.Steps.{Sized, Ready}
-use Rattle.step_files.specs.Text.{line, Put}
+use Rattle.step_files.specs.Text.{line, LinePut}
 use Rattle.step_files.proofs.answer_lines.Laws.{put-append}
 
 -- ---- the arrays
@@ -97,17 +97,17 @@ module _ (bytes : List ℕ) (n steps room : ℕ) (checked : Answer) (tags₀ val
     values-same = cc (step .values-are, left-same bytes (2 + n) n (ready .sized .n-fits) tags values builtIn rule (place ∷ []) a, ready .values-are, ready .sized .n-is)
 
 -- ---- the lines
-pub lines-none : (bytes out : List ℕ) → Put (lines bytes 0) (44 * 0) 0 out 0 out
+pub lines-none : (bytes out : List ℕ) → LinePut (lines bytes 0) (44 * 0) 0 out 0 out
 unfolding lines
 lines-none bytes out = record { end = refl; short = omega arith; out-is = refl }
 
-module _ (bytes : List ℕ) (k : ℕ) (out₀ : List ℕ) (at : ℕ) (out : List ℕ) (so-far : Put (lines bytes k) (44 * k) 0 out₀ at out) where
-  pub lines-next : (a : Answer) (r : ℕ) (out′ : List ℕ) → a ≡ answerTo bytes k → Put (line (k + 1) a) 44 at out r out′
-      → Put (lines bytes (k + 1)) (44 * (k + 1)) 0 out₀ r out′
+module _ (bytes : List ℕ) (k : ℕ) (out₀ : List ℕ) (at : ℕ) (out : List ℕ) (so-far : LinePut (lines bytes k) (44 * k) 0 out₀ at out) where
+  pub lines-next : (a : Answer) (r : ℕ) (out′ : List ℕ) → a ≡ answerTo bytes k → LinePut (line (k + 1) a) 44 at out r out′
+      → LinePut (lines bytes (k + 1)) (44 * (k + 1)) 0 out₀ r out′
   unfolding lines
   lines-next a r out′ is p =
       let e : 44 * suc k ≡ 44 * k + 44 = omega arith in
       rw (add-one, e, ← is) (put-append so-far (rw add-one at p))
 
-  pub lines-all : (steps : ℕ) → k ≡ steps → steps ≤ 256 → Put (lines bytes steps) 11264 0 out₀ at out
+  pub lines-all : (steps : ℕ) → k ≡ steps → steps ≤ 256 → LinePut (lines bytes steps) 11264 0 out₀ at out
   lines-all steps e h = record { end = rw (← e) (so-far .end); short = rw (← e) (omega (arith, so-far .short)); out-is = rw (← e) (so-far .out-is) }

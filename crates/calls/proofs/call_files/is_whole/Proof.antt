@@ -2,7 +2,6 @@ use Rattle.calls.proofs.call_files.Laws.{whole}
 use borrow.Author.Needs.{needs}
 use Rattle.calls.proofs.call_files.is_whole.Statement.{statement}
 use Rattle.calls.proofs.call_files.is_whole.Tie as tie
-use Rattle.calls.proofs.call_files.conclusion_count.Reads as conclusion-count-reads
 
 returns : tie.Need-returns
 returns c = search whole

@@ -12,8 +12,8 @@ enum-known-l c = search needs
 enum-told : tie.Need-enum-told
 enum-told c = search needs
 
-refuse-requires : tie.Need-refuse-requires
-refuse-requires c κs = search needs
+refused-requires : tie.Need-refused-requires
+refused-requires c κs = search needs
 
 same-length : tie.Need-same-length
 same-length c = search needs
@@ -33,8 +33,8 @@ enum-known-left-kind c = search needs
 enum-told-2 : tie.Need-enum-told-2
 enum-told-2 c = search needs
 
-refuse-requires-2 : tie.Need-refuse-requires-2
-refuse-requires-2 c κs = search needs
+refused-requires-2 : tie.Need-refused-requires-2
+refused-requires-2 c κs = search needs
 
 same-length-3 : tie.Need-same-length-3
 same-length-3 c = search needs
@@ -54,8 +54,8 @@ enum-known-right-kind c = search needs
 enum-told-3 : tie.Need-enum-told-3
 enum-told-3 c = search needs
 
-refuse-requires-3 : tie.Need-refuse-requires-3
-refuse-requires-3 c κs = search needs
+refused-requires-3 : tie.Need-refused-requires-3
+refused-requires-3 c κs = search needs
 
 same-length-5 : tie.Need-same-length-5
 same-length-5 c = search needs
@@ -65,13 +65,13 @@ same-length-6 c = search needs
 
 returns-3 : tie.Need-returns-3
 returns-3 c = (
-  leaves-all _ _ _ _ _ _ (c .refuse3 .ensures) (sides-right _ _ _ _ _ (c .before .before .before .before .before .before .before .before .before .before .before .before .before .before .before .implication-at .ensures) _ _ (c .before .before .before .before .before .before .before .before .before .before .before .before .before .l .given .1)
+  leaves-all _ _ _ _ _ _ _ _ (c .refused3 .ensures) (sides-right _ _ _ _ _ (c .before .before .before .before .before .before .before .before .before .before .before .before .before .before .before .implication-at .ensures) _ _ (c .before .before .before .before .before .before .before .before .before .before .before .before .before .l .given .1)
       _ (c .before .before .before .before .before .before .before .before .before .quantified-at .ensures) _ _ (c .before .before .before .before .before .before .before .left-kind .given .1) _ (c .before .before .before .quantified-at2 .ensures) (c .before .enum-told3 .given .1)),
   search needs,
 )
 
-refuse-requires-4 : tie.Need-refuse-requires-4
-refuse-requires-4 c κs = search needs
+refused-requires-4 : tie.Need-refused-requires-4
+refused-requires-4 c κs = search needs
 
 same-length-7 : tie.Need-same-length-7
 same-length-7 c = search needs
@@ -83,8 +83,8 @@ returns-4 : tie.Need-returns-4
 returns-4 c =
     (search matching, c .before .before .before .before .before .before .before .before .before .before .before .before .before .before .before .before .before .before .before .before .before .before .pre .0)
 
-refuse-requires-5 : tie.Need-refuse-requires-5
-refuse-requires-5 c κs = search needs
+refused-requires-5 : tie.Need-refused-requires-5
+refused-requires-5 c κs = search needs
 
 same-length-9 : tie.Need-same-length-9
 same-length-9 c = search needs
@@ -123,29 +123,29 @@ checks-spec =
     implication-at-requires
     enum-known-l
     enum-told
-    refuse-requires
+    refused-requires
     same-length
     same-length-2
     returns
     quantified-at-requires
     enum-known-left-kind
     enum-told-2
-    refuse-requires-2
+    refused-requires-2
     same-length-3
     same-length-4
     returns-2
     quantified-at-requires-2
     enum-known-right-kind
     enum-told-3
-    refuse-requires-3
+    refused-requires-3
     same-length-5
     same-length-6
     returns-3
-    refuse-requires-4
+    refused-requires-4
     same-length-7
     same-length-8
     returns-4
-    refuse-requires-5
+    refused-requires-5
     same-length-9
     same-length-10
     returns-5

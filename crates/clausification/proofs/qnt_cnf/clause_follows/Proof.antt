@@ -15,8 +15,8 @@ first-unbound-requires c κs = search needs
 enum-known-name : tie.Need-enum-known-name
 enum-known-name c = search needs
 
-refuse-requires : tie.Need-refuse-requires
-refuse-requires c κs = search needs
+refused-requires : tie.Need-refused-requires
+refused-requires c κs = search needs
 
 returns : tie.Need-returns
 returns c = search comparison
@@ -27,8 +27,8 @@ enum-told c = search needs
 any-clause-requires : tie.Need-any-clause-requires
 any-clause-requires c κs = search needs
 
-refuse-requires-2 : tie.Need-refuse-requires-2
-refuse-requires-2 c κs = search needs
+refused-requires-2 : tie.Need-refused-requires-2
+refused-requires-2 c κs = search needs
 
 returns-2 : tie.Need-returns-2
 returns-2 c = search comparison
@@ -39,8 +39,8 @@ first-missing-requires c κs = search needs
 enum-known-name-2 : tie.Need-enum-known-name-2
 enum-known-name-2 c = search needs
 
-refuse-requires-3 : tie.Need-refuse-requires-3
-refuse-requires-3 c κs = search needs
+refused-requires-3 : tie.Need-refused-requires-3
+refused-requires-3 c κs = search needs
 
 returns-3 : tie.Need-returns-3
 returns-3 c = search comparison
@@ -54,8 +54,8 @@ first-taken-requires c κs = search needs
 enum-known-name-3 : tie.Need-enum-known-name-3
 enum-known-name-3 c = search needs
 
-refuse-requires-4 : tie.Need-refuse-requires-4
-refuse-requires-4 c κs = search needs
+refused-requires-4 : tie.Need-refused-requires-4
+refused-requires-4 c κs = search needs
 
 returns-4 : tie.Need-returns-4
 returns-4 c = search comparison
@@ -63,8 +63,8 @@ returns-4 c = search comparison
 enum-told-3 : tie.Need-enum-told-3
 enum-told-3 c = search needs
 
-accept-requires : tie.Need-accept-requires
-accept-requires c κs = search needs
+accepted-requires : tie.Need-accepted-requires
+accepted-requires c κs = search needs
 
 returns-5 : tie.Need-returns-5
 returns-5 c = search comparison
@@ -77,21 +77,21 @@ clause-follows-spec =
     bindings-requires-2
     first-unbound-requires
     enum-known-name
-    refuse-requires
+    refused-requires
     returns
     enum-told
     any-clause-requires
-    refuse-requires-2
+    refused-requires-2
     returns-2
     first-missing-requires
     enum-known-name-2
-    refuse-requires-3
+    refused-requires-3
     returns-3
     enum-told-2
     first-taken-requires
     enum-known-name-3
-    refuse-requires-4
+    refused-requires-4
     returns-4
     enum-told-3
-    accept-requires
+    accepted-requires
     returns-5)

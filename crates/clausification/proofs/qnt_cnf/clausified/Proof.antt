@@ -13,8 +13,8 @@ enum-known-x c = search needs
 enum-told : tie.Need-enum-told
 enum-told c = search needs
 
-refuse-requires : tie.Need-refuse-requires
-refuse-requires c κs = search needs
+refused-requires : tie.Need-refused-requires
+refused-requires c κs = search needs
 
 same-length : tie.Need-same-length
 same-length c = c .before .before .before .before .before .before .tags .given
@@ -101,7 +101,7 @@ clausified-spec =
     build-forms-requires
     enum-known-x
     enum-told
-    refuse-requires
+    refused-requires
     same-length
     same-length-2
     returns

@@ -19,7 +19,7 @@ use Rattle.cells.proofs.run.operands.Reads as operands-reads
 use Rattle.free_variables.proofs.free_masks.note_mask.Reads as note-mask-reads
 use Rattle.free_variables.proofs.free_masks.unbound_pairs.Reads as unbound-pairs-reads
 use Rattle.free_variables.proofs.free_masks.variable_mask.Reads as variable-mask-reads
-use Rattle.free_variables.proofs.term_names.below_at.Reads as below-at-reads
+use Rattle.free_variables.proofs.term_names.free_from.Reads as free-from-reads
 use Rattle.free_variables.proofs.free_masks.+mask_of_run+mask_of_term+mask_of_values.{statement}
 use Rattle.free_variables.proofs.free_masks.+mask_of_run+mask_of_term+mask_of_values.Tie.{close}
 
@@ -74,7 +74,7 @@ mask-of-run-calls t = (mask-of-run-below t, mask-of-run.Post, mask-of-term-below
 
 -- what the calls in `mask-of-term` ask and tell, below the measure t
 abbrev mask-of-term-calls : ℕ → mask-of-term-lts.Claims
-mask-of-term-calls t = (cell-reads.Asked, cell-reads.Learnt, below-at-reads.Asked, below-at-reads.Learnt, note-mask-reads.Asked, note-mask-reads.Learnt, variable-mask-reads.Asked, variable-mask-reads.Learnt, mask-of-term-below t, mask-of-term.Post, operands-reads.Asked, operands-reads.Learnt, unbound-pairs-reads.Asked, unbound-pairs-reads.Learnt, mask-of-run-below t, mask-of-run.Post, mask-of-values-below t, mask-of-values.Post)
+mask-of-term-calls t = (cell-reads.Asked, cell-reads.Learnt, free-from-reads.Asked, free-from-reads.Learnt, note-mask-reads.Asked, note-mask-reads.Learnt, variable-mask-reads.Asked, variable-mask-reads.Learnt, mask-of-term-below t, mask-of-term.Post, operands-reads.Asked, operands-reads.Learnt, unbound-pairs-reads.Asked, unbound-pairs-reads.Learnt, mask-of-run-below t, mask-of-run.Post, mask-of-values-below t, mask-of-values.Post)
 
 -- what the calls in `mask-of-values` ask and tell, below the measure t
 abbrev mask-of-values-calls : ℕ → mask-of-values-lts.Claims
@@ -140,8 +140,8 @@ mask-of-term-same-length t c = cc
 mask-of-term-returns : (t : ℕ) → mask-of-term-lts.Need-returns (mask-of-term-calls t) (mask-of-term-at t) mask-of-term.Post
 mask-of-term-returns t c = search walks
 
-mask-of-term-below-at-requires : (t : ℕ) → mask-of-term-lts.Need-below-at-requires (mask-of-term-calls t) (mask-of-term-at t) mask-of-term.Post
-mask-of-term-below-at-requires t c κs = search needs
+mask-of-term-free-from-requires : (t : ℕ) → mask-of-term-lts.Need-free-from-requires (mask-of-term-calls t) (mask-of-term-at t) mask-of-term.Post
+mask-of-term-free-from-requires t c κs = search needs
 
 mask-of-term-enum-told : (t : ℕ) → mask-of-term-lts.Need-enum-told (mask-of-term-calls t) (mask-of-term-at t) mask-of-term.Post
 mask-of-term-enum-told t c = search needs
@@ -154,7 +154,7 @@ mask-of-term-enum-told-2 t c = search needs
 
 mask-of-term-variable-mask-requires : (t : ℕ) → mask-of-term-lts.Need-variable-mask-requires (mask-of-term-calls t) (mask-of-term-at t) mask-of-term.Post
 mask-of-term-variable-mask-requires t c κs =
-    (search needs, variable-tag _ _ _ _ (c .before .before .before .below-at .ensures) (c .before .enum-told2 .given .1))
+    (search needs, variable-tag _ _ _ _ (c .before .before .before .free-from .ensures) (c .before .enum-told2 .given .1))
 
 mask-of-term-note-mask-requires-2 : (t : ℕ) → mask-of-term-lts.Need-note-mask-requires-2 (mask-of-term-calls t) (mask-of-term-at t) mask-of-term.Post
 mask-of-term-note-mask-requires-2 t c κs =
@@ -165,7 +165,7 @@ mask-of-term-enum-known-place t c = search needs
 
 mask-of-term-mask-of-term-requires : (t : ℕ) → mask-of-term-lts.Need-mask-of-term-requires (mask-of-term-calls t) (mask-of-term-at t) mask-of-term.Post
 mask-of-term-mask-of-term-requires t c κs =
-    let h = body-below _ _ _ _ (c .before .before .before .before .below-at .ensures) _ (c .before .before .place .given .1) in
+    let h = body-below _ _ _ _ (c .before .before .before .before .free-from .ensures) _ (c .before .before .place .given .1) in
     (omega arith, (search needs, search needs))
 
 mask-of-term-operands-requires : (t : ℕ) → mask-of-term-lts.Need-operands-requires (mask-of-term-calls t) (mask-of-term-at t) mask-of-term.Post
@@ -221,7 +221,7 @@ mask-of-term-mask-of-values-requires-2 t c κs = search needs
 mask-of-term-mask-of-term-requires-2 : (t : ℕ) → mask-of-term-lts.Need-mask-of-term-requires-2 (mask-of-term-calls t) (mask-of-term-at t) mask-of-term.Post
 mask-of-term-mask-of-term-requires-2 t c κs =
     let at-place = c .before .before .before .before .before .before .before in
-    let h = let-below _ _ _ _ (at-place .before .before .below-at .ensures) _ (at-place .place2 .given .1) in
+    let h = let-below _ _ _ _ (at-place .before .before .free-from .ensures) _ (at-place .place2 .given .1) in
     let start = c .before .before .before .before .before .before .before .before .before .before .before .before .before .before .before .before .before .before in
     (omega arith, (start .pre .1 .0, c .before .before .before .mask-of-values2 .ensures .right))
 
@@ -277,7 +277,7 @@ mask-of-term-returns-7 t c =
     let at-term = c .before .before .before .before .before .before .before .before in
     let at-values = c .before .before .before .before .before .before .before .before .before .before .before .before in
     let at-place = c .before .before .before .before .before .before .before .before .before .before .before .before .before .before .before .before in
-    walk-let _ _ _ _ _ _ (at-place .before .before .below-at .ensures) _ (at-place .place2 .given .1) _ (at-values .before .before .operands4 .ensures) _ _ (at-values .mask-of-values2 .ensures)
+    walk-let _ _ _ _ _ _ (at-place .before .before .free-from .ensures) _ (at-place .place2 .given .1) _ (at-values .before .before .operands4 .ensures) _ _ (at-values .mask-of-values2 .ensures)
     _ _ (at-term .mask-of-term2 .ensures) _ (at-unbound .before .cell3 .ensures) _ (at-unbound .unbound-pairs2 .ensures) _ _ (c .before .before .note-mask6 .ensures)
 
 mask-of-values-returns : (t : ℕ) → mask-of-values-lts.Need-returns (mask-of-values-calls t) (mask-of-values-at t) mask-of-values.Post
@@ -357,7 +357,7 @@ pub +mask-of-run+mask-of-term+mask-of-values-spec : {M : Type 1} → statement M
     (mask-of-term-sub-result t)
     (mask-of-term-same-length t)
     (mask-of-term-returns t)
-    (mask-of-term-below-at-requires t)
+    (mask-of-term-free-from-requires t)
     (mask-of-term-enum-told t)
     (mask-of-term-note-mask-requires t)
     (mask-of-term-enum-told-2 t)

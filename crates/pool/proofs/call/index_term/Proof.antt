@@ -1,37 +1,21 @@
-use Rattle.pool.proofs.checks.Laws.{terms, indexed-terms}
+use Rattle.pool.proofs.call.Laws.{term-by}
 use borrow.Author.Needs.{needs}
 use Rattle.pool.proofs.call.index_term.Statement.{statement}
 use Rattle.pool.proofs.call.index_term.Tie as tie
 
-index-pool-requires : tie.Need-index-pool-requires
-index-pool-requires c κs = search needs
+built-in-requires : tie.Need-built-in-requires
+built-in-requires c κs = search needs
+
+slice-aggregate-index-term-by : tie.Need-slice-aggregate-index-term-by
+slice-aggregate-index-term-by c = search needs
+
+index-term-by-requires : tie.Need-index-term-by-requires
+index-term-by-requires c κs = search needs
 
 returns : tie.Need-returns
-returns c = search (terms, indexed-terms)
-
-is-term-requires : tie.Need-is-term-requires
-is-term-requires c κs = search needs
-
-refused-requires : tie.Need-refused-requires
-refused-requires c κs = search needs
-
-returns-2 : tie.Need-returns-2
-returns-2 c = search (terms, indexed-terms)
-
-accepted-requires : tie.Need-accepted-requires
-accepted-requires c κs = search needs
-
-returns-3 : tie.Need-returns-3
-returns-3 c = search (terms, indexed-terms)
+returns c = search (term-by, needs)
 
 pub index-term-spec : {M : Type 1} → statement M
 index-term-spec =
     tie.close
-    (tie.spec
-    index-pool-requires
-    returns
-    is-term-requires
-    refused-requires
-    returns-2
-    accepted-requires
-    returns-3)
+    (tie.spec built-in-requires slice-aggregate-index-term-by index-term-by-requires returns)

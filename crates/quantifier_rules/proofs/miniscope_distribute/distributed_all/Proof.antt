@@ -17,8 +17,8 @@ abbrev μ-loop : tie.MeasureT-loop
 loop-holds : tie.Need-loop-holds Inv-loop μ-loop
 loop-holds c = search all
 
-accept-requires : tie.Need-accept-requires Inv-loop μ-loop
-accept-requires c κs = search needs
+accepted-requires : tie.Need-accepted-requires Inv-loop μ-loop
+accepted-requires c κs = search needs
 
 returns : tie.Need-returns Inv-loop μ-loop
 returns c = search all
@@ -41,8 +41,8 @@ distributed-requires c κs = search needs
 enum-known-k : tie.Need-enum-known-k Inv-loop μ-loop
 enum-known-k c = search needs
 
-refuse-requires : tie.Need-refuse-requires Inv-loop μ-loop
-refuse-requires c κs = search needs
+refused-requires : tie.Need-refused-requires Inv-loop μ-loop
+refused-requires c κs = search needs
 
 returns-2 : tie.Need-returns-2 Inv-loop μ-loop
 returns-2 c = search all
@@ -59,8 +59,8 @@ loop-less c = search needs
 loop-again : tie.Need-loop-again Inv-loop μ-loop
 loop-again c = search all
 
-accept-requires-2 : tie.Need-accept-requires-2 Inv-loop μ-loop
-accept-requires-2 c κs = search needs
+accepted-requires-2 : tie.Need-accepted-requires-2 Inv-loop μ-loop
+accepted-requires-2 c κs = search needs
 
 returns-3 : tie.Need-returns-3 Inv-loop μ-loop
 returns-3 c = search all
@@ -72,7 +72,7 @@ distributed-all-spec =
     Inv-loop
     μ-loop
     loop-holds
-    accept-requires
+    accepted-requires
     returns
     mul-t10
     shared-slice-read-t14
@@ -80,11 +80,11 @@ distributed-all-spec =
     shared-slice-read-t18
     distributed-requires
     enum-known-k
-    refuse-requires
+    refused-requires
     returns-2
     enum-told
     add-i
     loop-less
     loop-again
-    accept-requires-2
+    accepted-requires-2
     returns-3)

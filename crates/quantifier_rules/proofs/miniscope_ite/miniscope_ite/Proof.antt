@@ -12,8 +12,8 @@ enum-known-s c = search needs
 enum-told : tie.Need-enum-told
 enum-told c = search needs
 
-refuse-requires : tie.Need-refuse-requires
-refuse-requires c κs = search needs
+refused-requires : tie.Need-refused-requires
+refused-requires c κs = search needs
 
 returns : tie.Need-returns
 returns c = search rule
@@ -27,8 +27,8 @@ bindings-requires-2 c κs = search needs
 same-lists-requires : tie.Need-same-lists-requires
 same-lists-requires c κs = search needs
 
-refuse-requires-2 : tie.Need-refuse-requires-2
-refuse-requires-2 c κs = search needs
+refused-requires-2 : tie.Need-refused-requires-2
+refused-requires-2 c κs = search needs
 
 returns-2 : tie.Need-returns-2
 returns-2 c = search rule
@@ -39,8 +39,8 @@ bindings-requires-3 c κs = search needs
 same-lists-requires-2 : tie.Need-same-lists-requires-2
 same-lists-requires-2 c κs = search needs
 
-refuse-requires-3 : tie.Need-refuse-requires-3
-refuse-requires-3 c κs = search needs
+refused-requires-3 : tie.Need-refused-requires-3
+refused-requires-3 c κs = search needs
 
 returns-3 : tie.Need-returns-3
 returns-3 c = search rule
@@ -51,8 +51,8 @@ first-free-requires c κs = search needs
 enum-known-name : tie.Need-enum-known-name
 enum-known-name c = search needs
 
-refuse-requires-4 : tie.Need-refuse-requires-4
-refuse-requires-4 c κs = search needs
+refused-requires-4 : tie.Need-refused-requires-4
+refused-requires-4 c κs = search needs
 
 returns-4 : tie.Need-returns-4
 returns-4 c = search rule
@@ -60,8 +60,8 @@ returns-4 c = search rule
 enum-told-2 : tie.Need-enum-told-2
 enum-told-2 c = search needs
 
-accept-requires : tie.Need-accept-requires
-accept-requires c κs = search needs
+accepted-requires : tie.Need-accepted-requires
+accepted-requires c κs = search needs
 
 returns-5 : tie.Need-returns-5
 returns-5 c = search rule
@@ -73,21 +73,21 @@ miniscope-ite-spec =
     ite-sides-requires
     enum-known-s
     enum-told
-    refuse-requires
+    refused-requires
     returns
     bindings-requires
     bindings-requires-2
     same-lists-requires
-    refuse-requires-2
+    refused-requires-2
     returns-2
     bindings-requires-3
     same-lists-requires-2
-    refuse-requires-3
+    refused-requires-3
     returns-3
     first-free-requires
     enum-known-name
-    refuse-requires-4
+    refused-requires-4
     returns-4
     enum-told-2
-    accept-requires
+    accepted-requires
     returns-5)

@@ -18,8 +18,8 @@ split-requires c κs = search short
 enum-known-k : tie.Need-enum-known-k
 enum-known-k c = search needs
 
-refuse-requires : tie.Need-refuse-requires
-refuse-requires c κs = search needs
+refused-requires : tie.Need-refused-requires
+refused-requires c κs = search needs
 
 returns : tie.Need-returns
 returns c = search sides
@@ -33,8 +33,8 @@ first-free-requires c κs = search needs
 enum-known-name : tie.Need-enum-known-name
 enum-known-name c = search needs
 
-refuse-requires-2 : tie.Need-refuse-requires-2
-refuse-requires-2 c κs = search needs
+refused-requires-2 : tie.Need-refused-requires-2
+refused-requires-2 c κs = search needs
 
 returns-2 : tie.Need-returns-2
 returns-2 c = search sides
@@ -42,8 +42,8 @@ returns-2 c = search sides
 enum-told-2 : tie.Need-enum-told-2
 enum-told-2 c = search needs
 
-accept-requires : tie.Need-accept-requires
-accept-requires c κs = search needs
+accepted-requires : tie.Need-accepted-requires
+accepted-requires c κs = search needs
 
 returns-3 : tie.Need-returns-3
 returns-3 c = search sides
@@ -57,13 +57,13 @@ split-sides-spec =
     operands-requires-2
     split-requires
     enum-known-k
-    refuse-requires
+    refused-requires
     returns
     enum-told
     first-free-requires
     enum-known-name
-    refuse-requires-2
+    refused-requires-2
     returns-2
     enum-told-2
-    accept-requires
+    accepted-requires
     returns-3)

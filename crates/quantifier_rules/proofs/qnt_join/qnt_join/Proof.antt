@@ -1,5 +1,5 @@
 use Rattle.quantifier_rules.proofs.qnt_join.Laws.{join, join-inner, join-right, join-lists, join-passes, join-kinds, join-kinds-right, join-bodies}
-use Rattle.bindings.proofs.Outcomes.{answers}
+use Rattle.bindings.proofs.Outcomes.{answers-refused, answers-accepted}
 use borrow.Author.Needs.{needs}
 use Rattle.quantifier_rules.proofs.qnt_join.qnt_join.Statement.{statement}
 use Rattle.quantifier_rules.proofs.qnt_join.qnt_join.Tie as tie
@@ -13,8 +13,8 @@ enum-known-l c = search needs
 enum-told : tie.Need-enum-told
 enum-told c = search needs
 
-refuse-requires : tie.Need-refuse-requires
-refuse-requires c κs = search needs
+refused-requires : tie.Need-refused-requires
+refused-requires c κs = search needs
 
 returns : tie.Need-returns
 returns c = search join
@@ -28,8 +28,8 @@ enum-known-kind c = search needs
 enum-told-2 : tie.Need-enum-told-2
 enum-told-2 c = search needs
 
-refuse-requires-2 : tie.Need-refuse-requires-2
-refuse-requires-2 c κs = search needs
+refused-requires-2 : tie.Need-refused-requires-2
+refused-requires-2 c κs = search needs
 
 returns-2 : tie.Need-returns-2
 returns-2 c = search join
@@ -43,11 +43,11 @@ enum-known-inner-kind c = search needs
 enum-told-3 : tie.Need-enum-told-3
 enum-told-3 c = search needs
 
-refuse-requires-3 : tie.Need-refuse-requires-3
-refuse-requires-3 c κs = search needs
+refused-requires-3 : tie.Need-refused-requires-3
+refused-requires-3 c κs = search needs
 
 returns-3 : tie.Need-returns-3
-returns-3 c = search (answers, join-inner)
+returns-3 c = search (answers-refused, join-inner)
 
 quantified-at-requires-3 : tie.Need-quantified-at-requires-3
 quantified-at-requires-3 c κs = search needs
@@ -58,12 +58,12 @@ enum-known-right-kind c = search needs
 enum-told-4 : tie.Need-enum-told-4
 enum-told-4 c = search needs
 
-refuse-requires-4 : tie.Need-refuse-requires-4
-refuse-requires-4 c κs = search needs
+refused-requires-4 : tie.Need-refused-requires-4
+refused-requires-4 c κs = search needs
 
 returns-4 : tie.Need-returns-4
 returns-4 c =
-    answers _ _ _ (c .refuse4 .ensures) (join-right _ _ _ _ (c .before .before .before .before .before .before .before .before .before .before .before .before .before .before .before .equality-at .ensures) _ _ (c .before .before .before .before .before .before .before .before .before .before .before .before .before .l .given .1) _ (c .before .before .before .before .before .before .before .before .before .before .before .quantified-at .ensures) _ _ (c .before .before .before .before .before .before .before .before .before .kind .given .1) _ (c .before .before .before .before .before .before .before .quantified-at2 .ensures) _ _ (c .before .before .before .before .before .inner-kind .given .1) _ (c .before .before .before .quantified-at3 .ensures) (c .before .enum-told4 .given .1))
+    answers-refused _ _ _ _ _ (c .refused4 .ensures) (join-right _ _ _ _ (c .before .before .before .before .before .before .before .before .before .before .before .before .before .before .before .equality-at .ensures) _ _ (c .before .before .before .before .before .before .before .before .before .before .before .before .before .l .given .1) _ (c .before .before .before .before .before .before .before .before .before .before .before .quantified-at .ensures) _ _ (c .before .before .before .before .before .before .before .before .before .kind .given .1) _ (c .before .before .before .before .before .before .before .quantified-at2 .ensures) _ _ (c .before .before .before .before .before .inner-kind .given .1) _ (c .before .before .before .quantified-at3 .ensures) (c .before .enum-told4 .given .1))
 
 quantifier-tag-requires : tie.Need-quantifier-tag-requires
 quantifier-tag-requires c κs = search needs
@@ -71,12 +71,12 @@ quantifier-tag-requires c κs = search needs
 quantifier-tag-requires-2 : tie.Need-quantifier-tag-requires-2
 quantifier-tag-requires-2 c κs = search needs
 
-refuse-requires-5 : tie.Need-refuse-requires-5
-refuse-requires-5 c κs = search needs
+refused-requires-5 : tie.Need-refused-requires-5
+refused-requires-5 c κs = search needs
 
 returns-5 : tie.Need-returns-5
 returns-5 c =
-    answers _ _ _ (c .refuse5 .ensures) (join-kinds _ _ _ _ (c .before .before .before .before .before .before .before .before .before .before .before .before .before .before .before .before .before .before .before .equality-at .ensures) _ _ (c .before .before .before .before .before .before .before .before .before .before .before .before .before .before .before .before .before .l .given .1) _ (c .before .before .before .before .before .before .before .before .before .before .before .before .before .before .before .quantified-at .ensures) _ _ (c .before .before .before .before .before .before .before .before .before .before .before .before .before .kind .given .1) _ (c .before .before .before .before .before .before .before .before .before .before .before .quantified-at2 .ensures) _ _ (c .before .before .before .before .before .before .before .before .before .inner-kind .given .1) _ (c .before .before .before .before .before .before .before .quantified-at3 .ensures) _ _ (c .before .before .before .before .before .right-kind .given .1) (c .before .before .before .if1 .taken) _ _ (c .before .before .quantifier-tag .ensures) (c .before .quantifier-tag2 .ensures))
+    answers-refused _ _ _ _ _ (c .refused5 .ensures) (join-kinds _ _ _ _ (c .before .before .before .before .before .before .before .before .before .before .before .before .before .before .before .before .before .before .before .equality-at .ensures) _ _ (c .before .before .before .before .before .before .before .before .before .before .before .before .before .before .before .before .before .l .given .1) _ (c .before .before .before .before .before .before .before .before .before .before .before .before .before .before .before .quantified-at .ensures) _ _ (c .before .before .before .before .before .before .before .before .before .before .before .before .before .kind .given .1) _ (c .before .before .before .before .before .before .before .before .before .before .before .quantified-at2 .ensures) _ _ (c .before .before .before .before .before .before .before .before .before .inner-kind .given .1) _ (c .before .before .before .before .before .before .before .quantified-at3 .ensures) _ _ (c .before .before .before .before .before .right-kind .given .1) (c .before .before .before .if1 .taken) _ _ (c .before .before .quantifier-tag .ensures) (c .before .quantifier-tag2 .ensures))
 
 quantifier-tag-requires-3 : tie.Need-quantifier-tag-requires-3
 quantifier-tag-requires-3 c κs = search needs
@@ -84,19 +84,19 @@ quantifier-tag-requires-3 c κs = search needs
 quantifier-tag-requires-4 : tie.Need-quantifier-tag-requires-4
 quantifier-tag-requires-4 c κs = search needs
 
-refuse-requires-6 : tie.Need-refuse-requires-6
-refuse-requires-6 c κs = search needs
+refused-requires-6 : tie.Need-refused-requires-6
+refused-requires-6 c κs = search needs
 
 returns-6 : tie.Need-returns-6
 returns-6 c =
-    answers _ _ _ (c .refuse6 .ensures) (join-kinds-right _ _ _ _ (c .before .before .before .before .before .before .before .before .before .before .before .before .before .before .before .before .before .before .before .before .equality-at .ensures) _ _ (c .before .before .before .before .before .before .before .before .before .before .before .before .before .before .before .before .before .before .l .given .1) _ (c .before .before .before .before .before .before .before .before .before .before .before .before .before .before .before .before .quantified-at .ensures) _ _ (c .before .before .before .before .before .before .before .before .before .before .before .before .before .before .kind .given .1) _ (c .before .before .before .before .before .before .before .before .before .before .before .before .quantified-at2 .ensures) _ _ (c .before .before .before .before .before .before .before .before .before .before .inner-kind .given .1) _ (c .before .before .before .before .before .before .before .before .quantified-at3 .ensures) _ _ (c .before .before .before .before .before .before .right-kind .given .1) (c .before .before .before .before .if1 .left) (c .before .before .before .if2 .taken) _ _ (c .before .before .quantifier-tag3 .ensures) (c .before .quantifier-tag4 .ensures))
+    answers-refused _ _ _ _ _ (c .refused6 .ensures) (join-kinds-right _ _ _ _ (c .before .before .before .before .before .before .before .before .before .before .before .before .before .before .before .before .before .before .before .before .equality-at .ensures) _ _ (c .before .before .before .before .before .before .before .before .before .before .before .before .before .before .before .before .before .before .l .given .1) _ (c .before .before .before .before .before .before .before .before .before .before .before .before .before .before .before .before .quantified-at .ensures) _ _ (c .before .before .before .before .before .before .before .before .before .before .before .before .before .before .kind .given .1) _ (c .before .before .before .before .before .before .before .before .before .before .before .before .quantified-at2 .ensures) _ _ (c .before .before .before .before .before .before .before .before .before .before .inner-kind .given .1) _ (c .before .before .before .before .before .before .before .before .quantified-at3 .ensures) _ _ (c .before .before .before .before .before .before .right-kind .given .1) (c .before .before .before .before .if1 .left) (c .before .before .before .if2 .taken) _ _ (c .before .before .quantifier-tag3 .ensures) (c .before .quantifier-tag4 .ensures))
 
-refuse-requires-7 : tie.Need-refuse-requires-7
-refuse-requires-7 c κs = search needs
+refused-requires-7 : tie.Need-refused-requires-7
+refused-requires-7 c κs = search needs
 
 returns-7 : tie.Need-returns-7
 returns-7 c =
-    answers _ _ _ (c .refuse7 .ensures) (join-bodies _ _ _ _ (c .before .before .before .before .before .before .before .before .before .before .before .before .before .before .before .before .before .before .before .before .before .equality-at .ensures) _ _ (c .before .before .before .before .before .before .before .before .before .before .before .before .before .before .before .before .before .before .before .l .given .1) _ (c .before .before .before .before .before .before .before .before .before .before .before .before .before .before .before .before .before .quantified-at .ensures) _ _ (c .before .before .before .before .before .before .before .before .before .before .before .before .before .before .before .kind .given .1) _ (c .before .before .before .before .before .before .before .before .before .before .before .before .before .quantified-at2 .ensures) _ _ (c .before .before .before .before .before .before .before .before .before .before .before .inner-kind .given .1) _ (c .before .before .before .before .before .before .before .before .before .quantified-at3 .ensures) _ _ (c .before .before .before .before .before .before .before .right-kind .given .1) (c .before .before .before .before .before .if1 .left) (c .before .before .before .before .if2 .left) (c .before .if3 .taken))
+    answers-refused _ _ _ _ _ (c .refused7 .ensures) (join-bodies _ _ _ _ (c .before .before .before .before .before .before .before .before .before .before .before .before .before .before .before .before .before .before .before .before .before .equality-at .ensures) _ _ (c .before .before .before .before .before .before .before .before .before .before .before .before .before .before .before .before .before .before .before .l .given .1) _ (c .before .before .before .before .before .before .before .before .before .before .before .before .before .before .before .before .before .quantified-at .ensures) _ _ (c .before .before .before .before .before .before .before .before .before .before .before .before .before .before .before .kind .given .1) _ (c .before .before .before .before .before .before .before .before .before .before .before .before .before .quantified-at2 .ensures) _ _ (c .before .before .before .before .before .before .before .before .before .before .before .inner-kind .given .1) _ (c .before .before .before .before .before .before .before .before .before .quantified-at3 .ensures) _ _ (c .before .before .before .before .before .before .before .right-kind .given .1) (c .before .before .before .before .before .if1 .left) (c .before .before .before .before .if2 .left) (c .before .if3 .taken))
 
 bindings-requires : tie.Need-bindings-requires
 bindings-requires c κs = search needs
@@ -110,19 +110,19 @@ bindings-requires-3 c κs = search needs
 same-joined-requires : tie.Need-same-joined-requires
 same-joined-requires c κs = search needs
 
-refuse-requires-8 : tie.Need-refuse-requires-8
-refuse-requires-8 c κs = search needs
+refused-requires-8 : tie.Need-refused-requires-8
+refused-requires-8 c κs = search needs
 
 returns-8 : tie.Need-returns-8
 returns-8 c =
-    answers _ _ _ (c .refuse8 .ensures) (join-lists _ _ _ _ (c .before .before .before .before .before .before .before .before .before .before .before .before .before .before .before .before .before .before .before .before .before .before .before .before .before .before .equality-at .ensures) _ _ (c .before .before .before .before .before .before .before .before .before .before .before .before .before .before .before .before .before .before .before .before .before .before .before .before .l .given .1) _ (c .before .before .before .before .before .before .before .before .before .before .before .before .before .before .before .before .before .before .before .before .before .before .quantified-at .ensures) _ _ (c .before .before .before .before .before .before .before .before .before .before .before .before .before .before .before .before .before .before .before .before .kind .given .1) _ (c .before .before .before .before .before .before .before .before .before .before .before .before .before .before .before .before .before .before .quantified-at2 .ensures) _ _ (c .before .before .before .before .before .before .before .before .before .before .before .before .before .before .before .before .inner-kind .given .1) _ (c .before .before .before .before .before .before .before .before .before .before .before .before .before .before .quantified-at3 .ensures) _ _ (c .before .before .before .before .before .before .before .before .before .before .before .before .right-kind .given .1) (c .before .before .before .before .before .before .before .before .before .before .if1 .left) (c .before .before .before .before .before .before .before .before .before .if2 .left) (c .before .before .before .before .before .before .if3 .left) _ _ _ _ (c .before .before .same-joined .ensures) (c .before .before .before .before .before .bindings .ensures) (c .before .before .before .before .bindings2 .ensures) (c .before .before .before .bindings3 .ensures) (c .before .if4 .taken))
+    answers-refused _ _ _ _ _ (c .refused8 .ensures) (join-lists _ _ _ _ (c .before .before .before .before .before .before .before .before .before .before .before .before .before .before .before .before .before .before .before .before .before .before .before .before .before .before .equality-at .ensures) _ _ (c .before .before .before .before .before .before .before .before .before .before .before .before .before .before .before .before .before .before .before .before .before .before .before .before .l .given .1) _ (c .before .before .before .before .before .before .before .before .before .before .before .before .before .before .before .before .before .before .before .before .before .before .quantified-at .ensures) _ _ (c .before .before .before .before .before .before .before .before .before .before .before .before .before .before .before .before .before .before .before .before .kind .given .1) _ (c .before .before .before .before .before .before .before .before .before .before .before .before .before .before .before .before .before .before .quantified-at2 .ensures) _ _ (c .before .before .before .before .before .before .before .before .before .before .before .before .before .before .before .before .inner-kind .given .1) _ (c .before .before .before .before .before .before .before .before .before .before .before .before .before .before .quantified-at3 .ensures) _ _ (c .before .before .before .before .before .before .before .before .before .before .before .before .right-kind .given .1) (c .before .before .before .before .before .before .before .before .before .before .if1 .left) (c .before .before .before .before .before .before .before .before .before .if2 .left) (c .before .before .before .before .before .before .if3 .left) _ _ _ _ (c .before .before .same-joined .ensures) (c .before .before .before .before .before .bindings .ensures) (c .before .before .before .before .bindings2 .ensures) (c .before .before .before .bindings3 .ensures) (c .before .if4 .taken))
 
-accept-requires : tie.Need-accept-requires
-accept-requires c κs = search needs
+accepted-requires : tie.Need-accepted-requires
+accepted-requires c κs = search needs
 
 returns-9 : tie.Need-returns-9
 returns-9 c =
-    answers _ _ _ (c .accept .ensures) (join-passes _ _ _ _ (c .before .before .before .before .before .before .before .before .before .before .before .before .before .before .before .before .before .before .before .before .before .before .before .before .before .before .equality-at .ensures) _ _ (c .before .before .before .before .before .before .before .before .before .before .before .before .before .before .before .before .before .before .before .before .before .before .before .before .l .given .1) _ (c .before .before .before .before .before .before .before .before .before .before .before .before .before .before .before .before .before .before .before .before .before .before .quantified-at .ensures) _ _ (c .before .before .before .before .before .before .before .before .before .before .before .before .before .before .before .before .before .before .before .before .kind .given .1) _ (c .before .before .before .before .before .before .before .before .before .before .before .before .before .before .before .before .before .before .quantified-at2 .ensures) _ _ (c .before .before .before .before .before .before .before .before .before .before .before .before .before .before .before .before .inner-kind .given .1) _ (c .before .before .before .before .before .before .before .before .before .before .before .before .before .before .quantified-at3 .ensures) _ _ (c .before .before .before .before .before .before .before .before .before .before .before .before .right-kind .given .1) (c .before .before .before .before .before .before .before .before .before .before .if1 .left) (c .before .before .before .before .before .before .before .before .before .if2 .left) (c .before .before .before .before .before .before .if3 .left) _ _ _ _ (c .before .before .same-joined .ensures) (c .before .before .before .before .before .bindings .ensures) (c .before .before .before .before .bindings2 .ensures) (c .before .before .before .bindings3 .ensures) (c .before .if4 .left))
+    answers-accepted _ _ (c .accepted .ensures) (join-passes _ _ _ _ (c .before .before .before .before .before .before .before .before .before .before .before .before .before .before .before .before .before .before .before .before .before .before .before .before .before .before .equality-at .ensures) _ _ (c .before .before .before .before .before .before .before .before .before .before .before .before .before .before .before .before .before .before .before .before .before .before .before .before .l .given .1) _ (c .before .before .before .before .before .before .before .before .before .before .before .before .before .before .before .before .before .before .before .before .before .before .quantified-at .ensures) _ _ (c .before .before .before .before .before .before .before .before .before .before .before .before .before .before .before .before .before .before .before .before .kind .given .1) _ (c .before .before .before .before .before .before .before .before .before .before .before .before .before .before .before .before .before .before .quantified-at2 .ensures) _ _ (c .before .before .before .before .before .before .before .before .before .before .before .before .before .before .before .before .inner-kind .given .1) _ (c .before .before .before .before .before .before .before .before .before .before .before .before .before .before .quantified-at3 .ensures) _ _ (c .before .before .before .before .before .before .before .before .before .before .before .before .right-kind .given .1) (c .before .before .before .before .before .before .before .before .before .before .if1 .left) (c .before .before .before .before .before .before .before .before .before .if2 .left) (c .before .before .before .before .before .before .if3 .left) _ _ _ _ (c .before .before .same-joined .ensures) (c .before .before .before .before .before .bindings .ensures) (c .before .before .before .before .bindings2 .ensures) (c .before .before .before .bindings3 .ensures) (c .before .if4 .left))
 
 pub qnt-join-spec : {M : Type 1} → statement M
 qnt-join-spec =
@@ -131,38 +131,38 @@ qnt-join-spec =
     equality-at-requires
     enum-known-l
     enum-told
-    refuse-requires
+    refused-requires
     returns
     quantified-at-requires
     enum-known-kind
     enum-told-2
-    refuse-requires-2
+    refused-requires-2
     returns-2
     quantified-at-requires-2
     enum-known-inner-kind
     enum-told-3
-    refuse-requires-3
+    refused-requires-3
     returns-3
     quantified-at-requires-3
     enum-known-right-kind
     enum-told-4
-    refuse-requires-4
+    refused-requires-4
     returns-4
     quantifier-tag-requires
     quantifier-tag-requires-2
-    refuse-requires-5
+    refused-requires-5
     returns-5
     quantifier-tag-requires-3
     quantifier-tag-requires-4
-    refuse-requires-6
+    refused-requires-6
     returns-6
-    refuse-requires-7
+    refused-requires-7
     returns-7
     bindings-requires
     bindings-requires-2
     bindings-requires-3
     same-joined-requires
-    refuse-requires-8
+    refused-requires-8
     returns-8
-    accept-requires
+    accepted-requires
     returns-9)

@@ -24,8 +24,8 @@ returns-2 c = search early
 enum-told-2 : tie.Need-enum-told-2
 enum-told-2 c = search needs
 
-accept-requires : tie.Need-accept-requires
-accept-requires c κs = search needs
+accepted-requires : tie.Need-accepted-requires
+accepted-requires c κs = search needs
 
 returns-3 : tie.Need-returns-3
 returns-3 c = search early
@@ -41,5 +41,5 @@ body-or-spec =
     removes-requires-2
     returns-2
     enum-told-2
-    accept-requires
+    accepted-requires
     returns-3)

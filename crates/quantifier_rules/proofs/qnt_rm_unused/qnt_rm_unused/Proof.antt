@@ -12,8 +12,8 @@ enum-known-l c = search needs
 enum-told : tie.Need-enum-told
 enum-told c = search needs
 
-refuse-requires : tie.Need-refuse-requires
-refuse-requires c κs = search needs
+refused-requires : tie.Need-refused-requires
+refused-requires c κs = search needs
 
 returns : tie.Need-returns
 returns c = search unused-rule
@@ -27,8 +27,8 @@ enum-known-kind c = search needs
 enum-told-2 : tie.Need-enum-told-2
 enum-told-2 c = search needs
 
-refuse-requires-2 : tie.Need-refuse-requires-2
-refuse-requires-2 c κs = search needs
+refused-requires-2 : tie.Need-refused-requires-2
+refused-requires-2 c κs = search needs
 
 returns-2 : tie.Need-returns-2
 returns-2 c = search unused-rule
@@ -49,12 +49,12 @@ qnt-rm-unused-spec =
     equality-at-requires
     enum-known-l
     enum-told
-    refuse-requires
+    refused-requires
     returns
     quantified-at-requires
     enum-known-kind
     enum-told-2
-    refuse-requires-2
+    refused-requires-2
     returns-2
     bindings-requires
     body-or-requires

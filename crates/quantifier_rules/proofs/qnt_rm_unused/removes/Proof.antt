@@ -12,8 +12,8 @@ enum-known-right-kind c = search needs
 enum-told : tie.Need-enum-told
 enum-told c = search needs
 
-refuse-requires : tie.Need-refuse-requires
-refuse-requires c κs = search needs
+refused-requires : tie.Need-refused-requires
+refused-requires c κs = search needs
 
 returns : tie.Need-returns
 returns c = search right-side
@@ -24,14 +24,14 @@ quantifier-tag-requires c κs = search needs
 quantifier-tag-requires-2 : tie.Need-quantifier-tag-requires-2
 quantifier-tag-requires-2 c κs = search needs
 
-refuse-requires-2 : tie.Need-refuse-requires-2
-refuse-requires-2 c κs = search needs
+refused-requires-2 : tie.Need-refused-requires-2
+refused-requires-2 c κs = search needs
 
 returns-2 : tie.Need-returns-2
 returns-2 c = search right-side
 
-refuse-requires-3 : tie.Need-refuse-requires-3
-refuse-requires-3 c κs = search needs
+refused-requires-3 : tie.Need-refused-requires-3
+refused-requires-3 c κs = search needs
 
 returns-3 : tie.Need-returns-3
 returns-3 c = search right-side
@@ -45,8 +45,8 @@ first-new-requires c κs = search needs
 enum-known-name : tie.Need-enum-known-name
 enum-known-name c = search needs
 
-refuse-requires-4 : tie.Need-refuse-requires-4
-refuse-requires-4 c κs = search needs
+refused-requires-4 : tie.Need-refused-requires-4
+refused-requires-4 c κs = search needs
 
 returns-4 : tie.Need-returns-4
 returns-4 c = search right-side
@@ -60,8 +60,8 @@ first-missing-requires c κs = search needs
 enum-known-name-2 : tie.Need-enum-known-name-2
 enum-known-name-2 c = search needs
 
-refuse-requires-5 : tie.Need-refuse-requires-5
-refuse-requires-5 c κs = search needs
+refused-requires-5 : tie.Need-refused-requires-5
+refused-requires-5 c κs = search needs
 
 returns-5 : tie.Need-returns-5
 returns-5 c = search right-side
@@ -69,8 +69,8 @@ returns-5 c = search right-side
 enum-told-3 : tie.Need-enum-told-3
 enum-told-3 c = search needs
 
-accept-requires : tie.Need-accept-requires
-accept-requires c κs = search needs
+accepted-requires : tie.Need-accepted-requires
+accepted-requires c κs = search needs
 
 returns-6 : tie.Need-returns-6
 returns-6 c = search right-side
@@ -82,24 +82,24 @@ removes-spec =
     quantified-at-requires
     enum-known-right-kind
     enum-told
-    refuse-requires
+    refused-requires
     returns
     quantifier-tag-requires
     quantifier-tag-requires-2
-    refuse-requires-2
+    refused-requires-2
     returns-2
-    refuse-requires-3
+    refused-requires-3
     returns-3
     bindings-requires
     first-new-requires
     enum-known-name
-    refuse-requires-4
+    refused-requires-4
     returns-4
     enum-told-2
     first-missing-requires
     enum-known-name-2
-    refuse-requires-5
+    refused-requires-5
     returns-5
     enum-told-3
-    accept-requires
+    accepted-requires
     returns-6)

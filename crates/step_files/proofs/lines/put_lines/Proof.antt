@@ -5,14 +5,14 @@ use mathlib.Core.Path.{_≡_, refl}
 use lib.ListN.{length}
 use Rattle.pool.specs.Check.{Indexed}
 use Rattle.step_files.specs.StepFile.{lines}
-use Rattle.step_files.specs.Text.{Put}
+use Rattle.step_files.specs.Text.{LinePut}
 use Rattle.step_files.proofs.lines.Laws.{checked-now, indexed-now, indexed-then, answer-is, tags-same, values-same, lines-none, lines-next, lines-all}
 use Rattle.step_files.proofs.lines.put_lines.Statement.{statement}
 use Rattle.step_files.proofs.lines.put_lines.Tie as tie
 
 abbrev Inv-loop : tie.InvT-loop
 Inv-loop input checked tags₀ values₀ index₀ n steps out₀ rules places at₀ k₀ tags values index out at k =
-    (tags ≡ tags₀) × (values ≡ values₀) × Indexed tags₀ values₀ n checked index × (k ≤ steps) × (length out ≡ length out₀) × Put (lines input k) (44 * k) 0 out₀ at out
+    (tags ≡ tags₀) × (values ≡ values₀) × Indexed tags₀ values₀ n checked index × (k ≤ steps) × (length out ≡ length out₀) × LinePut (lines input k) (44 * k) 0 out₀ at out
 
 abbrev μ-loop : tie.MeasureT-loop
 μ-loop input checked tags₀ values₀ index₀ n steps out₀ rules places at₀ k₀ tags values index out at k = steps - k

@@ -1,7 +1,7 @@
 use Rattle.free_variables.proofs.term_names.Laws.{finds, find-variable}
 use borrow.Author.Needs.{needs}
-use Rattle.free_variables.proofs.term_names.below_at.Statement.{statement}
-use Rattle.free_variables.proofs.term_names.below_at.Tie as tie
+use Rattle.free_variables.proofs.term_names.free_from.Statement.{statement}
+use Rattle.free_variables.proofs.term_names.free_from.Tie as tie
 
 cast-at : tie.Need-cast-at
 cast-at c = search needs
@@ -39,8 +39,8 @@ returns-7 c = search finds
 returns-8 : tie.Need-returns-8
 returns-8 c = search finds
 
-pub below-at-spec : {M : Type 1} → statement M
-below-at-spec =
+pub free-from-spec : {M : Type 1} → statement M
+free-from-spec =
     tie.close
     (tie.spec
     cast-at
