@@ -1,6 +1,6 @@
 -- A rule's checks, one after another: the first that fails refuses the step.
 -- 01, "What stops a step": "Each refusal carries two numbers, 0 where none is named."
--- Rests on pool's Answer.
+-- Rests on Answer and the struct `Answer`.
 use Prim.Native.Nat.{ℕ}
 use mathlib.Core.Bool.{Bool, true, false}
 use mathlib.Core.Option.{Option, some, none}

@@ -1,6 +1,6 @@
 -- Rule 5's use of the outer pairs, "each outer pair used at most once, also where the outer list repeats it"; and which of them are left: a mark
 -- for each pair of the outer list, 0 as long as the pair is left. A pair past the marks is not left.
--- Rests on Outcome and Binding.
+-- Rests on answers' Outcome and on Binding.
 use Prim.Native.Nat.{ℕ}
 use mathlib.Core.Path.{_≡_}
 use mathlib.Core.Bool.{Bool, _&&_, cond}

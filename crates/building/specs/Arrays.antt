@@ -1,7 +1,7 @@
 -- A pool in lent arrays: the used cells, whether a pool has room in arrays of a size, and the forms that are put after the used cells.
 -- 01, "What stops a step": "31 new terms .. take the count past the arrays or 8,192". "the clause list is that of the true one with foralls
 -- taken out".
--- Rests on Normal and Built.
+-- Rests on formulas' Normal and Built.
 use Prim.Native.Nat.{ℕ}
 use mathlib.Core.Bool.{Bool, true, _&&_}
 use mathlib.Core.List.{List}

@@ -1,6 +1,7 @@
 -- What the walkers that build promise each other: what is built, what the memo may hold, and what a refusal leaves.
 -- The memo is no part of a public contract.
--- Rests on Built and Arrays.
+-- Rests on cells' Cell, Limits and struct `TermPlace`, on descriptions' Index and Fills, on formulas' Formula, Normal and Built, and on Arrays and
+-- the enum `Built`.
 use Prim.Native.Nat.{ℕ, suc, _+_, _-_, _≤_, _<_}
 use mathlib.Core.Path.{_≡_}
 use mathlib.Core.Bool.{Bool, true, false, not, cond}

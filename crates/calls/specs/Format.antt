@@ -1,6 +1,6 @@
 -- The layout of a call file, over the list of its bytes: u32 little-endian words, of which the first eight say what follows.
 --     call, T, V, N, rule or place, polarity, X, Y; then T tags and V values, and in a call 0 the X places of the conclusion
--- Rests on words' Words and the struct `Head`.
+-- Rests on step_files' Words and on the struct `Head`.
 use Prim.Native.Nat.{ℕ, _+_, _*_, _≤_}
 use mathlib.Core.Bool.{Bool, _&&_, cond}
 use mathlib.Core.List.{List}

@@ -1,6 +1,6 @@
 -- The headers of a pool in order: one at 0, and after a header at p with n cells the next at p + 1 + n.
 -- 01, "Pool": "Headers and their cells fill 0 to N-1 exactly."
--- Rests on the library and the enum `Found`.
+-- Rests on the enum `Found`.
 use Prim.Native.Nat.{ℕ, zero, suc, _+_, _-_}
 use mathlib.Core.Bool.{Bool, cond}
 use mathlib.Core.List.{List}

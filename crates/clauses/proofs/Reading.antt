@@ -2,9 +2,9 @@
 --     read-literal, read-forall, read-connective     the form at a place, by how the term there is read
 --     run-before, before-at                          a connective's operands stand before it
 --     head-falls, rest-before                        a walk along them ends
---     connective-within, read-past                   a connective stands in the pool; what stands past its end is a literal
+--     connective-within                              a connective stands in the pool
 -- Assumes nothing.
-use Prim.Native.Nat.{ℕ, zero, suc, _+_, _-_, _*_, _^_, _≤_, _<_}
+use Prim.Native.Nat.{ℕ, zero, suc, _+_, _-_, _*_, _^_, _<_}
 use mathlib.Core.Path.{_≡_, refl, sym, ap, subst, _∙_}
 use mathlib.Core.Bool.{Bool, true, false, cond}
 use mathlib.Core.List.{List, [], _∷_}
@@ -121,11 +121,3 @@ module _ (tags values : List ℕ) (x : ℕ) where
           by-test (leb (length tags) x)
           (λ q. absurd (tag-not-zero b (sym e ∙ is) (List·getD-eq-default tags 0 (leb-true (length tags) x q))))
           (λ q. leb-false (length tags) x q)
-
-  past-literal : length tags ≤ x → Literal ≡ normalView tags values x
-  unfolding normalView
-  past-literal h =
-      by-test (allBefore x (operandsOf tags values x)) (λ q. rw (List·getD-eq-default tags 0 h, q)) (λ q. rw (List·getD-eq-default tags 0 h, q))
-
-  pub read-past : length tags ≤ x → formAt tags values x ≡ lit true x
-  read-past h = read-literal Literal (past-literal h) refl

@@ -1,6 +1,7 @@
 -- What the functions that write the clause list promise each other.
 -- 01, "Normal form and clauses": "an `and` joins lists, an `or` takes products, the first operand slowest."
--- Rests on Built, Clauses, Calls and ClauseWalk, and on the structs `Chosen`, `Digits` and `Filled` of the code.
+-- Rests on answers' Answer and struct `Answer`, on cells' Limits and Place, on formulas' Formula, Normal, Built, Clauses and Totals, on ClauseWalk
+-- and Lists, and on the structs `Totals`, `Chosen`, `Digits` and `Filled`.
 use Prim.Native.Nat.{ℕ, _+_, _-_, _/_, _%_, _≤_, _<_}
 use mathlib.Core.Path.{_≡_}
 use mathlib.Core.Bool.{true, cond, _&&_}

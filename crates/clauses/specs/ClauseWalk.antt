@@ -1,6 +1,6 @@
 -- What the functions that count and list clauses promise each other: what stands at a place, and what their memos hold.
 -- The memo of the totals is lent to `list_totals`, whose caller writes the list by its counts; that of the empty `or` is in no public contract.
--- Rests on pool's Cell, on Formula, Built, Clauses and Totals, on the enum `NormalView`, and on the struct `Totals` of the code.
+-- Rests on cells' Cell, on formulas' Formula, Normal, Built, Clauses, Totals and enum `NormalView`, and on the struct `Totals`.
 use Prim.Native.Nat.{ℕ, _+_, _-_, _≤_, _<_}
 use mathlib.Core.Path.{_≡_}
 use mathlib.Core.Bool.{Bool, true, false}

@@ -1,5 +1,5 @@
 -- Two pools whose cells below n are the same, the first of which passes check 14: what a place below n says is the same in both.
---     operands-kept, pairs-kept, quantifier-kept     its operands, and the quantifier there
+--     operands-kept, pairs-kept     its operands, and a quantifier's list
 --     clause-kept     whether it is a clause
 --     find-kept       where a description stands below n
 --     free-kept, binding-kept     whether a variable is free there
@@ -32,7 +32,6 @@ use Rattle.meaning.proofs.trees.Terms.{even-rest}
 use Rattle.meaning.proofs.places.SameTree.{at-true}
 use Rattle.bindings.specs.Binding.{Binding}
 use Rattle.free_variables.specs.BindingFree.{bindingFree, freeAt}
-use Rattle.formulas.specs.Pattern.{quantifier}
 use Rattle.formulas.specs.PatternAnswer.{pairsOf}
 use Rattle.clausification.specs.QntCnf.{isClause}
 
@@ -59,10 +58,6 @@ module _ (n : ℕ) (tags values tags′ values′ : List ℕ) (s : Same n tags v
   pub pairs-kept : (t : ℕ) → t < n → pairsOf tags′ values′ t ≡ pairsOf tags values t
   unfolding pairsOf
   pairs-kept t h = rw (operands-kept t h)
-
-  pub quantifier-kept : (t : ℕ) → t < n → quantifier tags′ values′ t ≡ quantifier tags values t
-  unfolding quantifier
-  quantifier-kept t h = rw (s .tags-same t h, operands-kept t h)
 
   pub clause-kept : (t : ℕ) → t < n → (c : List ℕ) → isClause tags′ values′ t c ≡ isClause tags values t c
   unfolding isClause

@@ -1,5 +1,5 @@
 -- The two forms of a body that rule 3 goes by, as they are built one after the other.
--- Rests on building's Arrays and Walk, and on the enum `Forms`.
+-- Rests on cells' struct `TermPlace`, on formulas' Built, on building's Arrays, Walk and enum `Built`, and on the enum `Forms`.
 use Prim.Native.Nat.{ℕ}
 use mathlib.Core.Path.{_≡_}
 use mathlib.Core.Bool.{true}

@@ -2,7 +2,7 @@
 -- Demand 3: "for clausification, no variable taken out of an inner quantifier is free in the left quantified formula." 01: "In rule 3 the left
 -- quantified formula is l, and a variable is taken out if it is bound by a forall reached through `and`, `or` and forall from the normal form
 -- of l's body at true polarity."
--- Rests on pool's Sort, Term and FreeTree, and on formulas' Normal and Skeleton.
+-- Rests on formulas' Normal, and on meaning's Sort, Term, Skeleton and FreeTree.
 use mathlib.Core.Path.{_≡_}
 use mathlib.Core.Bool.{true, false}
 use Rattle.meaning.specs.Sort.{Sort}

@@ -1,5 +1,6 @@
 -- What the functions of rule 3 promise each other.
--- Rests on QntCnf, on pool's Check, and on building's Walk and clause_totals' ClauseWalk.
+-- Rests on answers' Outcome and struct `Answer`, on bindings' Binding, on descriptions' Description, on sorts' Table, on free_variables' BindingFree,
+-- on pool's Check, on formulas' Pattern, Normal and PatternAnswer, on building's Walk, on clauses' ClauseWalk, and on QntCnf.
 use Prim.Native.Nat.{ℕ, _<_}
 use mathlib.Core.Path.{_≡_}
 use mathlib.Core.Bool.{true, not, _&&_}

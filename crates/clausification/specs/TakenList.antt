@@ -1,6 +1,6 @@
 -- The variables that are taken out of a term in normal form, as one walk collects them: what the walk, its array and its memo promise.
 -- The array and the memo are no part of a public contract.
--- Rests on Binding, on Normal, Built and ClauseWalk, and on the enum `Collected` of the code.
+-- Rests on bindings' Binding, on formulas' Normal and Built, on clauses' ClauseWalk, and on the enum `Collected`.
 use Prim.Native.Nat.{ℕ, _≤_}
 use mathlib.Core.Path.{_≡_}
 use mathlib.Core.Bool.{true, _||_}

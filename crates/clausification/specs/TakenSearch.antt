@@ -1,6 +1,7 @@
 -- The search among the variables that are taken out of a term in normal form: what is sought, and what the walk and its memo promise.
 -- The memo is no part of a public contract.
--- Rests on Names, on Binding and BindingAnswer, on Normal, Built and ClauseWalk, and on the enums `Sought` and `Step` of the code.
+-- Rests on cells' Cell, on bindings' Binding, BindingAnswer and enum `FirstName`, on free_variables' BindingFree and Names, on formulas' Formula,
+-- Normal and Built, on clauses' ClauseWalk, and on the enums `Sought` and `Step`.
 use Prim.Native.Nat.{ℕ, _<_}
 use mathlib.Core.Path.{_≡_}
 use mathlib.Core.Bool.{Bool, true, not, _&&_}

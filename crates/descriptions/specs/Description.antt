@@ -1,6 +1,6 @@
 -- Check 15 and adding a term: descriptions, which are a header's tag and cells.
 -- 01, "Pool": "No two headers describe the same thing."
--- Rests on Cell and Headers, and on the enums `Found` and `Added`.
+-- Rests on cells' Cell, Headers and enum `Found`, and on the enum `Added`.
 use Prim.Native.Nat.{ℕ, _+_, _-_, _≤_}
 use mathlib.Core.Path.{_≡_}
 use mathlib.Core.Bool.{Bool, true, false, _||_, cond}

@@ -1,7 +1,7 @@
 -- An index of descriptions by hash: the headers of each bucket stand in a chain, the last one first. It is one array,
 --     below 8,192    for each header 1 + the one before it in its bucket, 0 where there is none
 --     from there on  for each bucket 1 + the last header in it, 0 where there is none
--- Rests on Cell, WellFormed and Description.
+-- Rests on cells' Cell, Limits and enum `Found`, on headers' WellFormed, and on Description and the enum `Added`.
 use Prim.Native.Nat.{ℕ, zero, suc, _+_, _-_, _*_, _%_, _≤_, _<_}
 use mathlib.Core.Path.{_≡_}
 use mathlib.Core.Bool.{Bool, cond}

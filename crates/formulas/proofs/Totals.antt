@@ -1,23 +1,20 @@
 -- Totals.
 --     totals-are      the totals of a form are those of its clause list
---     capped-are      totals cut at every step are the totals, cut once
---     limits-are      so totals cut at 8,193 tell 32 exactly
---     cut-add, cut-mul, cut-within, cap-combine     sums, products and tests of cut numbers, also where a factor is 0
---     combine-assoc, start-left, start-right        operands may be counted one after another, from the left
+--     cut-add, cut-mul, cap-combine     sums and products of cut numbers, also where a factor is 0
 -- Assumes nothing.
-use Prim.Native.Nat.{ℕ, zero, suc, _+_, _*_, _≤_, _<_, zero-le, min}
+use Prim.Native.Nat.{ℕ, zero, suc, _+_, _*_, _≤_, zero-le, min}
 use mathlib.Core.Path.{_≡_, refl, sym, ap₂, _∙_}
-use mathlib.Core.Bool.{Bool, true, false, _&&_}
+use mathlib.Core.Bool.{Bool, true, false}
 use mathlib.Core.List.{List, [], _∷_, _++_, map}
-use native.Mathlib.Nat.{zero-add, add-zero, add-assoc, mul-zero, mul-suc, suc-mul, mul-one, one-mul, mul-comm, mul-right-comm, add-mul, mul-assoc, le-mul-of-pos-right, min-zero, min-eq-left, min-eq-right, le-trans, le-of-lt}
+use native.Mathlib.Nat.{zero-add, add-assoc, mul-zero, mul-suc, suc-mul, mul-comm, add-mul, le-mul-of-pos-right, min-zero, min-eq-left, min-eq-right, le-trans, le-of-lt}
 use native.Mathlib.Omega.{arith}
 use lib.Dec.{leb}
 use lib.ListN.{length, length-append, length-map}
-use borrow.Author.Tests.{leb-true, leb-false, le-leb, lt-leb}
+use borrow.Author.Tests.{leb-true, leb-false}
 use Rattle.formulas.specs.Normal.{Normal, Normals, lit, nmany, nall, nnil, ncons}
 use Rattle.formulas.specs.Clauses.{product, literalTotal, cnf, cnfAnd, cnfOr}
 use Rattle.cells.specs.ByPlace.{by-test}
-use Rattle.formulas.specs.Totals.{Totals, plus, times, startOf, combine, cap, totals, totalsOf, cappedTotals, cappedTotalsOf}
+use Rattle.formulas.specs.Totals.{Totals, plus, times, combine, cap, totals, totalsOf}
 
 -- ---- lists of clauses
 module _ {A : Type 0} where
@@ -92,11 +89,6 @@ module _ (k : ℕ) where
       neither : a ≤ k → b ≤ k → min k (a * b) ≡ min k (min k a * min k b)
       neither h l = rw (min-eq-right h, min-eq-right l)
 
-  pub cut-within : (a m : ℕ) → m < k → leb (min k a) m ≡ leb a m
-  cut-within a m h =
-      by-test (leb a m) (λ e. le-leb (min k a) m (omega (arith, leb-true a m e)) ∙ sym e)
-      (λ e. lt-leb (min k a) m (omega (arith, leb-false a m e)) ∙ sym e)
-
 -- ---- totals cut at k
 module _ (k : ℕ) where
   pub cap-combine : (b : Bool) (t u : Totals) → cap k (combine b t u) ≡ cap k (combine b (cap k t) (cap k u))
@@ -110,56 +102,4 @@ module _ (k : ℕ) where
           ∙ (ap₂ (λ (x y : ℕ). min k (x + y)) (cut-mul k (t .literals) (u .clauses)) (cut-mul k (u .literals) (t .clauses))
           ∙ sym (cut-add k (min k (t .literals) * min k (u .clauses)) (min k (u .literals) * min k (t .clauses))))
 
-  module _ {B L : Type 0} where
-    mutual
-      pub capped-are : (n : Normal B L) → cappedTotals k n ≡ cap k (totals n)
-      capped-are (lit b t) = refl
-      capped-are (nmany b ns) = cappedOf-are ns b
-      capped-are (nall b vs n) = refl
-
-      pub cappedOf-are : (ns : Normals B L) (b : Bool) → cappedTotalsOf k b ns ≡ cap k (totalsOf b ns)
-      cappedOf-are nnil b = refl
-      cappedOf-are (ncons n ns) b =
-          ap₂ (λ (t u : Totals). cap k (combine b t u)) (capped-are n) (cappedOf-are ns b) ∙ sym (cap-combine b (totals n) (totalsOf b ns))
-
--- 32, "over 2,048 clauses or 8,192 literals": totals cut at 8,193 say so
-pub limits-are : {B L : Type 0} (n : Normal B L)
-    → (leb (cappedTotals 8193 n .clauses) 2048 && leb (cappedTotals 8193 n .literals) 8192)
-    ≡ (leb (length (cnf n)) 2048 && leb (literalTotal (cnf n)) 8192)
-limits-are n =
-    rw (capped-are 8193 n, totals-are n, cut-within 8193 (length (cnf n)) 2048 (omega arith), cut-within 8193 (literalTotal (cnf n)) 8192 (omega arith))
-
 -- ---- operands counted one after another, from the left
-pub combine-assoc : (b : Bool) (t u w : Totals) → combine b (combine b t u) w ≡ combine b t (combine b u w)
-combine-assoc true t u w =
-    λ i. record {
-      clauses = add-assoc (t .clauses) (u .clauses) (w .clauses) i;
-      literals = add-assoc (t .literals) (u .literals) (w .literals) i;
-    }
-combine-assoc false t u w = λ i. record { clauses = mul-assoc (t .clauses) (u .clauses) (w .clauses) i; literals = crossed i }
-  where
-    crossed : (t .literals * u .clauses + u .literals * t .clauses) * w .clauses + w .literals * (t .clauses * u .clauses)
-        ≡ t .literals * (u .clauses * w .clauses) + (u .literals * w .clauses + w .literals * u .clauses) * t .clauses
-    crossed =
-        rw (
-          add-mul (t .literals * u .clauses) (u .literals * t .clauses) (w .clauses),
-          add-mul (u .literals * w .clauses) (w .literals * u .clauses) (t .clauses),
-          mul-assoc (t .literals) (u .clauses) (w .clauses),
-          mul-right-comm (u .literals) (t .clauses) (w .clauses),
-          mul-assoc (w .literals) (u .clauses) (t .clauses),
-          mul-comm (u .clauses) (t .clauses),
-        ) (omega arith)
-
-pub start-left : (b : Bool) (t : Totals) → combine b (startOf b) t ≡ t
-start-left true t = λ i. record { clauses = zero-add (t .clauses) i; literals = zero-add (t .literals) i }
-start-left false t = λ i. record { clauses = one-mul (t .clauses) i; literals = crossed i }
-  where
-    crossed : 0 * t .clauses + t .literals * 1 ≡ t .literals
-    crossed = omega arith
-
-pub start-right : (b : Bool) (t : Totals) → combine b t (startOf b) ≡ t
-start-right true t = λ i. record { clauses = add-zero (t .clauses) i; literals = add-zero (t .literals) i }
-start-right false t = λ i. record { clauses = mul-one (t .clauses) i; literals = crossed i }
-  where
-    crossed : t .literals * 1 + 0 * t .clauses ≡ t .literals
-    crossed = omega arith

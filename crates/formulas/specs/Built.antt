@@ -1,7 +1,7 @@
 -- Putting terms into a pool, and what the calls that build leave in it.
 -- 01, "Normal form and clauses": "New terms go after the count in the order of the finished term, operands first and left to right, each
 -- once." A pool here is its used cells alone: two lists of one length.
--- Rests on pool's Description, and on Formula, Normal and Clauses.
+-- Rests on cells' ByPlace, Cell, Place and enum `Found`, on descriptions' Description, and on Formula, Normal and the enum `NormalView`.
 use Prim.Native.Nat.{ℕ}
 use mathlib.Core.Bool.{Bool, true, false, cond}
 use mathlib.Core.List.{List, [], _∷_, _++_}

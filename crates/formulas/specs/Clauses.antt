@@ -1,7 +1,6 @@
--- Clauses of a form whose foralls are taken out, and their totals; what is reached in a form through `and` and `or`.
+-- Clauses of a form whose foralls are taken out, and their totals; whether an empty `or` is reached in a form through `and` and `or`.
 -- 01, "Normal form and clauses": "`conjunctive_normal_form`: an `and` joins lists, an `or` takes products, the first operand slowest. An
 -- `and` without operands gives no clause. Clause and literal totals are those of this list."
--- S-1: "no empty `or` and no forall is reached after the normal form".
 -- Rests on Normal.
 use Prim.Native.Nat.{ℕ, _+_}
 use mathlib.Core.Bool.{Bool, true, false, _||_}
@@ -54,14 +53,3 @@ module _ {B L : Type 0} where
     pub emptyOrs : Normals B L → Bool
     emptyOrs nnil = false
     emptyOrs (ncons n ns) = emptyOr n || emptyOrs ns
-
-  -- a forall reached through `and` and `or`: not one under exists, nor one in an opaque term
-  abbrev mutual
-    pub reachesForall : Normal B L → Bool
-    reachesForall (lit b t) = false
-    reachesForall (nmany b ns) = reachForall ns
-    reachesForall (nall b vs n) = b
-
-    pub reachForall : Normals B L → Bool
-    reachForall nnil = false
-    reachForall (ncons n ns) = reachesForall n || reachForall ns

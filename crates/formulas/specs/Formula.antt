@@ -1,7 +1,7 @@
 -- Formulas: a term's connectives and quantifiers, down to what is opaque.
 -- 01, "Normal form and clauses": "`not` with 1 operand flips the polarity; `and`, `or` of any length; `=>` with 2; `ite` with 3; `=` with 2
 -- whose left has sort Bool; forall and exists. These are the connectives and quantifiers of demand 3. Any other count or term is opaque".
--- Rests on pool's Cell and ByPlace, and on the enum `View`.
+-- Rests on cells' ByPlace, Cell and Place, and on the enum `View`.
 use Prim.Native.Nat.{ℕ}
 use mathlib.Core.Bool.{Bool, true, false, _&&_, cond}
 use mathlib.Core.List.{List, [], _∷_}

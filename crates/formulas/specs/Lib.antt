@@ -6,3 +6,4 @@ pub mod Formula
 pub mod Mapped
 pub mod Normal
 pub mod Totals
+pub mod NormalCases

@@ -1,6 +1,6 @@
 -- The forms that the rules match: quantifiers, and operators with so many operands.
 -- 01: "`=` with exactly 2 operands, `not` with 1, `or` of `qnt_cnf` with 2, `ite` with 3"; choice and lambda are no quantifiers.
--- Rests on pool's Cell.
+-- Rests on cells' Cell and on bindings' Binding.
 use Prim.Native.Nat.{ℕ}
 use mathlib.Core.Bool.{Bool, true, false, cond}
 use mathlib.Core.List.{List, [], _∷_}

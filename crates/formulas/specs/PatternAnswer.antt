@@ -1,5 +1,5 @@
 -- What the answers of `matching` say: each enum's value as the pattern that it stands for.
--- Rests on Binding and Form, and on the enums of `form`.
+-- Rests on cells' Cell, on bindings' Binding, on Pattern, and on the enums `Quantified`, `One`, `Two` and `Three`.
 use Prim.Native.Nat.{ℕ}
 use mathlib.Core.Bool.{Bool}
 use mathlib.Core.List.{List}

@@ -1,5 +1,5 @@
 -- Whether the variable of a pair of a binding list is free in a term.
--- Rests on bindings' Binding, on descriptions' Description and on Free.
+-- Rests on cells' enum `Found`, on bindings' Binding, on descriptions' Description, and on Free.
 use Prim.Native.Nat.{ℕ}
 use mathlib.Core.Bool.{Bool, false}
 use mathlib.Core.List.{List, [], _∷_}

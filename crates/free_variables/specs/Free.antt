@@ -3,7 +3,7 @@
 -- include those free in its values, as SMT-LIB 2.6 has it" (SMT-LIB 2.6, 3.6.1: the values stand outside the let's names): those of all its
 -- values, and its body's minus the let's names with their values' sorts.
 -- No two headers of a checked pool describe the same thing, so that the variable v is the place v, and a sort is its place.
--- Rests on Cell and ByPlace.
+-- Rests on cells' ByPlace and Cell.
 use Prim.Native.Nat.{ℕ, _+_, _<_}
 use mathlib.Core.Path.{_≡_}
 use mathlib.Core.Bool.{Bool, true, false, _&&_, _||_, cond}

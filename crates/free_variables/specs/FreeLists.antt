@@ -1,5 +1,5 @@
 -- Pairs that a list lacks, free in a term; and the first of them by a mask.
--- Rests on Binding and Mask.
+-- Rests on bindings' Binding and on BindingFree.
 use Prim.Native.Nat.{ℕ, _/_, _%_}
 use mathlib.Core.Bool.{Bool, not, _&&_, cond}
 use mathlib.Core.List.{List, [], _∷_}

@@ -1,5 +1,5 @@
 -- What the walk of `free_vars` says of itself: how a pair is read, what a step means, what the memo holds.
--- Rests on Cell, Free and the enum `Step`.
+-- Rests on cells' Cell, and on Free and the enum `Step`.
 use Prim.Native.Nat.{ℕ, _+_, _<_}
 use mathlib.Core.Path.{_≡_}
 use mathlib.Core.Bool.{Bool, true, false, cond, _&&_, _||_}

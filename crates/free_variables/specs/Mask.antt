@@ -1,5 +1,5 @@
 -- Masks: which of a list's pairs pass a test, as a number. Bit i, the lowest first, is set where pair i passes.
--- Rests on Binding and Free.
+-- Rests on bindings' Binding, and on Free and FreeMemo.
 use Prim.Native.Nat.{ℕ, _+_, _*_, _/_, _%_}
 use mathlib.Core.Bool.{Bool, cond}
 use mathlib.Core.List.{List, [], _∷_}

@@ -1,5 +1,5 @@
 -- What the walk of `free_masks` says of itself: what the memo holds, and what a walk leaves.
--- Rests on Binding, Free and Mask.
+-- Rests on bindings' Binding, and on Free, BindingFree and Mask.
 use Prim.Native.Nat.{ℕ, _+_, _-_}
 use mathlib.Core.Path.{_≡_}
 use mathlib.Core.Bool.{Bool, false, cond}

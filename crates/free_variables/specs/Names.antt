@@ -1,6 +1,6 @@
 -- A table of names, as a filter: a bucket that is not set says that no variable of that name and sort is free.
 -- A name with a sort has a bucket by a hash; a bucket that is set says nothing.
--- Rests on Cell and Free.
+-- Rests on cells' Cell and on Free.
 use Prim.Native.Nat.{ℕ, _+_, _*_, _%_}
 use mathlib.Core.Path.{_≡_}
 use mathlib.Core.Bool.{Bool, true}

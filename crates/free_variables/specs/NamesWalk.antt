@@ -1,5 +1,5 @@
 -- What the walk that fills a table of names says of itself: what a step means, what the memo and the table hold.
--- Rests on Cell, Free, FreeMemo, Names and the enum `FreeFrom`.
+-- Rests on cells' Cell, and on Free, FreeMemo, Names and the enum `FreeFrom`.
 use Prim.Native.Nat.{ℕ, _<_}
 use mathlib.Core.Path.{_≡_}
 use mathlib.Core.Bool.{Bool, true, false, cond, _||_}

@@ -1,6 +1,6 @@
 -- Check 14: a pool whose headers and cells are well formed, and the first header that is not.
 -- 01, "Pool, from src/ast/term.rs": the tags of sorts and terms, their cells, and what a cell that names a sort or term holds.
--- Rests on Bounded, Headers and TermTag, which it passes on, and on the enums `Shape` and `CellKind`.
+-- Rests on cells' Bounded, Headers, TermTag and enum `Found`, and on the enums `Shape` and `CellKind`.
 use Prim.Native.Nat.{ℕ, _+_, _-_, _%_}
 use mathlib.Core.Bool.{Bool, true, false, not, _&&_, _||_, cond}
 use mathlib.Core.List.{List}

@@ -1,7 +1,7 @@
 -- 01: "The list comparison of `qnt_join` is also offered over lent records of name and sort, after the core."
 -- A list of records is a list of pairs, and the comparison goes through it one pair at a time. That it is QntJoin's comparison is `joined-is` of
 -- proofs/Laws.antt.
--- Rests on quantifiers' Binding and the structs `Binding` and `Along`.
+-- Rests on bindings' Binding, and on the structs `Binding` and `Along`.
 use Prim.Native.Nat.{ℕ, _+_}
 use mathlib.Core.Bool.{Bool, true, false, not, _&&_, cond}
 use mathlib.Core.List.{List, [], _∷_}

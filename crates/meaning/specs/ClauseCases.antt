@@ -6,14 +6,14 @@
 --     (and x (or))                      has the clauses x and the empty one
 --
 -- proofs/ClauseCases.antt: the first formula's clause has not its value, the third's has.
--- Rests on term_trees' Sort and Term, and on Normal, Clauses, Skeleton and TruthCases.
+-- Rests on formulas' Normal, and on Reached, Sort, Term, Skeleton and TruthCases.
 use mathlib.Core.Path.{_≡_, refl}
 use mathlib.Core.Bool.{true, false}
 use mathlib.Core.List.{[], _∷_}
 use Rattle.meaning.specs.Sort.{bool}
 use Rattle.meaning.specs.Term.{Var, Term, var, quant, op, tnil, tcons}
 use Rattle.formulas.specs.Normal.{nnf}
-use Rattle.formulas.specs.Clauses.{reachesForall}
+use Rattle.meaning.specs.Reached.{reachesForall}
 use Rattle.meaning.specs.Skeleton.{skeleton, formOf, notOf, clauseTermsOf, NoForallReached}
 use Rattle.meaning.specs.TruthCases.{x}
 

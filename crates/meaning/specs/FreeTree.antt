@@ -2,7 +2,7 @@
 -- 01, "Sorts and free variables": "a variable is name with sort; binders remove their pairs". 02, S-3: "A let's free variables now also
 -- include those free in its values, as SMT-LIB 2.6 has it." SMT-LIB 2.6, 3.6.1: the let is parallel, so that its values stand outside its
 -- names. The names with their values' sorts are taken from the body alone, and of a repeated name every pair; SMT-LIB shadows by name alone.
--- Rests on Sort, Term and Tree.
+-- Rests on cells' Cell, and on Term and Tree.
 use Prim.Native.Nat.{ℕ, _+_}
 use mathlib.Core.Bool.{Bool, true, false, not, _&&_, _||_}
 use mathlib.Core.List.{List, [], _∷_}

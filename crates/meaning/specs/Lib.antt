@@ -11,3 +11,4 @@ pub mod Sort
 pub mod SortTree
 pub mod Term
 pub mod Tree
+pub mod Reached

@@ -6,7 +6,7 @@
 --     ClausesSay cs t  Says in all of them
 -- Demand 3: "a reading gives each sort finitely many values, at least one". S-1: "in every reading .. even where an opaque literal's value
 -- depends on every variable".
--- Rests on term_trees' Sort and Term, and on Truth.
+-- Rests on Sort, Term and Truth.
 use Prim.Native.Nat.{ℕ, zero, suc, Fin, zero-le, suc-le-suc}
 use mathlib.Core.Path.{refl, ap}
 use mathlib.Core.Bool.{Bool}

@@ -7,7 +7,7 @@
 --     NoForallReached t     no forall is reached after t's normal form
 -- 01, "Normal form and clauses": "`not` with 1 operand flips the polarity; `and`, `or` of any length; `=>` with 2; `ite` with 3; `=` with 2
 -- whose left has sort Bool; forall and exists. These are the connectives and quantifiers of demand 3. Any other count or term is opaque".
--- Rests on pool's Sort and Term, and on Formula, Normal, Clauses and Built.
+-- Rests on formulas' Formula, Normal and Clauses, and on Reached, Sort and Term.
 use Prim.Native.Nat.{ℕ}
 use mathlib.Core.Path.{_≡_}
 use mathlib.Core.Bool.{Bool, true, false, cond, decide}
@@ -17,7 +17,8 @@ use Rattle.meaning.specs.Sort.{Sort-discrete, bool}
 use Rattle.meaning.specs.Term.{Vars, Term, Terms, const, bitVector, var, app, quant, bind, letin, op, noTerm, tnil, tcons, stated}
 use Rattle.formulas.specs.Formula.{Form, Forms, opaque, neg, many, imp, ite, iff, all, fnil, fcons, connectiveTag}
 use Rattle.formulas.specs.Normal.{Normal, Normals, lit, nmany, nall, nnil, ncons, nnf, prenex}
-use Rattle.formulas.specs.Clauses.{Clause, cnf, reachesForall}
+use Rattle.formulas.specs.Clauses.{Clause, cnf}
+use Rattle.meaning.specs.Reached.{reachesForall}
 
 -- ---- a connective of its operands' formulas; t is the term itself, opaque where the count of operands is another
 module _ {B L : Type 0} (t : L) where

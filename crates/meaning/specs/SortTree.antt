@@ -2,7 +2,7 @@
 --     sortOfTerm rules t     the sort that `compute_sort` gives the term t, by the table of rules; `none` where it has no answer
 -- 01, "Sorts and free variables": "`compute_sort` is the reference. A stated sort must equal it. It has no answer where the width it gives
 -- passes u32 or the Rust would stop". An operand's sort is the one that it states. "Argument sorts are not checked."
--- Rests on Sort and Term, and on SortRule for the names of the special rules.
+-- Rests on sorts' SortRule and enum `Special`, and on Sort and Term.
 use Prim.Native.Nat.{ℕ, _+_, _-_}
 use mathlib.Core.Bool.{Bool, true, false, _&&_, _||_, cond}
 use mathlib.Core.List.{List, [], _∷_, _++_, map, reverse, dropLast, getLast?}

@@ -3,7 +3,7 @@
 --     tree tags values t         the term at t
 -- 01, "Pool": the tags, and the cells after a header in their order. A cell that names a sort or term is read as the tree at the place
 -- that it holds. Where a sort names a sort, or a term a term, that does not stand before it, that is read as none; check 14 rules it out.
--- Rests on Cell, ByPlace, Sort and Term.
+-- Rests on cells' ByPlace and Cell, and on Sort and Term.
 use Prim.Native.Nat.{ℕ}
 use mathlib.Core.Bool.{true, false, cond}
 use mathlib.Core.List.{List, [], _∷_}

@@ -8,7 +8,7 @@
 --     Says R cs t           the conjunction of the clauses cs has t's value
 -- 01, "Truth in a reading", quoted below. Demand 3: "a reading gives each sort finitely many values, at least one; a variable is its name
 -- with its sort; a term that is no connective or quantifier has a truth value fixed by its free variables' values".
--- Rests on pool's Sort, Term and FreeTree, and on Formula, Normal, Clauses and Skeleton.
+-- Rests on formulas' Formula, Normal and Clauses, and on Sort, Term, Skeleton and FreeTree.
 use mathlib.Core.Path.{_≡_, subst}
 use mathlib.Core.Bool.{Bool, true, false, not, _&&_, _||_, Bool·beq, cond}
 use mathlib.Core.List.{List, [], _∷_, List·Memᴰ}

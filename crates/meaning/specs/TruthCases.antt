@@ -5,7 +5,7 @@
 --     (exists (x) x)                    true
 --     (forall () x)                     the value of x
 --     (forall ((x Bool)) (x of Int))    the value of x of sort Int: one name under two sorts is two variables
--- Rests on pool's Sort and Term, and on Skeleton and Truth.
+-- Rests on Sort, Term, Skeleton and Truth.
 use mathlib.Core.Path.{_≡_, refl}
 use mathlib.Core.Bool.{Bool, true, false}
 use mathlib.Core.List.{[], _∷_, List·Memᴰ, List·Memᴰ·head, List·Memᴰ·tail}

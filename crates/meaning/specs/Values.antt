@@ -4,7 +4,7 @@
 --     FromValues R            the truth of R's opaque terms follows from such values
 -- SMT-LIB 2.6, 3.6.1: a let's names take the values of the terms bound to them, all read outside the let ("parallel"). Of a repeated name,
 -- which SMT-LIB does not have, the last binds, as in a quantifier's list.
--- Rests on term_trees' Sort, Term and FreeTree, and on Truth.
+-- Rests on Sort, Term, FreeTree and Truth.
 use Prim.Native.Nat.{ℕ}
 use mathlib.Core.Path.{_≡_}
 use mathlib.Core.Bool.{Bool, cond}

@@ -1,5 +1,6 @@
 -- What the functions of the clause list's call promise each other.
--- Rests on pool's Check, on Calls and Walk, and on the enum `Clausal` and the struct `Listed`.
+-- Rests on answers' struct `Answer`, on cells' Limits and struct `TermPlace`, on descriptions' Description, on pool's Check, on building's Walk and
+-- enum `Built`, on Calls, and on the enum `Clausal` and the struct `Listed`.
 use Prim.Native.Nat.{ℕ, _≤_}
 use mathlib.Core.Path.{_≡_}
 use mathlib.Core.Bool.{cond}

@@ -7,7 +7,7 @@
 -- value. Both hold even where an opaque literal's value depends on every variable." An empty `or` is refused (13).
 -- The terms are those of the arrays as the call leaves them; readings have numbers for values, which is every reading
 -- (formulas/proofs/Numbered.antt `every-value`, `every-clauses`).
--- Rests on pool_checks' Check, on term_trees' Tree, on formulas' Skeleton and Numbered, on clauses' Lists and on Calls.
+-- Rests on answers' Answer and struct `Answer`, on pool's Check, on clauses' Lists, on meaning's Term, Skeleton, Tree and Numbered, and on Calls.
 use Prim.Native.Nat.{ℕ}
 use mathlib.Core.Path.{_≡_}
 use mathlib.Core.Bool.{Bool}

@@ -6,7 +6,8 @@
 --     x       true        4                      accepted: x itself, nothing is built
 --
 -- x is a variable of sort Bool at 1, in a pool of 4 cells.
--- Rests on sort_rules' Table and on Calls.
+-- Rests on answers' Answer, on cells' Bounded, ByPlace, Cell and Headers, on headers' WellFormed, on descriptions' Description, on sorts' SortRule
+-- and Table, on pool's Check, on formulas' Formula and Built, on building's Arrays, and on Calls.
 use mathlib.Core.Path.{_≡_, refl}
 use mathlib.Core.Bool.{true, false}
 use mathlib.Core.List.{[], _∷_}

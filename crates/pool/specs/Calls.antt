@@ -1,6 +1,6 @@
 -- The calls on a term: which refusal comes first, and what an accepted call gives.
 -- 01, "What stops a step": "Other public calls on a term run 30, 14, 15, 16, 17".
--- Rests on Answer, Check and Free.
+-- Rests on answers' Answer and struct `Answer`, on cells' Cell, on free_variables' Free, and on Check.
 use Prim.Native.Nat.{ℕ, _<_}
 use mathlib.Core.Path.{_≡_}
 use mathlib.Core.Bool.{cond}

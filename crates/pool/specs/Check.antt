@@ -1,6 +1,7 @@
 -- The pool check and the check of a place in it: which refusal comes first.
 -- 01, "What stops a step": "Checks run 30, 14, 15, 16, 18, 1, 17, then the rule. Other public calls on a term run 30, 14, 15, 16, 17".
--- Rests on Answer, WellFormed, Description and SortRule.
+-- Rests on answers' Answer and struct `Answer`, on cells' Limits and enum `Found`, on headers' WellFormed, on descriptions' Description and Index,
+-- and on sorts' SortRule.
 use Prim.Native.Nat.{ℕ}
 use mathlib.Core.Path.{_≡_}
 use mathlib.Core.Bool.{Bool, _&&_, cond}

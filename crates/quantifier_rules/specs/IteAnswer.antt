@@ -1,4 +1,6 @@
--- What the answers of `miniscope_ite` say. Rests on Form, FormAnswer, MiniscopeDistribute and MiniscopeIte, and on the types of `miniscope_ite`.
+-- What the answers of `miniscope_ite` say.
+-- Rests on bindings' Binding, on formulas' Pattern and PatternAnswer, on MiniscopeDistribute and MiniscopeIte, and on the enum `IteMatched` and the
+-- struct `ItePlaces`.
 use Prim.Native.Nat.{ℕ}
 use mathlib.Core.Bool.{Bool, true, false}
 use mathlib.Core.List.{List}

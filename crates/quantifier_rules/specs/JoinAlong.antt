@@ -1,5 +1,5 @@
 -- What the comparison of joined lists says of itself. As long as the lists agree, the pair before is the one before j in the right list.
--- Rests on Binding, BindingAnswer, QntJoin and the enum `Along`.
+-- Rests on bindings' Binding and BindingAnswer, and on QntJoin and the enum `Along`.
 use Prim.Native.Nat.{ℕ, _-_}
 use mathlib.Core.Path.{_≡_}
 use mathlib.Core.Bool.{Bool, false, not, _&&_, cond}

@@ -1,5 +1,5 @@
 -- What rule 5 asks of its left side.
--- Rests on Cell and Form.
+-- Rests on cells' Cell and on formulas' Pattern.
 use Prim.Native.Nat.{ℕ, _≤_}
 use mathlib.Core.Path.{_≡_}
 use mathlib.Core.List.{List}

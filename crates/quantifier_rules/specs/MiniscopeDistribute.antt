@@ -1,6 +1,6 @@
 -- Rule 4, `miniscope_distribute`: `(= (forall L (and ..)) (and (forall L ..) ..))`, or with exists and `or`.
 -- 01: "2, 11, then by operand 2, 6, 5."
--- Rests on Outcome, Binding and Form.
+-- Rests on answers' Outcome, on bindings' Binding, and on formulas' Pattern.
 use Prim.Native.Nat.{ℕ}
 use mathlib.Core.Bool.{Bool, true, false, Bool·beq, cond}
 use mathlib.Core.List.{List, [], _∷_}

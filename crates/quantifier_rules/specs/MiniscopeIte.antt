@@ -1,6 +1,6 @@
 -- Rule 6, `miniscope_ite`: `(= (forall L (ite a b c)) (ite a (forall L b) (forall L c)))`.
 -- 01: "2, 6, 6, 12." "A name written twice in a pattern means equal terms"; forall only. 12 carries the first operand of `ite`.
--- Rests on Outcome, Binding and Form.
+-- Rests on answers' Outcome, on bindings' Binding, on free_variables' BindingFree, and on formulas' Pattern.
 use Prim.Native.Nat.{ℕ}
 use mathlib.Core.Bool.{Bool, true, false, _&&_, cond}
 use mathlib.Core.List.{List}

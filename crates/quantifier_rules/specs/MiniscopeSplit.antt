@@ -1,7 +1,7 @@
 -- Rule 5, `miniscope_split`: `(= (forall L (or ..)) (or ..))`, or with exists and `and`; each operand on the right is the left one, or the left one
 -- under a quantifier over some of the pairs of L.
 -- 01: "2, 11, then by operand: equal passes, else 2, 5, 8, each outer pair used at most once, also where the outer list repeats it; then 12."
--- Rests on Outcome, Binding, Form, Used and MiniscopeDistribute.
+-- Rests on answers' Outcome, on bindings' Binding and Used, on free_variables' BindingFree, on formulas' Pattern, and on MiniscopeDistribute.
 use Prim.Native.Nat.{ℕ}
 use mathlib.Core.Bool.{Bool, true, false, cond}
 use mathlib.Core.List.{List, [], _∷_}

@@ -2,7 +2,7 @@
 -- 01: "form (2); quantifiers (3: left, its body, right); kinds (4); bodies (5); outer list then inner, adjacent equal pairs dropped, equals
 -- the right list in order (7)."
 -- The Rust's `dedup` drops other pairs: its join stands beside 01's here, for comparison alone. proofs/QntJoin.antt says where they agree.
--- Rests on Outcome, Binding and Form.
+-- Rests on answers' Outcome, on bindings' Binding, and on formulas' Formula and Pattern.
 use Prim.Native.Nat.{ℕ}
 use mathlib.Core.Bool.{Bool, true, not, _&&_, _||_, Bool·beq, cond}
 use mathlib.Core.List.{List, [], _∷_, _++_}

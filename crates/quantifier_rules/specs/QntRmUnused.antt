@@ -1,6 +1,6 @@
 -- Rule 2, `qnt_rm_unused`.
 -- 01: "form; left quantifier; accept if no left variable is free in the body and the right is that body; right quantifier, 4, 5, 8, 9."
--- Rests on Outcome, Binding and Form.
+-- Rests on answers' Outcome, on bindings' Binding, on free_variables' BindingFree, and on formulas' Formula and Pattern.
 use Prim.Native.Nat.{ℕ}
 use mathlib.Core.Bool.{Bool, true, false, not, _&&_, Bool·beq, cond}
 use mathlib.Core.List.{List}

@@ -1,4 +1,5 @@
--- What the answers of `sides` say. Rests on Form, FormAnswer and MiniscopeDistribute, and on the types of `sides`.
+-- What the answers of `sides` say.
+-- Rests on cells' Cell, on bindings' Binding, on formulas' PatternAnswer, on MiniscopeDistribute, and on the enum `Matched` and the struct `Places`.
 use Prim.Native.Nat.{ℕ}
 use mathlib.Core.List.{List}
 use mathlib.Core.Option.{Option, some, none}

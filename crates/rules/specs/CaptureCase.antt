@@ -12,7 +12,9 @@
 --     31      (or (not l) (forall (x) (or x z)))
 --
 -- x is taken out of l's body and free in l. Where x is true and z is false, l is true and the clause is not true for every x.
--- Rests on clausification's QntCnf and NoCapture, on pool's Tree, and on formulas' Truth and TruthCases.
+-- Rests on answers' Outcome, on cells' ByPlace, Cell and Headers, on bindings' Binding, on descriptions' Description, on free_variables' Free and
+-- BindingFree, on formulas' Formula, Pattern and Built, on building's Arrays, on meaning's Sort, Term, Skeleton, Tree, FreeTree, Truth and
+-- TruthCases, and on clausification's QntCnf.
 use Prim.Native.Nat.{ℕ}
 use mathlib.Core.Path.{_≡_, refl}
 use mathlib.Core.Bool.{Bool, true, false}

@@ -17,8 +17,9 @@
 -- Of joins the conclusion is `(= (forall outer (forall inner p)) (forall right p))` in a pool of its own. Of formulas clausesOf is the clause list
 -- by which rule 3's schema goes: the normal form at true polarity with its foralls taken out; p, q, r and a are variables of sort Bool; a literal
 -- is +t for t, -t for `not` t.
--- Rests on joining's QntJoin, on term_trees' Sort and Term, on formulas' Skeleton, Normal and Clauses, on
--- schemas' Schemas and Notation, and on normal_form's Calls.
+-- Rests on answers' Answer and Outcome, on cells' Bounded, ByPlace, Cell and Headers, on bindings' Binding, on headers' WellFormed, on descriptions'
+-- Description, on sorts' SortRule and Table, on pool's Check, on formulas' Formula, Pattern, Normal, Built and Clauses, on building's Arrays, on
+-- meaning's Sort, Term and Skeleton, on normal_form's Calls, on quantifier_rules' QntJoin, and on schemas' Notation and Schemas.
 use mathlib.Core.Path.{_≡_, refl}
 use Prim.Native.Nat.{ℕ}
 use mathlib.Core.Bool.{true, false}

@@ -5,7 +5,8 @@
 --     rule 2, (= (forall (x) x) (forall (y) x))      8 with y: a new variable comes before a missing one
 --
 -- x, y and p are the names 1, 2 and 3, of sort Bool.
--- Rests on joining's QntJoin and removing's QntRmUnused.
+-- Rests on answers' Outcome, on cells' ByPlace, Cell and Headers, on bindings' Binding, on descriptions' Description, on free_variables' Free and
+-- BindingFree, on formulas' Pattern, and on quantifier_rules' QntJoin and QntRmUnused.
 use mathlib.Core.Path.{_≡_, refl}
 use mathlib.Core.List.{[], _∷_}
 use Rattle.cells.specs.ByPlace.{downTo, byPlace}

@@ -6,7 +6,7 @@
 -- the left quantified formula." 02, S-3, takes one away: "A step with a let may now rest on the truth guarantee without the old premise."
 -- A let is opaque, so that its truth too is fixed by its free variables' values; formulas' OneValue shows of which readings that holds.
 -- Rule 3's own premise is clausification's NoCapture.
--- Rests on term_trees' Term, and on formulas' Truth and Numbered.
+-- Rests on meaning's Term, Truth and Numbered.
 use mathlib.Core.Path.{_≡_}
 use mathlib.Core.Bool.{true}
 use Rattle.meaning.specs.Term.{Term}

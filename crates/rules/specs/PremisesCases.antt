@@ -14,7 +14,9 @@
 --
 -- x is free in l, so that rule 2 refuses (= (forall (x) l) l), with 3 and l's place. In a reading where a let that has x free has the truth
 -- value of x, and which fixes every opaque term by its free variables' values, that equality is false if x is true.
--- Rests on term_trees' Sort, Term, FreeTree, Lets and Tree, on formulas' Skeleton and Truth, and on removing's QntRmUnused.
+-- Rests on answers' Outcome, on cells' ByPlace, Cell and Headers, on bindings' Binding, on descriptions' Description, on free_variables' Free and
+-- BindingFree, on formulas' Pattern, on meaning's Sort, Term, Lets, Skeleton, Tree, FreeTree, Truth and TruthCases, and on quantifier_rules'
+-- QntRmUnused.
 use Prim.Native.Nat.{ℕ}
 use mathlib.Core.Path.{_≡_, refl}
 use mathlib.Core.Bool.{Bool, true, false, cond}

@@ -1,6 +1,6 @@
 -- The schema of a rule's code, and what limits rule 3.
 -- 01: "The six rules, with codes"; "From the state: .. 31 .. 32 ..".
--- Rests on Schemas, and on building's Arrays.
+-- Rests on answers' struct `Answer`, on headers' WellFormed, on building's Arrays, on meaning's Sort, Term and Tree, and on schemas' Schemas.
 use Prim.Native.Nat.{ℕ}
 use mathlib.Core.Path.{_≡_}
 use mathlib.Core.Bool.{true, cond}

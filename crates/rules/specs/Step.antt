@@ -1,6 +1,8 @@
 -- `check`: the checks of a step and then its rule, what the arrays hold after it, and what an acceptance says of the conclusion.
 -- 01, "What stops a step": "0 is acceptance. Checks run 30, 14, 15, 16, 18, 1, 17, then the rule."
--- Rests on pool's Answer, Check and Tree, on the six rules' definitions, on schemas' RuleSchema and on Premises.
+-- Rests on answers' Answer, Outcome and struct `Answer`, on headers' WellFormed, on descriptions' Description, on pool's Check, on meaning's Term and
+-- Tree, on quantifier_rules' MiniscopeDistribute, MiniscopeIte, QntJoin, QntRmUnused and MiniscopeSplit, on clausification's NoCapture and QntCnf,
+-- and on Premises and RuleSchema.
 use Prim.Native.Nat.{ℕ, min}
 use mathlib.Core.Path.{_≡_}
 use mathlib.Core.Logic.{_↔_}

@@ -1,5 +1,5 @@
 -- What the functions of `check` promise each other.
--- Rests on headers' WellFormed, on descriptions' Description, on pool_checks' Check, on Step and on the struct `Answer`.
+-- Rests on answers' Answer and struct `Answer`, on headers' WellFormed, on descriptions' Description, on pool's Check, and on Step.
 use Prim.Native.Nat.{ℕ}
 use mathlib.Core.Path.{_≡_}
 use mathlib.Core.Bool.{cond}

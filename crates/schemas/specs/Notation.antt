@@ -1,5 +1,5 @@
 -- Formulas as they are written, for cases by computation; the number of operands.
--- Rests on term_trees' Sort and Term.
+-- Rests on meaning's Sort and Term.
 use Prim.Native.Nat.{ℕ, suc}
 use mathlib.Core.List.{List, [], _∷_}
 use Rattle.meaning.specs.Sort.{bool}

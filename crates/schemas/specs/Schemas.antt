@@ -3,7 +3,7 @@
 -- A variable is its name with its sort. Q is forall (true) or exists (false), which state Bool. s, s′, s″ are the sorts that operators state,
 -- whatever they are. Operators by their tags: `not` 34, `and` 36, `or` 37, `=` 39, `ite` 41.
 -- Each rule says where document 01 and the Rust accept more or less than the Alethe document; docs/DIFFERENCES.md has the list.
--- Rests on term_trees' Term and FreeTree, and on formulas' Normal, Clauses, Skeleton and Built.
+-- Rests on formulas' Formula, Normal and Clauses, and on meaning's Sort, Term, Skeleton and FreeTree.
 use Prim.Native.Nat.{_≤_}
 use mathlib.Core.Path.{_≡_}
 use mathlib.Core.Bool.{Bool, true, false, not, cond}

@@ -1,6 +1,6 @@
 -- The sort that a rule gives whose sort is made of a list of sorts.
 -- 01, "Sorts and free variables": "`compute_sort` is the reference."
--- Rests on Cell and SortRule, and on the enum `ListRule`.
+-- Rests on cells' Cell, and on SortRule and the enum `ListRule`.
 use Prim.Native.Nat.{ℕ}
 use mathlib.Core.List.{List, map}
 use Rattle.cells.specs.Cell.{sortOf}

@@ -2,7 +2,7 @@
 -- 01, "Sorts and free variables": "`compute_sort` is the reference. A stated sort must equal it." The operands' sorts are those that they
 -- state: before the first wrong place they are the computed ones. No two headers of the pool describe the same thing, so that a sort is
 -- its place. The table of rules is a parameter.
--- Rests on Cell and Headers, and on the enum `Special`.
+-- Rests on cells' Cell, Headers and enum `Found`, on headers' WellFormed, and on the enum `Special`.
 use Prim.Native.Nat.{ℕ, _+_, _-_}
 use mathlib.Core.Bool.{Bool, true, false, not, _&&_, _||_, cond}
 use mathlib.Core.List.{List, [], _∷_, _++_, map, reverse, dropLast}

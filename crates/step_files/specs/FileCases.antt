@@ -7,7 +7,7 @@
 --     the bytes 1, 2, 3, 4                     the word 67,305,985: the lowest byte first
 --     step 12, refused with 5 and 30, 7        12 5 30 7
 --
--- Rests on StepFile, on words' Words and on answer_lines' Decimal and Text.
+-- Rests on answers' Answer, and on Decimal, Words, Text and StepFile.
 use Prim.Native.Nat.{ℕ}
 use mathlib.Core.Path.{_≡_, refl}
 use mathlib.Core.List.{List, [], _∷_}

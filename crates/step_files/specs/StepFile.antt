@@ -2,7 +2,7 @@
 -- 01, "The step file": "u32 little-endian: N, R (steps, at most 256); N tags, N values; R rule codes, R conclusion places. The program
 -- `steps`, with arrays of 8,192 cells, reads standard input and prints per step its number from 1, the answer and its two numbers. N or R
 -- too large prints `0 30 0 0`, else a wrong length `0 14 0 0`, and nothing more. Under 8 bytes is a wrong length, N unread."
--- Rests on Text, words' Words and rules' Step.
+-- Rests on answers' Answer and struct `Answer`, on sorts' Table, on rules' Step, and on Words and Text.
 use Prim.Native.Nat.{ℕ, zero, suc, _+_, _-_, _*_}
 use mathlib.Core.Path.{_≡_}
 use mathlib.Core.Bool.{_||_, cond}

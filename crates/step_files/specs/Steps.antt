@@ -1,5 +1,5 @@
 -- What the functions of `lines` ask of their arguments.
--- Rests on StepFile and pool's Check.
+-- Rests on answers' struct `Answer`, on sorts' Table, on pool's Check, and on StepFile.
 use Prim.Native.Nat.{ℕ, _≤_}
 use mathlib.Core.Path.{_≡_}
 use mathlib.Core.List.{List}

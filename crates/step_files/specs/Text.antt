@@ -1,6 +1,6 @@
 -- A line of the output, and what the functions that write state of the bytes written.
 -- 01, "The step file": "prints per step its number from 1, the answer and its two numbers."
--- Rests on Decimal and pool's Answer.
+-- Rests on answers' struct `Answer` and on Decimal.
 use Prim.Native.Nat.{ℕ, _+_, _≤_}
 use mathlib.Core.Path.{_≡_}
 use mathlib.Core.List.{List, [], _∷_, _++_}

@@ -113,5 +113,3 @@ module _ (n t : ℕ) (tags values : List ℕ) (s : State n n tags values) (index
 
       pub both-index : (index′ : List ℕ) → Index tags₂ values₂ n index′ → Index tags values n index′
       both-index = index-of-pool n tags values s tags₂ values₂ left
-
-pub ruleset forms-built = (no-normal-forms, no-normal-ask, no-normal-index, no-taken-forms, no-taken-ask, no-taken-index, both-forms, both-ask, both-index)

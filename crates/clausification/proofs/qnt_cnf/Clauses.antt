@@ -95,12 +95,6 @@ module _ (n t : ℕ) (tags values : List ℕ) (f : Forms) (tags₂ values₂ : L
   pub source-part-values : m ≡ length (take m values₂)
   source-part-values = sym (length-take-le m values₂ source-within-values)
 
-  pub tags-long : length tags₂ ≡ length tags
-  tags-long = both .tags-size
-
-  pub values-long : length values₂ ≡ length values
-  values-long = both .values-size
-
 pub ruleset parts = (all-within, all-within-values, all-part, all-part-values, source-within, source-within-values, source-part, source-part-values)
 
 -- ---- the answers
@@ -203,5 +197,3 @@ module _ (tags values : List ℕ) (n l left r right : ℕ) (ask : ForallSides ta
             follows-kept n tags values (take m tags₂) (take m values₂) same (passed .formed) l left r right (x .0)
             (ask .left-place) (ask .right-place) (ask .right-body) normal-form _ clauses-are ∙ sym (rw (room, some, limits)) in
             record { answer = rw (← follows) is; left = kept }
-
-pub ruleset answers-of = (clausified-full, clausified-refused, clausified-follows)

@@ -19,7 +19,7 @@ use Rattle.answers.specs.declared.Answer.{Answer}
 use Rattle.meaning.proofs.trees.Header.{both}
 use Rattle.meaning.proofs.trees.Passed.{Passed, pool-passes, pool-accepts}
 use Rattle.normal_form.proofs.Clausal.{zero-kept}
-use Rattle.answers.specs.Outcome.{Outcome, refuse, _>>=_, _>>_, need, guard, answerOf}
+use Rattle.answers.specs.Outcome.{Outcome, refuse, _>>=_, _>>_, need, guard}
 use Rattle.formulas.specs.Pattern.{quantifier, operator, oneOf, twoOf, andThen}
 use Rattle.formulas.specs.PatternAnswer.{withList, quantifierIn, oneIn, twoIn}
 use Rattle.formulas.specs.declared.matching.Quantified.{Quantified}

@@ -1,9 +1,9 @@
 -- Laws of `TakenSearch`, one for each way through the code.
---     name-append, missing-is     for the callers: the first of two lists, one after the other; `Missing` as a test
+--     name-append     for the callers: the first of two lists, one after the other
 -- Assumes nothing.
 use Prim.Native.Nat.{ℕ, _-_, _≤_, _<_}
 use mathlib.Core.Path.{_≡_, refl, sym, ap, _∙_}
-use mathlib.Core.Bool.{Bool, true, false, not, _&&_, _||_}
+use mathlib.Core.Bool.{Bool, true, false, not, _||_}
 use mathlib.Core.List.{List, [], _∷_, _++_}
 use lib.ListN.{length, getD, take, drop, set, replicate, length-drop, length-replicate, getD-replicate, List·getD-eq-default}
 use lib.Seq.{drop-cons, take-all, getD-set-other, set-out}
@@ -24,7 +24,6 @@ use Rattle.clauses.specs.ClauseWalk.{formAt}
 use Rattle.clauses.proofs.Reading.{before-at, before-tail, read-literal, read-forall, read-connective, run-before}
 use Rattle.normal_form.proofs.prenex_forall.Laws.{body-before}
 use Rattle.bindings.specs.Binding.{Binding, bindingsOf, same, has, firstOf}
-use Rattle.free_variables.specs.BindingFree.{bindingFree}
 use Rattle.bindings.specs.BindingAnswer.{pair, nameOf}
 use Rattle.bindings.proofs.binding.Laws.{same-is}
 use Rattle.free_variables.specs.FreeLists.{isMissing}
@@ -84,11 +83,6 @@ module _ (tags values names : List ℕ) (sought : Sought) where
   tabled-there t e l = rw e l
 
 pub ruleset tables = (tabled-pair, tabled-there)
-
-pub missing-is : (tags values : List ℕ) (n : ℕ) (right : List Binding) (t : TermPlace) (list : List Binding)
-    → firstOf (isSought tags values n right (Missing t)) list ≡ firstOf (λ a. not (has right a) && bindingFree tags values n (t .0) a) list
-unfolding isSought
-missing-is tags values n right t list = refl
 
 -- ---- the first of two lists, one after the other
 abbrev pub orElse : FirstName → FirstName → FirstName

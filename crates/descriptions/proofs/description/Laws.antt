@@ -151,8 +151,6 @@ module _ (tags values : List ℕ) (limit n tag : ℕ) (cells : List ℕ) (f : Fo
       values-are = s .values-are ∙ rw (← is, e, ← room, y);
     }
 
-pub ruleset additions = (add-there, add-full, add-new)
-
 -- ---- cutting back
 -- the loop of `zero_from` at i: what is left to do makes of the array what all of it makes of that at the start
 pub record Zeroing (n : ℕ) (a₀ a : List ℕ) (i : ℕ) : Type 0 where

@@ -12,7 +12,8 @@ use Rattle.meaning.specs.Term.{Var, Vars, Term, quant}
 use Rattle.meaning.specs.FreeTree.{has, free}
 use Rattle.formulas.specs.Formula.{Form, all}
 use Rattle.formulas.specs.Normal.{Normal, Normals, lit, nmany, nall, nnil, ncons, nnf, prenex, prenexes, taken}
-use Rattle.formulas.specs.Clauses.{Clause, product, cnf, cnfAnd, cnfOr, reachesForall, reachForall}
+use Rattle.formulas.specs.Clauses.{Clause, product, cnf, cnfAnd, cnfOr}
+use Rattle.meaning.specs.Reached.{reachForall, reachesForall}
 use Rattle.meaning.specs.Skeleton.{skeleton, IsOpaque, build, normals, clauseForm, clauseTerm, clauseTermsOf, NoForallReached}
 use Rattle.meaning.specs.Truth.{Assignment, Reading, Local, over, truth, True, truthN, truthNs, clauseTruth, clausesTruth, someTrue, eachSomeTrue, Says}
 use Rattle.meaning.proofs.truth.Over.{bool-cases, not-both, andOr-intro, andOr-left, andOr-right, or-left, or-right, or-cases, Subset, outside, has-append, Within, mix, mix-in, mix-out, over-elim, over-intro}

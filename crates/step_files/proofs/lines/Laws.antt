@@ -46,10 +46,6 @@ module _ (n : ℕ) (l cells : List ℕ) (e : cells ≡ zeroFrom n l) (long : len
 pub ruleset cells-from = (part-within, part-read, cells-read)
 
 module _ (bytes : List ℕ) (start n : ℕ) (fits : n ≤ 8192) where
-  pub length-cells : length (cellsFrom bytes start n) ≡ 8192
-  unfolding cellsFrom
-  length-cells = rw (length-append, length-words, length-replicate) (omega arith)
-
   -- past n there are zeroes already
   cut-same : zeroFrom n (cellsFrom bytes start n) ≡ cellsFrom bytes start n
   unfolding cellsFrom zeroFrom
