@@ -1,4 +1,3 @@
-pub mod ClausalForms
 pub mod ClauseSearch
 pub mod NoCapture
 pub mod Promises

@@ -1,5 +1,4 @@
 // Rule 3: clausification.
-mod clausal_forms;
 mod clause_search;
 pub mod qnt_cnf;
 mod taken_list;

@@ -1,7 +1,5 @@
 // Rule 3, `qnt_cnf`. The left body's normal form and its form with foralls taken out are built after the pool, and cut back at
 // the end.
-use crate::clausal_forms::Forms;
-use crate::clausal_forms::build_forms;
 use crate::clause_search::any_clause;
 use crate::taken_list::first_unbound;
 use crate::taken_search::Sought;
@@ -13,6 +11,8 @@ use formulas::matching::bindings;
 use formulas::matching::one_operand;
 use formulas::matching::quantified_at;
 use formulas::matching::two_operands;
+use normal_form::clausal_forms::ClausalForms;
+use normal_form::clausal_forms::build_forms;
 use normal_form::clause_list::list_clauses;
 use pool::Answer;
 use pool::TermPlace;
@@ -102,7 +102,7 @@ fn clausified(
     ensures { λ a. ⌜ Leaves n (now (tags .entry)) (now (values .entry)) (clausified (now (tags .entry)) (now (values .entry)) n (forallAt (now (tags .entry)) (now (values .entry)) (left .place .0) (left .body .0)) (forallAt (now (tags .entry)) (now (values .entry)) (right .place .0) (right .body .0))) a (now (tags .exit)) (now (values .exit)) ⌝ }
     ensures { λ _. ⌜ Index (now (tags .entry)) (now (values .entry)) n (now (index .exit)) ⌝ }
 {
-    let Forms::At(x, m, y, k) = build_forms(tags, values, index, n, left.body) else {
+    let ClausalForms::At(x, m, y, k) = build_forms(tags, values, index, n, left.body) else {
         return Answer::refused(31, 0, 0);
     };
     let mut literals = [0u32; LITERALS];

@@ -2,3 +2,4 @@ pub mod Calls
 pub mod ClauseCall
 pub mod Promise
 pub mod RoomCases
+pub mod ClausalForms

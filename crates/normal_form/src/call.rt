@@ -1,7 +1,8 @@
 // The public calls: the normal form of a term, and the clause list of a term.
 ghost use Rattle.cells.specs.Limits.{cellLimit};
+use crate::clausal_forms::ClausalForms;
+use crate::clausal_forms::build_forms;
 use crate::negation_normal_form::build_normal_form;
-use crate::prenex_forall::build_taken_out;
 use building::build::Built;
 use clauses::clause_list::list_clauses;
 use pool::Answer;
@@ -11,13 +12,10 @@ use pool::description::cut_back;
 use pool::index::INDEX;
 use pool::limits::CLAUSE_ENDS;
 use pool::limits::LITERALS;
-ghost use Prim.Native.Nat.{_≤_, _<_};
+ghost use Prim.Native.Nat.{_≤_};
 ghost use mathlib.Core.Path.{_≡_};
 ghost use Rattle.sorts.specs.Table.{builtIn};
-ghost use Rattle.normal_form.specs.Calls.{clausal};
 ghost use Rattle.normal_form.specs.Promise.{NormalFormPromise, ClauseListPromise};
-ghost use Rattle.descriptions.specs.Index.{Index};
-ghost use Rattle.building.specs.Walk.{State, NormalBuilt};
 ghost use Rattle.normal_form.specs.ClauseCall.{ClausalBuilt, unlisted, ListKept};
 
 // The normal form of the term at t at a polarity: accepted, its place and the new count. What stands there has the term's value at true
@@ -54,25 +52,6 @@ pub struct Listed {
     pub count: u32,
 }
 
-// The taken-out normal form of the term at t at true polarity.
-fn build_clausal(
-    tags: &mut [u32],
-    values: &mut [u32],
-    index: &mut [u32; INDEX],
-    n: usize,
-    t: TermPlace,
-) -> Built
-    requires { ⌜ State n n (now tags) (now values) ⌝ }
-    requires { ⌜ t .0 < n ⌝ }
-    requires { ⌜ Index (now tags) (now values) n (now index) ⌝ }
-    ensures { λ r. ⌜ NormalBuilt n (now (tags .entry)) (now (values .entry)) (clausal (now (tags .entry)) (now (values .entry)) builtIn n (t .0)) r (now (tags .exit)) (now (values .exit)) ⌝ }
-{
-    let Built::At(x, m) = build_normal_form(tags, values, index, n, t, true) else {
-        return Built::Full;
-    };
-    build_taken_out(tags, values, index, m, x)
-}
-
 // Where the taken-out normal form of a term stands, with the new count; or the refusal.
 enum Clausal {
     At(TermPlace, usize),
@@ -88,7 +67,7 @@ fn clausal_of(tags: &mut [u32], values: &mut [u32], n: usize, t: TermPlace) -> C
     if checked.code != 0 {
         return Clausal::Refused(checked);
     }
-    let Built::At(x, m) = build_clausal(tags, values, &mut index, n, t) else {
+    let ClausalForms::At(_, _, x, m) = build_forms(tags, values, &mut index, n, t) else {
         return Clausal::Refused(Answer::refused(31, 0, 0));
     };
     Clausal::At(x, m)

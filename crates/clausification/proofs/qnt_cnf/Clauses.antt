@@ -23,15 +23,15 @@ use Rattle.clauses.specs.ClauseList.{Lent, countAnswer, listAnswer, held, ListA
 use Rattle.building.specs.declared.build.Built.the-variants as stands
 use Rattle.building.specs.Arrays.{poolOf, fits, normalIn, clausalIn, clausalFormIn}
 use Rattle.building.specs.Walk.{State, Left, Holds, NormalBuilt}
-use Rattle.normal_form.proofs.Clausal.{passed-state, tags-kept, values-kept, taken-on, clausal-on, normal-state, clausal-then}
+use Rattle.normal_form.proofs.Clausal.{passed-state, tags-kept, values-kept, taken-on, clausal-on, normal-state}
 use Rattle.answers.specs.Outcome.{Outcome, refuse, _>>_, guard, answerOf}
 use Rattle.clausification.specs.QntCnf.{withinLimits, clausesFrom, clausified}
 use Rattle.clausification.specs.ClauseSearch.{clausesIn}
-use Rattle.clausification.specs.ClausalForms.{Both, FormsBuilt}
-use Rattle.clausification.specs.declared.clausal_forms.Forms.{Forms}
-use Rattle.clausification.specs.declared.clausal_forms.Forms.the-variants.{At, Full}
+use Rattle.normal_form.specs.ClausalForms.{Both, FormsBuilt}
+use Rattle.normal_form.specs.declared.clausal_forms.ClausalForms.{ClausalForms}
+use Rattle.normal_form.specs.declared.clausal_forms.ClausalForms.the-variants.{At, Full}
 use Rattle.clausification.specs.Promises.{forallAt, followsIn, Leaves, ForallSides}
-use Rattle.clausification.proofs.clausal_forms.Laws.{cell-same}
+use Rattle.normal_form.proofs.clausal_forms.Laws.{cell-same, both-clausal}
 use Rattle.clausification.proofs.clause_search.Laws.{clauses-listed}
 use Rattle.clausification.proofs.qnt_cnf.Follows.{follows-kept}
 
@@ -58,7 +58,7 @@ module _ (f : Normal (List ℕ) ℕ) (a : Answer) (is : a ≡ listAnswer f) wher
       never k e = omega arith
 
 -- ---- the two forms
-module _ (n t : ℕ) (tags values : List ℕ) (f : Forms) (tags₂ values₂ : List ℕ) (built : FormsBuilt n t tags values f tags₂ values₂)
+module _ (n t : ℕ) (tags values : List ℕ) (f : ClausalForms) (tags₂ values₂ : List ℕ) (built : FormsBuilt n t tags values f tags₂ values₂)
     (x : TermPlace) (m : ℕ) (y : TermPlace) (k : ℕ) (e : f ≡ At x m y k) where
   both : Both n t tags values x m y k tags₂ values₂
   both = rw e at built
@@ -115,7 +115,7 @@ module _ (tags values : List ℕ) (n l left r right : ℕ) (ask : ForallSides ta
   unfolding clausified guard _>>_
   no-room e = rw e
 
-  module _ (f : Forms) (tags₂ values₂ : List ℕ) (built : FormsBuilt n left tags values f tags₂ values₂) where
+  module _ (f : ClausalForms) (tags₂ values₂ : List ℕ) (built : FormsBuilt n left tags values f tags₂ values₂) where
     pub clausified-full : f ≡ Full → (a : Answer) → a ≡ answerOf (refuse 31 0 0) → Leaves n tags values outcome a tags₂ values₂
     clausified-full e a is = let (kept, full) = rw e at built in record { answer = is ∙ ap answerOf (no-room full); left = kept }
 
@@ -128,9 +128,7 @@ module _ (tags values : List ℕ) (n l left r right : ℕ) (ask : ForallSides ta
       first = let (h, room) = forms .normal in h
 
       both-built : NormalBuilt n tags values (clausalIn tags values n left) (stands.At y k) tags₂ values₂
-      both-built =
-          clausal-then tags values n left (stands.At x m) (forms .tags₁) (forms .values₁) (forms .normal) x m refl sides-state (forms .first-tags) (forms .first-values)
-          (stands.At y k) tags₂ values₂ (forms .taken)
+      both-built = both-clausal n left tags values sides-state x m y k tags₂ values₂ forms
 
       clausal-holds : Holds n (clausalIn tags values n left) (y .0) k tags₂ values₂
       clausal-holds = let (h, room) = both-built in h

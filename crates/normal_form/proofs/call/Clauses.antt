@@ -15,8 +15,6 @@ use Rattle.descriptions.specs.Description.{zeroFrom, Cut}
 use Rattle.answers.specs.Answer.{badArrays}
 use Rattle.pool.specs.Check.{andThen, checkTerm}
 use Rattle.answers.specs.declared.Answer.{Answer}
-use Rattle.building.specs.declared.build.Built.{Built}
-use Rattle.building.specs.declared.build.Built.the-variants.{At, Full}
 use Rattle.normal_form.specs.declared.call.Clausal.{Clausal}
 use Rattle.normal_form.specs.declared.call.Clausal.the-variants.{At as ClausalAt, Refused}
 use Rattle.normal_form.specs.declared.call.Listed.{Listed}
@@ -25,9 +23,13 @@ use Rattle.formulas.specs.Clauses.{cnf, emptyOr, literalTotal}
 use Rattle.formulas.specs.Built.{count, normalAt}
 use Rattle.clauses.specs.Lists.{literalPlaces, clauseEnds}
 use Rattle.normal_form.specs.Calls.{noRoom, clausal, clausalForm, clauseAnswer, listLeft, countLeft, ClauseList}
-use Rattle.building.specs.Walk.{State, Holds, NormalBuilt}
+use Rattle.building.specs.Walk.{State, Holds}
 use Rattle.clauses.specs.ClauseWalk.{formAt}
 use Rattle.clauses.specs.ClauseList.{Lent, countAnswer, listAnswer, held, ListAnswered}
+use Rattle.normal_form.specs.ClausalForms.{FormsBuilt}
+use Rattle.normal_form.specs.declared.clausal_forms.ClausalForms.{ClausalForms}
+use Rattle.normal_form.specs.declared.clausal_forms.ClausalForms.the-variants as forms
+use Rattle.normal_form.proofs.clausal_forms.Laws.{both-clausal}
 use Rattle.normal_form.specs.ClauseCall.{Passes, Refuses, ClausalBuilt, unlisted, ListKept}
 use Rattle.building.proofs.build.Building.{left-refl}
 use Rattle.normal_form.proofs.Clausal.{zero-kept, tags-kept, values-kept, clausal-on}
@@ -73,8 +75,8 @@ module _ (tags values rules : List ℕ) (n t : ℕ) (a : Answer) (is : a ≡ che
     pub clausal-below : t < n
     clausal-below = checked-ready tags values rules n t a is ok .1
 
-    module _ (b : Built) (tags₁ values₁ : List ℕ) (built : NormalBuilt n tags values (clausal tags values rules n t) b tags₁ values₁) where
-      pub clausal-full : b ≡ Full → (made : Answer) → made ≡ noRoom → ClausalBuilt tags values rules n t (Refused made) tags₁ values₁
+    module _ (f : ClausalForms) (tags₁ values₁ : List ℕ) (built : FormsBuilt n t tags values f tags₁ values₁) where
+      pub clausal-full : f ≡ forms.Full → (made : Answer) → made ≡ noRoom → ClausalBuilt tags values rules n t (Refused made) tags₁ values₁
       unfolding clauseAnswer andThen
       clausal-full e made q =
           let (kept, full) = rw e at built in
@@ -85,8 +87,8 @@ module _ (tags values rules : List ℕ) (n t : ℕ) (a : Answer) (is : a ≡ che
             left = kept;
           })
 
-      pub clausal-made : (x : TermPlace) (m : ℕ) → b ≡ At x m → ClausalBuilt tags values rules n t (ClausalAt x m) tags₁ values₁
-      clausal-made x m e = record { passed = rw is at ok; built = rw e at built }
+      pub clausal-made : (x : TermPlace) (m : ℕ) (y : TermPlace) (k : ℕ) → f ≡ forms.At x m y k → ClausalBuilt tags values rules n t (ClausalAt y k) tags₁ values₁
+      clausal-made x m y k e = record { passed = rw is at ok; built = both-clausal n t tags values clausal-state x m y k tags₁ values₁ (rw e at built) }
 
 pub ruleset clausals = (clausal-refused, clausal-full, clausal-made)
 

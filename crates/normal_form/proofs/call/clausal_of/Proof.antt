@@ -15,8 +15,8 @@ same-length-2 c = search needs
 returns : tie.Need-returns
 returns c = search clausals
 
-build-clausal-requires : tie.Need-build-clausal-requires
-build-clausal-requires c κs =
+build-forms-requires : tie.Need-build-forms-requires
+build-forms-requires c κs =
     let at-if1 = c .before .before .before in
     let at-index-term = at-if1 .before .before in
     let state = clausal-state _ _ _ _ _ _ (at-index-term .index-term .ensures .0) (at-if1 .if1 .left) in
@@ -58,7 +58,7 @@ clausal-of-spec =
     same-length
     same-length-2
     returns
-    build-clausal-requires
+    build-forms-requires
     enum-known-x
     enum-told
     refused-requires

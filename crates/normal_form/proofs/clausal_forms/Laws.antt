@@ -1,7 +1,7 @@
 -- Laws of `build_forms`: what is built on each way out, the pool's cells that are kept, and the index of the pool.
 -- Assumes nothing.
 use Prim.Native.Nat.{ℕ, _<_}
-use mathlib.Core.Path.{_≡_, sym, ap, _∙_}
+use mathlib.Core.Path.{_≡_, refl, sym, ap, _∙_}
 use mathlib.Core.Bool.{true}
 use mathlib.Core.List.{List}
 use lib.ListN.{length, getD, take}
@@ -17,13 +17,20 @@ use Rattle.building.specs.declared.build.Built.{Built}
 use Rattle.building.specs.declared.build.Built.the-variants as built
 use Rattle.building.specs.Arrays.{poolOf, normalIn, clausalIn}
 use Rattle.building.specs.Walk.{State, Left, Holds, NormalBuilt}
 use Rattle.normal_form.proofs.Clausal.{tags-kept, values-kept, clausal-on, clausal-full, clausal-then}
-use Rattle.clausification.specs.ClausalForms.{FormsBuilt}
-use Rattle.clausification.specs.declared.clausal_forms.Forms.the-variants.{At, Full}
+use Rattle.normal_form.specs.ClausalForms.{Both, FormsBuilt}
+use Rattle.normal_form.specs.declared.clausal_forms.ClausalForms.the-variants.{At, Full}
 
 -- a cell below n, of arrays with equal first n cells
 pub cell-same : (n : ℕ) (l l′ : List ℕ) → take n l′ ≡ take n l → (i : ℕ) → i < n → getD l i 0 ≡ getD l′ i 0
 cell-same n l l′ e i h = sym (getD-take n l i 0 h) ∙ (ap (λ (k : List ℕ). getD k i 0) (sym e) ∙ getD-take n l′ i 0 h)
+
+-- both forms, one after the other: the second is the taken-out normal form of the term
+pub both-clausal : (n t : ℕ) (tags values : List ℕ) → State n n tags values → (x : TermPlace) (m : ℕ) (y : TermPlace) (k : ℕ) (tags₂ values₂ : List ℕ)
+    → Both n t tags values x m y k tags₂ values₂ → NormalBuilt n tags values (clausalIn tags values n t) (built.At y k) tags₂ values₂
+both-clausal n t tags values s x m y k tags₂ values₂ forms =
+    clausal-then tags values n t (built.At x m) (forms .tags₁) (forms .values₁) (forms .normal) x m refl s (forms .first-tags) (forms .first-values)
+    (built.At y k) tags₂ values₂ (forms .taken)
 
 -- ---- arrays that have kept the pool's cells
 module _ (n : ℕ) (tags values : List ℕ) (s : State n n tags values) (tags′ values′ : List ℕ) (left : Left n tags values tags′ values′) where

@@ -1,8 +1,8 @@
 // The two forms of a body that rule 3 goes by, built after the pool: its normal form, and that with foralls taken out. The index has
 // the pool's headers again afterwards.
-use normal_form::build::Built;
-use normal_form::negation_normal_form::build_normal_form;
-use normal_form::prenex_forall::build_taken_out;
+use crate::negation_normal_form::build_normal_form;
+use crate::prenex_forall::build_taken_out;
+use building::build::Built;
 use pool::TermPlace;
 use pool::index::INDEX;
 use pool::index::forget;
@@ -10,22 +10,22 @@ use pool::index::index_headers;
 ghost use Prim.Native.Nat.{_<_};
 ghost use Rattle.descriptions.specs.Index.{Index};
 ghost use Rattle.building.specs.Walk.{State};
-ghost use Rattle.clausification.specs.ClausalForms.{FormsBuilt};
+ghost use Rattle.normal_form.specs.ClausalForms.{FormsBuilt};
 
 // Where the normal form stands, with the count after it, and the same of the taken-out form; or no room.
-pub enum Forms {
+pub enum ClausalForms {
     At(TermPlace, usize, TermPlace, usize),
     Full,
 }
 
 // Builds both forms of the term at t.
-pub(crate) fn build_forms(
+pub fn build_forms(
     tags: &mut [u32],
     values: &mut [u32],
     index: &mut [u32; INDEX],
     n: usize,
     t: TermPlace,
-) -> Forms
+) -> ClausalForms
     requires { ⌜ State n n (now tags) (now values) ⌝ }
     requires { ⌜ t .0 < n ⌝ }
     requires { ⌜ Index (now tags) (now values) n (now index) ⌝ }
@@ -34,12 +34,12 @@ pub(crate) fn build_forms(
 {
     let Built::At(x, m) = build_normal_form(tags, values, index, n, t, true) else {
         index_headers(tags, values, n, index);
-        return Forms::Full;
+        return ClausalForms::Full;
     };
     let Built::At(y, k) = build_taken_out(tags, values, index, m, x) else {
         index_headers(tags, values, n, index);
-        return Forms::Full;
+        return ClausalForms::Full;
     };
     forget(tags, values, index, n, k);
-    Forms::At(x, m, y, k)
+    ClausalForms::At(x, m, y, k)
 }

@@ -1,11 +1,11 @@
 use mathlib.Core.Path.{_∙_}
 use native.Mathlib.Omega.{arith}
 use Rattle.normal_form.proofs.Clausal.{normal-state, normal-below}
 use Rattle.building.proofs.build.Indexing.{index-at}
-use Rattle.clausification.proofs.clausal_forms.Laws.{no-normal-forms, no-normal-ask, no-normal-index, no-taken-forms, no-taken-ask, no-taken-index, both-forms, both-ask, both-index}
+use Rattle.normal_form.proofs.clausal_forms.Laws.{no-normal-forms, no-normal-ask, no-normal-index, no-taken-forms, no-taken-ask, no-taken-index, both-forms, both-ask, both-index}
 use borrow.Author.Needs.{needs}
-use Rattle.clausification.proofs.clausal_forms.build_forms.Statement.{statement}
-use Rattle.clausification.proofs.clausal_forms.build_forms.Tie as tie
+use Rattle.normal_form.proofs.clausal_forms.build_forms.Statement.{statement}
+use Rattle.normal_form.proofs.clausal_forms.build_forms.Tie as tie
 
 build-normal-form-requires : tie.Need-build-normal-form-requires
 build-normal-form-requires c κs = search needs
