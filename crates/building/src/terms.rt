@@ -1,4 +1,4 @@
-// One new term at a time, put into the pool over parts that stand there: a connective, a quantifier, a pair, a literal. The scratch array holds the
+// One new term at a time, put into the pool over parts that stand there: a connective, a quantifier, a pair, a literal. `out` holds the
 // cells of the new term; where the parts stand is read from the memo of a walk.
 ghost use Rattle.cells.specs.Limits.{cellLimit};
 use crate::build::Built;
@@ -54,32 +54,32 @@ fn flip(b: bool, polarity: bool) -> bool
     !b
 }
 
-// Writes the sort Bool and the places of the operands' forms to the scratch array, and gives their number.
-fn gather(run: &[u32], memo: &[u32], scratch: &mut [u32], polarity: bool) -> usize
-    requires { ⌜ length (now run) < length (now scratch) ⌝ }
-    ensures { λ r. ⌜ FirstCells (0 ∷ placesIn (now (memo .entry)) polarity (now (run .entry))) r (now (scratch .exit)) ⌝ }
+// Writes the sort Bool and the places of the operands' forms to `out`, and gives their number.
+fn gather(run: &[u32], memo: &[u32], out: &mut [u32], polarity: bool) -> usize
+    requires { ⌜ length (now run) < length (now out) ⌝ }
+    ensures { λ r. ⌜ FirstCells (0 ∷ placesIn (now (memo .entry)) polarity (now (run .entry))) r (now (out .exit)) ⌝ }
 {
-    scratch[0] = 0;
+    out[0] = 0;
     let mut j: usize = 0;
     while j < run.len() {
         let p = place_in(memo, TermPlace(run[j]), polarity);
-        scratch[j + 1] = p.0;
+        out[j + 1] = p.0;
         j += 1;
     }
     j + 1
 }
 
-// Writes the sort Bool, a quantifier's new body and the pairs of its run to the scratch array, and gives their number.
-fn gather_pairs(run: &[u32], body: TermPlace, scratch: &mut [u32]) -> usize
-    requires { ⌜ length (now run) < length (now scratch) ⌝ }
-    requires { ⌜ 2 ≤ length (now scratch) ⌝ }
-    ensures { λ r. ⌜ FirstCells (0 ∷ body .0 ∷ drop 1 (now (run .entry))) r (now (scratch .exit)) ⌝ }
+// Writes the sort Bool, a quantifier's new body and the pairs of its run to `out`, and gives their number.
+fn gather_pairs(run: &[u32], body: TermPlace, out: &mut [u32]) -> usize
+    requires { ⌜ length (now run) < length (now out) ⌝ }
+    requires { ⌜ 2 ≤ length (now out) ⌝ }
+    ensures { λ r. ⌜ FirstCells (0 ∷ body .0 ∷ drop 1 (now (run .entry))) r (now (out .exit)) ⌝ }
 {
-    scratch[0] = 0;
-    scratch[1] = body.0;
+    out[0] = 0;
+    out[1] = body.0;
     let mut j: usize = 1;
     while j < run.len() {
-        scratch[j + 1] = run[j];
+        out[j + 1] = run[j];
         j += 1;
     }
     j + 1
@@ -90,51 +90,51 @@ pub fn put_connective(
     tags: &mut [u32],
     values: &mut [u32],
     memo: &[u32],
-    scratch: &mut [u32],
+    out: &mut [u32],
     index: &mut [u32; INDEX],
-    source: usize,
+    end: usize,
     n: usize,
     t: TermPlace,
     polarity: bool,
     b: bool,
 ) -> Built
-    requires { ⌜ State source n (now tags) (now values) ⌝ }
-    requires { ⌜ cellLimit ≤ length (now scratch) ⌝ }
-    requires { ⌜ t .0 < source ⌝ }
+    requires { ⌜ State end n (now tags) (now values) ⌝ }
+    requires { ⌜ cellLimit ≤ length (now out) ⌝ }
+    requires { ⌜ t .0 < end ⌝ }
     requires { ⌜ Index (now tags) (now values) n (now index) ⌝ }
-    ensures { λ r. ⌜ Puts n (now (tags .entry)) (now (values .entry)) (put (poolOf (now (tags .entry)) (now (values .entry)) n) (connectiveTag (flip b polarity)) (0 ∷ placesIn (now (memo .entry)) polarity (runOf source (now (tags .entry)) (now (values .entry)) (t .0)))) r (now (tags .exit)) (now (values .exit)) ⌝ }
+    ensures { λ r. ⌜ Puts n (now (tags .entry)) (now (values .entry)) (put (poolOf (now (tags .entry)) (now (values .entry)) n) (connectiveTag (flip b polarity)) (0 ∷ placesIn (now (memo .entry)) polarity (runOf end (now (tags .entry)) (now (values .entry)) (t .0)))) r (now (tags .exit)) (now (values .exit)) ⌝ }
     ensures { λ r. ⌜ Indexed r (now (tags .exit)) (now (values .exit)) (now (index .exit)) ⌝ }
 {
-    let run = operands(&tags[..source], &values[..source], t);
-    let k = gather(run, memo, scratch, polarity);
+    let run = operands(&tags[..end], &values[..end], t);
+    let k = gather(run, memo, out, polarity);
     let tag = connective_tag(flip(b, polarity));
-    put(tags, values, index, n, tag, &scratch[..k])
+    put(tags, values, index, n, tag, &out[..k])
 }
 
 // Puts the quantifier of the term at t over its body's form.
 pub fn put_quantifier(
     tags: &mut [u32],
     values: &mut [u32],
-    scratch: &mut [u32],
+    out: &mut [u32],
     index: &mut [u32; INDEX],
-    source: usize,
+    end: usize,
     n: usize,
     t: TermPlace,
     polarity: bool,
     b: bool,
     body: TermPlace,
 ) -> Built
-    requires { ⌜ State source n (now tags) (now values) ⌝ }
-    requires { ⌜ cellLimit ≤ length (now scratch) ⌝ }
-    requires { ⌜ t .0 < source ⌝ }
+    requires { ⌜ State end n (now tags) (now values) ⌝ }
+    requires { ⌜ cellLimit ≤ length (now out) ⌝ }
+    requires { ⌜ t .0 < end ⌝ }
     requires { ⌜ Index (now tags) (now values) n (now index) ⌝ }
-    ensures { λ r. ⌜ Puts n (now (tags .entry)) (now (values .entry)) (put (poolOf (now (tags .entry)) (now (values .entry)) n) (quantifierTag (flip b polarity)) (0 ∷ body .0 ∷ drop 1 (runOf source (now (tags .entry)) (now (values .entry)) (t .0)))) r (now (tags .exit)) (now (values .exit)) ⌝ }
+    ensures { λ r. ⌜ Puts n (now (tags .entry)) (now (values .entry)) (put (poolOf (now (tags .entry)) (now (values .entry)) n) (quantifierTag (flip b polarity)) (0 ∷ body .0 ∷ drop 1 (runOf end (now (tags .entry)) (now (values .entry)) (t .0)))) r (now (tags .exit)) (now (values .exit)) ⌝ }
     ensures { λ r. ⌜ Indexed r (now (tags .exit)) (now (values .exit)) (now (index .exit)) ⌝ }
 {
-    let run = operands(&tags[..source], &values[..source], t);
-    let k = gather_pairs(run, body, scratch);
+    let run = operands(&tags[..end], &values[..end], t);
+    let k = gather_pairs(run, body, out);
     let tag = quantifier_tag(flip(b, polarity));
-    put(tags, values, index, n, tag, &scratch[..k])
+    put(tags, values, index, n, tag, &out[..k])
 }
 
 // Puts a connective of two operands.

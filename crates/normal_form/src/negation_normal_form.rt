@@ -1,6 +1,6 @@
-// The negation normal form of a term, built into the pool. The source pool is the first `source` cells. A memo keeps where the
+// The negation normal form of a term, built into the pool. The source pool is the cells before `end`. A memo keeps where the
 // form of a term at a polarity stands, one more than its place, so that each is built once however terms are shared.
-// The scratch array holds the cells of one new term at a time.
+// `out` holds the cells of one new term at a time.
 use building::build::Built;
 use building::terms::literal;
 use building::terms::put_connective;
@@ -37,18 +37,18 @@ fn negation_normal_form(
     tags: &mut [u32],
     values: &mut [u32],
     memo: &mut [u32],
-    scratch: &mut [u32],
+    out: &mut [u32],
     index: &mut [u32; INDEX],
-    source: usize,
+    end: usize,
     n: usize,
     t: TermPlace,
     polarity: bool,
 ) -> Built
-    requires { ⌜ WalkReady normal source n (now tags) (now values) (now memo) ⌝ }
-    requires { ⌜ cellLimit ≤ length (now scratch) ⌝ }
-    requires { ⌜ t .0 < source ⌝ }
+    requires { ⌜ WalkReady normal end n (now tags) (now values) (now memo) ⌝ }
+    requires { ⌜ cellLimit ≤ length (now out) ⌝ }
+    requires { ⌜ t .0 < end ⌝ }
     requires { ⌜ Index (now tags) (now values) n (now index) ⌝ }
-    ensures { λ r. ⌜ Known normal source n (now (tags .entry)) (now (values .entry)) (now (memo .entry)) (t .0) polarity r (now (tags .exit)) (now (values .exit)) (now (memo .exit)) ⌝ }
+    ensures { λ r. ⌜ Known normal end n (now (tags .entry)) (now (values .entry)) (now (memo .entry)) (t .0) polarity r (now (tags .exit)) (now (values .exit)) (now (memo .exit)) ⌝ }
     ensures { λ r. ⌜ Indexed r (now (tags .exit)) (now (values .exit)) (now (index .exit)) ⌝ }
 {
     let i = slot(t, polarity);
@@ -56,7 +56,7 @@ fn negation_normal_form(
     if known != 0 {
         return Built::At(TermPlace(known - 1), n);
     }
-    let Built::At(p, m) = expand(tags, values, memo, scratch, index, source, n, t, polarity) else {
+    let Built::At(p, m) = expand(tags, values, memo, out, index, end, n, t, polarity) else {
         return Built::Full;
     };
     memo[i] = p.0 + 1;
@@ -68,109 +68,39 @@ fn expand(
     tags: &mut [u32],
     values: &mut [u32],
     memo: &mut [u32],
-    scratch: &mut [u32],
+    out: &mut [u32],
     index: &mut [u32; INDEX],
-    source: usize,
+    end: usize,
     n: usize,
     t: TermPlace,
     polarity: bool,
 ) -> Built
-    requires { ⌜ WalkReady normal source n (now tags) (now values) (now memo) ⌝ }
-    requires { ⌜ cellLimit ≤ length (now scratch) ⌝ }
-    requires { ⌜ t .0 < source ⌝ }
+    requires { ⌜ WalkReady normal end n (now tags) (now values) (now memo) ⌝ }
+    requires { ⌜ cellLimit ≤ length (now out) ⌝ }
+    requires { ⌜ t .0 < end ⌝ }
     requires { ⌜ Index (now tags) (now values) n (now index) ⌝ }
-    ensures { λ r. ⌜ Formed normal source n (now (tags .entry)) (now (values .entry)) (now (memo .entry)) (normalOf source (now (tags .entry)) (now (values .entry)) (t .0) polarity) r (now (tags .exit)) (now (values .exit)) (now (memo .exit)) ⌝ }
+    ensures { λ r. ⌜ Formed normal end n (now (tags .entry)) (now (values .entry)) (now (memo .entry)) (normalOf end (now (tags .entry)) (now (values .entry)) (t .0) polarity) r (now (tags .exit)) (now (values .exit)) (now (memo .exit)) ⌝ }
     ensures { λ r. ⌜ Indexed r (now (tags .exit)) (now (values .exit)) (now (index .exit)) ⌝ }
 {
-    let view = view_of(&tags[..source], &values[..source], t);
+    let view = view_of(&tags[..end], &values[..end], t);
     match view {
         View::Opaque => literal(tags, values, index, n, t, polarity),
-        View::Not(a) => negation_normal_form(
-            tags,
-            values,
-            memo,
-            scratch,
-            index,
-            source,
-            n,
-            a,
-            !polarity,
-        ),
-        View::AndOr(b) => connective_form(
-            tags,
-            values,
-            memo,
-            scratch,
-            index,
-            source,
-            n,
-            t,
-            polarity,
-            b,
-        ),
+        View::Not(a) => negation_normal_form(tags, values, memo, out, index, end, n, a, !polarity),
+        View::AndOr(b) => connective_form(tags, values, memo, out, index, end, n, t, polarity, b),
         View::Implies(a, b) => {
             let first = Signed(a, !polarity);
-            pair_of(
-                tags,
-                values,
-                memo,
-                scratch,
-                index,
-                source,
-                n,
-                polarity,
-                first,
-                b,
-            )
+            pair_of(tags, values, memo, out, index, end, n, polarity, first, b)
         }
         View::Ite(a, b, c) => {
             let d = Signed(a, polarity);
-            two_pairs(
-                tags,
-                values,
-                memo,
-                scratch,
-                index,
-                source,
-                n,
-                polarity,
-                a,
-                b,
-                d,
-                c,
-            )
+            two_pairs(tags, values, memo, out, index, end, n, polarity, a, b, d, c)
         }
         View::Iff(a, b) => {
             let d = Signed(b, !polarity);
-            two_pairs(
-                tags,
-                values,
-                memo,
-                scratch,
-                index,
-                source,
-                n,
-                polarity,
-                a,
-                b,
-                d,
-                a,
-            )
+            two_pairs(tags, values, memo, out, index, end, n, polarity, a, b, d, a)
         }
         View::Quantifier(b, body) => {
-            quantifier_form(
-                tags,
-                values,
-                memo,
-                scratch,
-                index,
-                source,
-                n,
-                t,
-                polarity,
-                b,
-                body,
-            )
+            quantifier_form(tags, values, memo, out, index, end, n, t, polarity, b, body)
         }
     }
 }
@@ -180,48 +110,27 @@ fn connective_form(
     tags: &mut [u32],
     values: &mut [u32],
     memo: &mut [u32],
-    scratch: &mut [u32],
+    out: &mut [u32],
     index: &mut [u32; INDEX],
-    source: usize,
+    end: usize,
     n: usize,
     t: TermPlace,
     polarity: bool,
     b: bool,
 ) -> Built
-    requires { ⌜ WalkReady normal source n (now tags) (now values) (now memo) ⌝ }
-    requires { ⌜ cellLimit ≤ length (now scratch) ⌝ }
-    requires { ⌜ t .0 < source ⌝ }
-    requires { ⌜ viewOf (take source (now tags)) (take source (now values)) (t .0) ≡ AndOr b ⌝ }
+    requires { ⌜ WalkReady normal end n (now tags) (now values) (now memo) ⌝ }
+    requires { ⌜ cellLimit ≤ length (now out) ⌝ }
+    requires { ⌜ t .0 < end ⌝ }
+    requires { ⌜ viewOf (take end (now tags)) (take end (now values)) (t .0) ≡ AndOr b ⌝ }
     requires { ⌜ Index (now tags) (now values) n (now index) ⌝ }
-    ensures { λ r. ⌜ Formed normal source n (now (tags .entry)) (now (values .entry)) (now (memo .entry)) (normalOf source (now (tags .entry)) (now (values .entry)) (t .0) polarity) r (now (tags .exit)) (now (values .exit)) (now (memo .exit)) ⌝ }
+    ensures { λ r. ⌜ Formed normal end n (now (tags .entry)) (now (values .entry)) (now (memo .entry)) (normalOf end (now (tags .entry)) (now (values .entry)) (t .0) polarity) r (now (tags .exit)) (now (values .exit)) (now (memo .exit)) ⌝ }
     ensures { λ r. ⌜ Indexed r (now (tags .exit)) (now (values .exit)) (now (index .exit)) ⌝ }
 {
-    let Built::At(_, m) = operand_forms(
-        tags,
-        values,
-        memo,
-        scratch,
-        index,
-        source,
-        n,
-        t,
-        0,
-        polarity,
-    ) else {
+    let Built::At(_, m) = operand_forms(tags, values, memo, out, index, end, n, t, 0, polarity)
+    else {
         return Built::Full;
     };
-    put_connective(
-        tags,
-        values,
-        memo,
-        scratch,
-        index,
-        source,
-        m,
-        t,
-        polarity,
-        b,
-    )
+    put_connective(tags, values, memo, out, index, end, m, t, polarity, b)
 }
 
 // The same for a quantifier: over the normal form of its body.
@@ -229,38 +138,28 @@ fn quantifier_form(
     tags: &mut [u32],
     values: &mut [u32],
     memo: &mut [u32],
-    scratch: &mut [u32],
+    out: &mut [u32],
     index: &mut [u32; INDEX],
-    source: usize,
+    end: usize,
     n: usize,
     t: TermPlace,
     polarity: bool,
     b: bool,
     body: TermPlace,
 ) -> Built
-    requires { ⌜ WalkReady normal source n (now tags) (now values) (now memo) ⌝ }
-    requires { ⌜ cellLimit ≤ length (now scratch) ⌝ }
-    requires { ⌜ t .0 < source ⌝ }
-    requires { ⌜ viewOf (take source (now tags)) (take source (now values)) (t .0) ≡ Quantifier b body ⌝ }
+    requires { ⌜ WalkReady normal end n (now tags) (now values) (now memo) ⌝ }
+    requires { ⌜ cellLimit ≤ length (now out) ⌝ }
+    requires { ⌜ t .0 < end ⌝ }
+    requires { ⌜ viewOf (take end (now tags)) (take end (now values)) (t .0) ≡ Quantifier b body ⌝ }
     requires { ⌜ Index (now tags) (now values) n (now index) ⌝ }
-    ensures { λ r. ⌜ Formed normal source n (now (tags .entry)) (now (values .entry)) (now (memo .entry)) (normalOf source (now (tags .entry)) (now (values .entry)) (t .0) polarity) r (now (tags .exit)) (now (values .exit)) (now (memo .exit)) ⌝ }
+    ensures { λ r. ⌜ Formed normal end n (now (tags .entry)) (now (values .entry)) (now (memo .entry)) (normalOf end (now (tags .entry)) (now (values .entry)) (t .0) polarity) r (now (tags .exit)) (now (values .exit)) (now (memo .exit)) ⌝ }
     ensures { λ r. ⌜ Indexed r (now (tags .exit)) (now (values .exit)) (now (index .exit)) ⌝ }
 {
-    let form = negation_normal_form(
-        tags,
-        values,
-        memo,
-        scratch,
-        index,
-        source,
-        n,
-        body,
-        polarity,
-    );
+    let form = negation_normal_form(tags, values, memo, out, index, end, n, body, polarity);
     let Built::At(p, m) = form else {
         return Built::Full;
     };
-    put_quantifier(tags, values, scratch, index, source, m, t, polarity, b, p)
+    put_quantifier(tags, values, out, index, end, m, t, polarity, b, p)
 }
 
 // The normal forms of the operands of the term at t from i on. The memo then has their places, and the answer's is 0.
@@ -268,52 +167,32 @@ fn operand_forms(
     tags: &mut [u32],
     values: &mut [u32],
     memo: &mut [u32],
-    scratch: &mut [u32],
+    out: &mut [u32],
     index: &mut [u32; INDEX],
-    source: usize,
+    end: usize,
     n: usize,
     t: TermPlace,
     i: usize,
     polarity: bool,
 ) -> Built
-    requires { ⌜ WalkReady normal source n (now tags) (now values) (now memo) ⌝ }
-    requires { ⌜ cellLimit ≤ length (now scratch) ⌝ }
-    requires { ⌜ t .0 < source ⌝ }
-    requires { ⌜ Before source (now tags) (now values) (t .0) ⌝ }
+    requires { ⌜ WalkReady normal end n (now tags) (now values) (now memo) ⌝ }
+    requires { ⌜ cellLimit ≤ length (now out) ⌝ }
+    requires { ⌜ t .0 < end ⌝ }
+    requires { ⌜ Before end (now tags) (now values) (t .0) ⌝ }
     requires { ⌜ Index (now tags) (now values) n (now index) ⌝ }
-    ensures { λ r. ⌜ OperandsKnown normal source n (now (tags .entry)) (now (values .entry)) (now (memo .entry)) (t .0) polarity i r (now (tags .exit)) (now (values .exit)) (now (memo .exit)) ⌝ }
+    ensures { λ r. ⌜ OperandsKnown normal end n (now (tags .entry)) (now (values .entry)) (now (memo .entry)) (t .0) polarity i r (now (tags .exit)) (now (values .exit)) (now (memo .exit)) ⌝ }
     ensures { λ r. ⌜ Indexed r (now (tags .exit)) (now (values .exit)) (now (index .exit)) ⌝ }
 {
-    let run = operands(&tags[..source], &values[..source], t);
+    let run = operands(&tags[..end], &values[..end], t);
     if run.len() <= i {
         return Built::At(TermPlace(0), n);
     }
     let u = TermPlace(run[i]);
-    let Built::At(_, m) = negation_normal_form(
-        tags,
-        values,
-        memo,
-        scratch,
-        index,
-        source,
-        n,
-        u,
-        polarity,
-    ) else {
+    let Built::At(_, m) = negation_normal_form(tags, values, memo, out, index, end, n, u, polarity)
+    else {
         return Built::Full;
     };
-    operand_forms(
-        tags,
-        values,
-        memo,
-        scratch,
-        index,
-        source,
-        m,
-        t,
-        i + 1,
-        polarity,
-    )
+    operand_forms(tags, values, memo, out, index, end, m, t, i + 1, polarity)
 }
 
 // A pair of the normal forms of a and, at the polarity, of b: their `or`, and their `and` at false polarity.
@@ -321,46 +200,28 @@ fn pair_of(
     tags: &mut [u32],
     values: &mut [u32],
     memo: &mut [u32],
-    scratch: &mut [u32],
+    out: &mut [u32],
     index: &mut [u32; INDEX],
-    source: usize,
+    end: usize,
     n: usize,
     polarity: bool,
     a: Signed,
     b: TermPlace,
 ) -> Built
-    requires { ⌜ WalkReady normal source n (now tags) (now values) (now memo) ⌝ }
-    requires { ⌜ cellLimit ≤ length (now scratch) ⌝ }
-    requires { ⌜ a .0 .0 < source ⌝ }
-    requires { ⌜ b .0 < source ⌝ }
+    requires { ⌜ WalkReady normal end n (now tags) (now values) (now memo) ⌝ }
+    requires { ⌜ cellLimit ≤ length (now out) ⌝ }
+    requires { ⌜ a .0 .0 < end ⌝ }
+    requires { ⌜ b .0 < end ⌝ }
     requires { ⌜ Index (now tags) (now values) n (now index) ⌝ }
-    ensures { λ r. ⌜ Formed normal source n (now (tags .entry)) (now (values .entry)) (now (memo .entry)) (pair (not polarity) (normalOf source (now (tags .entry)) (now (values .entry)) (a .0 .0) (a .1)) (normalOf source (now (tags .entry)) (now (values .entry)) (b .0) polarity)) r (now (tags .exit)) (now (values .exit)) (now (memo .exit)) ⌝ }
+    ensures { λ r. ⌜ Formed normal end n (now (tags .entry)) (now (values .entry)) (now (memo .entry)) (pair (not polarity) (normalOf end (now (tags .entry)) (now (values .entry)) (a .0 .0) (a .1)) (normalOf end (now (tags .entry)) (now (values .entry)) (b .0) polarity)) r (now (tags .exit)) (now (values .exit)) (now (memo .exit)) ⌝ }
     ensures { λ r. ⌜ Indexed r (now (tags .exit)) (now (values .exit)) (now (index .exit)) ⌝ }
 {
-    let Built::At(p, m) = negation_normal_form(
-        tags,
-        values,
-        memo,
-        scratch,
-        index,
-        source,
-        n,
-        a.0,
-        a.1,
-    ) else {
+    let Built::At(p, m) = negation_normal_form(tags, values, memo, out, index, end, n, a.0, a.1)
+    else {
         return Built::Full;
     };
-    let Built::At(q, l) = negation_normal_form(
-        tags,
-        values,
-        memo,
-        scratch,
-        index,
-        source,
-        m,
-        b,
-        polarity,
-    ) else {
+    let Built::At(q, l) = negation_normal_form(tags, values, memo, out, index, end, m, b, polarity)
+    else {
         return Built::Full;
     };
     put_pair(tags, values, index, l, !polarity, p, q)
@@ -372,9 +233,9 @@ fn two_pairs(
     tags: &mut [u32],
     values: &mut [u32],
     memo: &mut [u32],
-    scratch: &mut [u32],
+    out: &mut [u32],
     index: &mut [u32; INDEX],
-    source: usize,
+    end: usize,
     n: usize,
     polarity: bool,
     a: TermPlace,
@@ -382,40 +243,18 @@ fn two_pairs(
     c: Signed,
     d: TermPlace,
 ) -> Built
-    requires { ⌜ WalkReady normal source n (now tags) (now values) (now memo) ⌝ }
-    requires { ⌜ cellLimit ≤ length (now scratch) ⌝ }
-    requires { ⌜ AllBelow source (a .0) (b .0) (c .0 .0) (d .0) ⌝ }
+    requires { ⌜ WalkReady normal end n (now tags) (now values) (now memo) ⌝ }
+    requires { ⌜ cellLimit ≤ length (now out) ⌝ }
+    requires { ⌜ AllBelow end (a .0) (b .0) (c .0 .0) (d .0) ⌝ }
     requires { ⌜ Index (now tags) (now values) n (now index) ⌝ }
-    ensures { λ r. ⌜ Formed normal source n (now (tags .entry)) (now (values .entry)) (now (memo .entry)) (twoPairs polarity (λ t p. normalOf source (now (tags .entry)) (now (values .entry)) t p) (a .0) (b .0) (c .0 .0) (c .1) (d .0)) r (now (tags .exit)) (now (values .exit)) (now (memo .exit)) ⌝ }
+    ensures { λ r. ⌜ Formed normal end n (now (tags .entry)) (now (values .entry)) (now (memo .entry)) (twoPairs polarity (λ t p. normalOf end (now (tags .entry)) (now (values .entry)) t p) (a .0) (b .0) (c .0 .0) (c .1) (d .0)) r (now (tags .exit)) (now (values .exit)) (now (memo .exit)) ⌝ }
     ensures { λ r. ⌜ Indexed r (now (tags .exit)) (now (values .exit)) (now (index .exit)) ⌝ }
 {
     let f = Signed(a, !polarity);
-    let Built::At(p, m) = pair_of(
-        tags,
-        values,
-        memo,
-        scratch,
-        index,
-        source,
-        n,
-        polarity,
-        f,
-        b,
-    ) else {
+    let Built::At(p, m) = pair_of(tags, values, memo, out, index, end, n, polarity, f, b) else {
         return Built::Full;
     };
-    let Built::At(q, l) = pair_of(
-        tags,
-        values,
-        memo,
-        scratch,
-        index,
-        source,
-        m,
-        polarity,
-        c,
-        d,
-    ) else {
+    let Built::At(q, l) = pair_of(tags, values, memo, out, index, end, m, polarity, c, d) else {
         return Built::Full;
     };
     put_pair(tags, values, index, l, polarity, p, q)
@@ -437,16 +276,6 @@ pub fn build_normal_form(
     ensures { λ r. ⌜ Indexed r (now (tags .exit)) (now (values .exit)) (now (index .exit)) ⌝ }
 {
     let mut memo = [0u32; FORMS];
-    let mut scratch = [0u32; CELLS];
-    negation_normal_form(
-        tags,
-        values,
-        &mut memo,
-        &mut scratch,
-        index,
-        n,
-        n,
-        t,
-        polarity,
-    )
+    let mut out = [0u32; CELLS];
+    negation_normal_form(tags, values, &mut memo, &mut out, index, n, n, t, polarity)
 }

@@ -1,5 +1,5 @@
 // The taken-out form of a term in normal form, built into the pool: foralls are taken out through `and`, `or` and forall alone.
-// The source pool is the first `source` cells. The memo and the scratch are as for the normal form, at true polarity alone.
+// The source pool is the cells before `end`. The memo and `out` are as for the normal form, at true polarity alone.
 use building::build::Built;
 use building::terms::put_connective;
 use building::terms::slot;
@@ -23,17 +23,17 @@ fn prenex_forall(
     tags: &mut [u32],
     values: &mut [u32],
     memo: &mut [u32],
-    scratch: &mut [u32],
+    out: &mut [u32],
     index: &mut [u32; INDEX],
-    source: usize,
+    end: usize,
     n: usize,
     x: TermPlace,
 ) -> Built
-    requires { ⌜ WalkReady taken-out source n (now tags) (now values) (now memo) ⌝ }
-    requires { ⌜ cellLimit ≤ length (now scratch) ⌝ }
-    requires { ⌜ x .0 < source ⌝ }
+    requires { ⌜ WalkReady taken-out end n (now tags) (now values) (now memo) ⌝ }
+    requires { ⌜ cellLimit ≤ length (now out) ⌝ }
+    requires { ⌜ x .0 < end ⌝ }
     requires { ⌜ Index (now tags) (now values) n (now index) ⌝ }
-    ensures { λ r. ⌜ Known taken-out source n (now (tags .entry)) (now (values .entry)) (now (memo .entry)) (x .0) true r (now (tags .exit)) (now (values .exit)) (now (memo .exit)) ⌝ }
+    ensures { λ r. ⌜ Known taken-out end n (now (tags .entry)) (now (values .entry)) (now (memo .entry)) (x .0) true r (now (tags .exit)) (now (values .exit)) (now (memo .exit)) ⌝ }
     ensures { λ r. ⌜ Indexed r (now (tags .exit)) (now (values .exit)) (now (index .exit)) ⌝ }
 {
     let i = slot(x, true);
@@ -41,7 +41,7 @@ fn prenex_forall(
     if known != 0 {
         return Built::At(TermPlace(known - 1), n);
     }
-    let Built::At(p, m) = take_out(tags, values, memo, scratch, index, source, n, x) else {
+    let Built::At(p, m) = take_out(tags, values, memo, out, index, end, n, x) else {
         return Built::Full;
     };
     memo[i] = p.0 + 1;
@@ -53,38 +53,28 @@ fn take_out(
     tags: &mut [u32],
     values: &mut [u32],
     memo: &mut [u32],
-    scratch: &mut [u32],
+    out: &mut [u32],
     index: &mut [u32; INDEX],
-    source: usize,
+    end: usize,
     n: usize,
     x: TermPlace,
 ) -> Built
-    requires { ⌜ WalkReady taken-out source n (now tags) (now values) (now memo) ⌝ }
-    requires { ⌜ cellLimit ≤ length (now scratch) ⌝ }
-    requires { ⌜ x .0 < source ⌝ }
+    requires { ⌜ WalkReady taken-out end n (now tags) (now values) (now memo) ⌝ }
+    requires { ⌜ cellLimit ≤ length (now out) ⌝ }
+    requires { ⌜ x .0 < end ⌝ }
     requires { ⌜ Index (now tags) (now values) n (now index) ⌝ }
-    ensures { λ r. ⌜ Formed taken-out source n (now (tags .entry)) (now (values .entry)) (now (memo .entry)) (formOf taken-out source (now (tags .entry)) (now (values .entry)) (x .0) true) r (now (tags .exit)) (now (values .exit)) (now (memo .exit)) ⌝ }
+    ensures { λ r. ⌜ Formed taken-out end n (now (tags .entry)) (now (values .entry)) (now (memo .entry)) (formOf taken-out end (now (tags .entry)) (now (values .entry)) (x .0) true) r (now (tags .exit)) (now (values .exit)) (now (memo .exit)) ⌝ }
     ensures { λ r. ⌜ Indexed r (now (tags .exit)) (now (values .exit)) (now (index .exit)) ⌝ }
 {
-    let view = normal_view(&tags[..source], &values[..source], x);
+    let view = normal_view(&tags[..end], &values[..end], x);
     match view {
         NormalView::Literal => Built::At(x, n),
-        NormalView::Forall(body) => prenex_forall(
-            tags,
-            values,
-            memo,
-            scratch,
-            index,
-            source,
-            n,
-            body,
-        ),
+        NormalView::Forall(body) => prenex_forall(tags, values, memo, out, index, end, n, body),
         NormalView::Connective(b) => {
-            let Built::At(_, m) = operand_forms(tags, values, memo, scratch, index, source, n, x, 0)
-            else {
+            let Built::At(_, m) = operand_forms(tags, values, memo, out, index, end, n, x, 0) else {
                 return Built::Full;
             };
-            put_connective(tags, values, memo, scratch, index, source, m, x, true, b)
+            put_connective(tags, values, memo, out, index, end, m, x, true, b)
         }
     }
 }
@@ -94,30 +84,30 @@ fn operand_forms(
     tags: &mut [u32],
     values: &mut [u32],
     memo: &mut [u32],
-    scratch: &mut [u32],
+    out: &mut [u32],
     index: &mut [u32; INDEX],
-    source: usize,
+    end: usize,
     n: usize,
     x: TermPlace,
     i: usize,
 ) -> Built
-    requires { ⌜ WalkReady taken-out source n (now tags) (now values) (now memo) ⌝ }
-    requires { ⌜ cellLimit ≤ length (now scratch) ⌝ }
-    requires { ⌜ x .0 < source ⌝ }
-    requires { ⌜ Before source (now tags) (now values) (x .0) ⌝ }
+    requires { ⌜ WalkReady taken-out end n (now tags) (now values) (now memo) ⌝ }
+    requires { ⌜ cellLimit ≤ length (now out) ⌝ }
+    requires { ⌜ x .0 < end ⌝ }
+    requires { ⌜ Before end (now tags) (now values) (x .0) ⌝ }
     requires { ⌜ Index (now tags) (now values) n (now index) ⌝ }
-    ensures { λ r. ⌜ OperandsKnown taken-out source n (now (tags .entry)) (now (values .entry)) (now (memo .entry)) (x .0) true i r (now (tags .exit)) (now (values .exit)) (now (memo .exit)) ⌝ }
+    ensures { λ r. ⌜ OperandsKnown taken-out end n (now (tags .entry)) (now (values .entry)) (now (memo .entry)) (x .0) true i r (now (tags .exit)) (now (values .exit)) (now (memo .exit)) ⌝ }
     ensures { λ r. ⌜ Indexed r (now (tags .exit)) (now (values .exit)) (now (index .exit)) ⌝ }
 {
-    let run = operands(&tags[..source], &values[..source], x);
+    let run = operands(&tags[..end], &values[..end], x);
     if run.len() <= i {
         return Built::At(TermPlace(0), n);
     }
     let u = TermPlace(run[i]);
-    let Built::At(_, m) = prenex_forall(tags, values, memo, scratch, index, source, n, u) else {
+    let Built::At(_, m) = prenex_forall(tags, values, memo, out, index, end, n, u) else {
         return Built::Full;
     };
-    operand_forms(tags, values, memo, scratch, index, source, m, x, i + 1)
+    operand_forms(tags, values, memo, out, index, end, m, x, i + 1)
 }
 
 // The taken-out form of the term in normal form at x, put into the pool of n cells.
@@ -135,6 +125,6 @@ pub fn build_taken_out(
     ensures { λ r. ⌜ Indexed r (now (tags .exit)) (now (values .exit)) (now (index .exit)) ⌝ }
 {
     let mut memo = [0u32; CELLS];
-    let mut scratch = [0u32; CELLS];
-    prenex_forall(tags, values, &mut memo, &mut scratch, index, n, n, x)
+    let mut out = [0u32; CELLS];
+    prenex_forall(tags, values, &mut memo, &mut out, index, n, n, x)
 }

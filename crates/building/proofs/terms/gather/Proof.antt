@@ -7,13 +7,13 @@ use Rattle.building.proofs.terms.gather.Statement.{statement}
 use Rattle.building.proofs.terms.gather.Tie as tie
 
 abbrev Inv-loop : tie.InvT-loop
-Inv-loop run memo scratch₀ polarity j₀ scratch j = Gathering memo polarity run scratch₀ scratch j
+Inv-loop run memo out₀ polarity j₀ out j = Gathering memo polarity run out₀ out j
 
 abbrev μ-loop : tie.MeasureT-loop
-μ-loop run memo scratch₀ polarity j₀ scratch j = length run - j
+μ-loop run memo out₀ polarity j₀ out j = length run - j
 
-slice-write-scratch : tie.Need-slice-write-scratch Inv-loop μ-loop
-slice-write-scratch c = search needs
+slice-write-out : tie.Need-slice-write-out Inv-loop μ-loop
+slice-write-out c = search needs
 
 loop-holds : tie.Need-loop-holds Inv-loop μ-loop
 loop-holds c = search gatherings
@@ -27,14 +27,14 @@ shared-slice-read-t11 c = search needs
 place-in-requires : tie.Need-place-in-requires Inv-loop μ-loop
 place-in-requires c κs = search needs
 
-add-scratch : tie.Need-add-scratch Inv-loop μ-loop
-add-scratch c = search needs
+add-out : tie.Need-add-out Inv-loop μ-loop
+add-out c = search needs
 
-mul-scratch : tie.Need-mul-scratch Inv-loop μ-loop
-mul-scratch c = search needs
+mul-out : tie.Need-mul-out Inv-loop μ-loop
+mul-out c = search needs
 
-slice-write-scratch-2 : tie.Need-slice-write-scratch-2 Inv-loop μ-loop
-slice-write-scratch-2 c = search needs
+slice-write-out-2 : tie.Need-slice-write-out-2 Inv-loop μ-loop
+slice-write-out-2 c = search needs
 
 add-j : tie.Need-add-j Inv-loop μ-loop
 add-j c = search needs
@@ -60,14 +60,14 @@ gather-spec =
     (tie.spec
     Inv-loop
     μ-loop
-    slice-write-scratch
+    slice-write-out
     loop-holds
     mul-t8
     shared-slice-read-t11
     place-in-requires
-    add-scratch
-    mul-scratch
-    slice-write-scratch-2
+    add-out
+    mul-out
+    slice-write-out-2
     add-j
     loop-less
     loop-again

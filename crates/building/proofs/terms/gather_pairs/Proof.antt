@@ -7,34 +7,34 @@ use Rattle.building.proofs.terms.gather_pairs.Statement.{statement}
 use Rattle.building.proofs.terms.gather_pairs.Tie as tie
 
 abbrev Inv-loop : tie.InvT-loop
-Inv-loop run scratch₀ j₀ scratch j = Pairing run scratch₀ scratch j
+Inv-loop run out₀ j₀ out j = Pairing run out₀ out j
 
 abbrev μ-loop : tie.MeasureT-loop
-μ-loop run scratch₀ j₀ scratch j = length run - j
+μ-loop run out₀ j₀ out j = length run - j
 
-slice-write-scratch : tie.Need-slice-write-scratch Inv-loop μ-loop
-slice-write-scratch c = search needs
+slice-write-out : tie.Need-slice-write-out Inv-loop μ-loop
+slice-write-out c = search needs
 
-slice-write-scratch-2 : tie.Need-slice-write-scratch-2 Inv-loop μ-loop
-slice-write-scratch-2 c = search needs
+slice-write-out-2 : tie.Need-slice-write-out-2 Inv-loop μ-loop
+slice-write-out-2 c = search needs
 
 loop-holds : tie.Need-loop-holds Inv-loop μ-loop
 loop-holds c = search pairings
 
-mul-scratch : tie.Need-mul-scratch Inv-loop μ-loop
-mul-scratch c = search needs
+mul-out : tie.Need-mul-out Inv-loop μ-loop
+mul-out c = search needs
 
-shared-slice-read-scratch : tie.Need-shared-slice-read-scratch Inv-loop μ-loop
-shared-slice-read-scratch c = search needs
+shared-slice-read-out : tie.Need-shared-slice-read-out Inv-loop μ-loop
+shared-slice-read-out c = search needs
 
-add-scratch : tie.Need-add-scratch Inv-loop μ-loop
-add-scratch c = search needs
+add-out : tie.Need-add-out Inv-loop μ-loop
+add-out c = search needs
 
-mul-scratch-2 : tie.Need-mul-scratch-2 Inv-loop μ-loop
-mul-scratch-2 c = search needs
+mul-out-2 : tie.Need-mul-out-2 Inv-loop μ-loop
+mul-out-2 c = search needs
 
-slice-write-scratch-3 : tie.Need-slice-write-scratch-3 Inv-loop μ-loop
-slice-write-scratch-3 c = search needs
+slice-write-out-3 : tie.Need-slice-write-out-3 Inv-loop μ-loop
+slice-write-out-3 c = search needs
 
 add-j : tie.Need-add-j Inv-loop μ-loop
 add-j c = search needs
@@ -60,14 +60,14 @@ gather-pairs-spec =
     (tie.spec
     Inv-loop
     μ-loop
-    slice-write-scratch
-    slice-write-scratch-2
+    slice-write-out
+    slice-write-out-2
     loop-holds
-    mul-scratch
-    shared-slice-read-scratch
-    add-scratch
-    mul-scratch-2
-    slice-write-scratch-3
+    mul-out
+    shared-slice-read-out
+    add-out
+    mul-out-2
+    slice-write-out-3
     add-j
     loop-less
     loop-again

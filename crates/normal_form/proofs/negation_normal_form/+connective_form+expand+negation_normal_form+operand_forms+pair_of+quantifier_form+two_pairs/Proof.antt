@@ -195,7 +195,7 @@ connective-form-same-length-3 : (t : ℕ) → connective-form-lts.Need-same-leng
 connective-form-same-length-3 t c = c .before .before .before .before .before .memo .given
 
 connective-form-same-length-4 : (t : ℕ) → connective-form-lts.Need-same-length-4 (connective-form-calls t) (connective-form-at t) connective-form.Post
-connective-form-same-length-4 t c = c .before .before .before .scratch .given
+connective-form-same-length-4 t c = c .before .before .before .out .given
 
 connective-form-returns : (t : ℕ) → connective-form-lts.Need-returns (connective-form-calls t) (connective-form-at t) connective-form.Post
 connective-form-returns t c =
@@ -209,7 +209,7 @@ connective-form-put-connective-requires t c κs =
     let at-row = at-m .before .before .before in
     let at-operand-forms = at-row .before .before .before .before .before .before .before in
     let start = at-operand-forms .before .before .before .before .before .before .before .before .before .before in
-    (state-after normal _ _ _ _ _ _ _ _ _ (at-operand-forms .operand-forms .ensures .0 .builds) _ _ (at-m .m .given .1), (omega (arith, at-row .scratch .given, start .pre .1 .1 .0), (start .pre .1 .1 .1 .0, index-at _ _ _ _ _ _ (at-m .m .given .1) (at-operand-forms .operand-forms .ensures .1))))
+    (state-after normal _ _ _ _ _ _ _ _ _ (at-operand-forms .operand-forms .ensures .0 .builds) _ _ (at-m .m .given .1), (omega (arith, at-row .out .given, start .pre .1 .1 .0), (start .pre .1 .1 .1 .0, index-at _ _ _ _ _ _ (at-m .m .given .1) (at-operand-forms .operand-forms .ensures .1))))
 
 connective-form-same-length-5 : (t : ℕ) → connective-form-lts.Need-same-length-5 (connective-form-calls t) (connective-form-at t) connective-form.Post
 connective-form-same-length-5 t c =
@@ -230,7 +230,7 @@ connective-form-same-length-8 : (t : ℕ) → connective-form-lts.Need-same-leng
 connective-form-same-length-8 t c =
     let at-row2 = c .before in
     let at-row = at-row2 .before .before .before .before .before .before .before .before .before .before .before .before .before .before .before in
-    at-row2 .scratch2 .given ∙ at-row .scratch .given
+    at-row2 .out2 .given ∙ at-row .out .given
 
 connective-form-returns-2 : (t : ℕ) → connective-form-lts.Need-returns-2 (connective-form-calls t) (connective-form-at t) connective-form.Post
 connective-form-returns-2 t c =
@@ -346,7 +346,7 @@ expand-same-length-5 : (t : ℕ) → expand-lts.Need-same-length-5 (expand-calls
 expand-same-length-5 t c = c .before .before .before .memo .given
 
 expand-same-length-6 : (t : ℕ) → expand-lts.Need-same-length-6 (expand-calls t) (expand-at t) expand.Post
-expand-same-length-6 t c = c .before .scratch .given
+expand-same-length-6 t c = c .before .out .given
 
 expand-returns-2 : (t : ℕ) → expand-lts.Need-returns-2 (expand-calls t) (expand-at t) expand.Post
 expand-returns-2 t c = search (expands, indexings)
@@ -361,7 +361,7 @@ expand-same-length-9 : (t : ℕ) → expand-lts.Need-same-length-9 (expand-calls
 expand-same-length-9 t c = c .before .before .before .memo2 .given
 
 expand-same-length-10 : (t : ℕ) → expand-lts.Need-same-length-10 (expand-calls t) (expand-at t) expand.Post
-expand-same-length-10 t c = c .before .scratch2 .given
+expand-same-length-10 t c = c .before .out2 .given
 
 expand-returns-3 : (t : ℕ) → expand-lts.Need-returns-3 (expand-calls t) (expand-at t) expand.Post
 expand-returns-3 t c =
@@ -378,7 +378,7 @@ expand-same-length-13 : (t : ℕ) → expand-lts.Need-same-length-13 (expand-cal
 expand-same-length-13 t c = c .before .before .before .memo3 .given
 
 expand-same-length-14 : (t : ℕ) → expand-lts.Need-same-length-14 (expand-calls t) (expand-at t) expand.Post
-expand-same-length-14 t c = c .before .scratch3 .given
+expand-same-length-14 t c = c .before .out3 .given
 
 expand-returns-4 : (t : ℕ) → expand-lts.Need-returns-4 (expand-calls t) (expand-at t) expand.Post
 expand-returns-4 t c = search (expands, indexings)
@@ -393,7 +393,7 @@ expand-same-length-17 : (t : ℕ) → expand-lts.Need-same-length-17 (expand-cal
 expand-same-length-17 t c = c .before .before .before .memo4 .given
 
 expand-same-length-18 : (t : ℕ) → expand-lts.Need-same-length-18 (expand-calls t) (expand-at t) expand.Post
-expand-same-length-18 t c = c .before .scratch4 .given
+expand-same-length-18 t c = c .before .out4 .given
 
 expand-returns-5 : (t : ℕ) → expand-lts.Need-returns-5 (expand-calls t) (expand-at t) expand.Post
 expand-returns-5 t c =
@@ -413,7 +413,7 @@ expand-same-length-21 : (t : ℕ) → expand-lts.Need-same-length-21 (expand-cal
 expand-same-length-21 t c = c .before .before .before .memo5 .given
 
 expand-same-length-22 : (t : ℕ) → expand-lts.Need-same-length-22 (expand-calls t) (expand-at t) expand.Post
-expand-same-length-22 t c = c .before .scratch5 .given
+expand-same-length-22 t c = c .before .out5 .given
 
 expand-returns-6 : (t : ℕ) → expand-lts.Need-returns-6 (expand-calls t) (expand-at t) expand.Post
 expand-returns-6 t c = search (expands, indexings)
@@ -428,7 +428,7 @@ expand-same-length-25 : (t : ℕ) → expand-lts.Need-same-length-25 (expand-cal
 expand-same-length-25 t c = c .before .before .before .memo6 .given
 
 expand-same-length-26 : (t : ℕ) → expand-lts.Need-same-length-26 (expand-calls t) (expand-at t) expand.Post
-expand-same-length-26 t c = c .before .scratch6 .given
+expand-same-length-26 t c = c .before .out6 .given
 
 expand-returns-7 : (t : ℕ) → expand-lts.Need-returns-7 (expand-calls t) (expand-at t) expand.Post
 expand-returns-7 t c =
@@ -475,7 +475,7 @@ negation-normal-form-same-length-3 : (t : ℕ) → negation-normal-form-lts.Need
 negation-normal-form-same-length-3 t c = c .before .before .before .before .before .memo .given
 
 negation-normal-form-same-length-4 : (t : ℕ) → negation-normal-form-lts.Need-same-length-4 (negation-normal-form-calls t) (negation-normal-form-at t) negation-normal-form.Post
-negation-normal-form-same-length-4 t c = c .before .before .before .scratch .given
+negation-normal-form-same-length-4 t c = c .before .before .before .out .given
 
 negation-normal-form-returns-2 : (t : ℕ) → negation-normal-form-lts.Need-returns-2 (negation-normal-form-calls t) (negation-normal-form-at t) negation-normal-form.Post
 negation-normal-form-returns-2 t c =
@@ -514,7 +514,7 @@ negation-normal-form-same-length-7 : (t : ℕ) → negation-normal-form-lts.Need
 negation-normal-form-same-length-7 t c = search needs
 
 negation-normal-form-same-length-8 : (t : ℕ) → negation-normal-form-lts.Need-same-length-8 (negation-normal-form-calls t) (negation-normal-form-at t) negation-normal-form.Post
-negation-normal-form-same-length-8 t c = c .before .before .before .before .before .scratch .given
+negation-normal-form-same-length-8 t c = c .before .before .before .before .before .out .given
 
 negation-normal-form-returns-3 : (t : ℕ) → negation-normal-form-lts.Need-returns-3 (negation-normal-form-calls t) (negation-normal-form-at t) negation-normal-form.Post
 negation-normal-form-returns-3 t c =
@@ -578,7 +578,7 @@ operand-forms-same-length-5 : (t : ℕ) → operand-forms-lts.Need-same-length-5
 operand-forms-same-length-5 t c = c .before .before .before .before .before .memo .given
 
 operand-forms-same-length-6 : (t : ℕ) → operand-forms-lts.Need-same-length-6 (operand-forms-calls t) (operand-forms-at t) operand-forms.Post
-operand-forms-same-length-6 t c = c .before .before .before .scratch .given
+operand-forms-same-length-6 t c = c .before .before .before .out .given
 
 operand-forms-returns-2 : (t : ℕ) → operand-forms-lts.Need-returns-2 (operand-forms-calls t) (operand-forms-at t) operand-forms.Post
 operand-forms-returns-2 t c = search (operand-walks, indexings)
@@ -596,7 +596,7 @@ operand-forms-operand-forms-requires t c κs =
     let at-operands = at-if1 .before in
     let start = at-operands .before .before .before .before .before .before .before in
     let j = at-negation-normal-form .negation-normal-form .ensures .0 in
-    (omega (arith, run-short _ _ _ _ (start .pre .1 .0 .state) _ (start .pre .1 .1 .1 .0) _ (at-operands .operands .ensures), at-if1 .if1 .left, start .pre .0), (ready-after normal _ _ _ _ _ _ _ _ _ (j .formed) _ _ (at-m .m .given .1) (omega (arith, at-memo .memo .given, start .pre .1 .0 .room)), (omega (arith, at-row .scratch .given, start .pre .1 .1 .0), (start .pre .1 .1 .1 .0, (before-same _ _ _ _ _ (j .formed .puts .left) _ (start .pre .1 .1 .1 .1 .0), index-at _ _ _ _ _ _ (at-m .m .given .1) (at-negation-normal-form .negation-normal-form .ensures .1))))))
+    (omega (arith, run-short _ _ _ _ (start .pre .1 .0 .state) _ (start .pre .1 .1 .1 .0) _ (at-operands .operands .ensures), at-if1 .if1 .left, start .pre .0), (ready-after normal _ _ _ _ _ _ _ _ _ (j .formed) _ _ (at-m .m .given .1) (omega (arith, at-memo .memo .given, start .pre .1 .0 .room)), (omega (arith, at-row .out .given, start .pre .1 .1 .0), (start .pre .1 .1 .1 .0, (before-same _ _ _ _ _ (j .formed .puts .left) _ (start .pre .1 .1 .1 .1 .0), index-at _ _ _ _ _ _ (at-m .m .given .1) (at-negation-normal-form .negation-normal-form .ensures .1))))))
 
 operand-forms-same-length-7 : (t : ℕ) → operand-forms-lts.Need-same-length-7 (operand-forms-calls t) (operand-forms-at t) operand-forms.Post
 operand-forms-same-length-7 t c =
@@ -620,7 +620,7 @@ operand-forms-same-length-10 : (t : ℕ) → operand-forms-lts.Need-same-length-
 operand-forms-same-length-10 t c =
     let at-row2 = c .before in
     let at-row = at-row2 .before .before .before .before .before .before .before .before .before .before .before .before .before .before .before .before .before in
-    at-row2 .scratch2 .given ∙ at-row .scratch .given
+    at-row2 .out2 .given ∙ at-row .out .given
 
 operand-forms-returns-3 : (t : ℕ) → operand-forms-lts.Need-returns-3 (operand-forms-calls t) (operand-forms-at t) operand-forms.Post
 operand-forms-returns-3 t c =
@@ -652,7 +652,7 @@ pair-of-same-length-3 : (t : ℕ) → pair-of-lts.Need-same-length-3 (pair-of-ca
 pair-of-same-length-3 t c = c .before .before .before .before .before .memo .given
 
 pair-of-same-length-4 : (t : ℕ) → pair-of-lts.Need-same-length-4 (pair-of-calls t) (pair-of-at t) pair-of.Post
-pair-of-same-length-4 t c = c .before .before .before .scratch .given
+pair-of-same-length-4 t c = c .before .before .before .out .given
 
 pair-of-returns : (t : ℕ) → pair-of-lts.Need-returns (pair-of-calls t) (pair-of-at t) pair-of.Post
 pair-of-returns t c = search (pairs, indexings)
@@ -665,7 +665,7 @@ pair-of-negation-normal-form-requires-2 t c κs =
     let at-negation-normal-form = at-memo .before .before .before .before .before in
     let start = at-negation-normal-form .before .before .before .before .before .before .before .before .before .before in
     let j = at-negation-normal-form .negation-normal-form .ensures .0 in
-    (omega (arith, max-right (start .args .a .0 .0) (start .args .b .0), start .pre .0), (ready-after normal _ _ _ _ _ _ _ _ _ (j .formed) _ _ (at-p .p .given .1) (omega (arith, at-memo .memo .given, start .pre .1 .0 .room)), (omega (arith, at-row .scratch .given, start .pre .1 .1 .0), (start .pre .1 .1 .1 .1 .0, index-at _ _ _ _ _ _ (at-p .p .given .1) (at-negation-normal-form .negation-normal-form .ensures .1)))))
+    (omega (arith, max-right (start .args .a .0 .0) (start .args .b .0), start .pre .0), (ready-after normal _ _ _ _ _ _ _ _ _ (j .formed) _ _ (at-p .p .given .1) (omega (arith, at-memo .memo .given, start .pre .1 .0 .room)), (omega (arith, at-row .out .given, start .pre .1 .1 .0), (start .pre .1 .1 .1 .1 .0, index-at _ _ _ _ _ _ (at-p .p .given .1) (at-negation-normal-form .negation-normal-form .ensures .1)))))
 
 pair-of-enum-known-q : (t : ℕ) → pair-of-lts.Need-enum-known-q (pair-of-calls t) (pair-of-at t) pair-of.Post
 pair-of-enum-known-q t c = search needs
@@ -695,7 +695,7 @@ pair-of-same-length-8 : (t : ℕ) → pair-of-lts.Need-same-length-8 (pair-of-ca
 pair-of-same-length-8 t c =
     let at-row2 = c .before .before .before in
     let at-row = at-row2 .before .before .before .before .before .before .before .before .before .before .before .before .before .before .before .before .before in
-    at-row2 .scratch2 .given ∙ at-row .scratch .given
+    at-row2 .out2 .given ∙ at-row .out .given
 
 pair-of-returns-2 : (t : ℕ) → pair-of-lts.Need-returns-2 (pair-of-calls t) (pair-of-at t) pair-of.Post
 pair-of-returns-2 t c =
@@ -734,7 +734,7 @@ pair-of-same-length-12 : (t : ℕ) → pair-of-lts.Need-same-length-12 (pair-of-
 pair-of-same-length-12 t c =
     let at-row2 = c .before .before .before .before .before .before .before .before .before .before .before .before in
     let at-row = at-row2 .before .before .before .before .before .before .before .before .before .before .before .before .before .before .before .before .before in
-    at-row2 .scratch2 .given ∙ at-row .scratch .given
+    at-row2 .out2 .given ∙ at-row .out .given
 
 pair-of-returns-3 : (t : ℕ) → pair-of-lts.Need-returns-3 (pair-of-calls t) (pair-of-at t) pair-of.Post
 pair-of-returns-3 t c =
@@ -767,7 +767,7 @@ quantifier-form-same-length-3 : (t : ℕ) → quantifier-form-lts.Need-same-leng
 quantifier-form-same-length-3 t c = c .before .before .before .before .before .memo .given
 
 quantifier-form-same-length-4 : (t : ℕ) → quantifier-form-lts.Need-same-length-4 (quantifier-form-calls t) (quantifier-form-at t) quantifier-form.Post
-quantifier-form-same-length-4 t c = c .before .before .before .scratch .given
+quantifier-form-same-length-4 t c = c .before .before .before .out .given
 
 quantifier-form-returns : (t : ℕ) → quantifier-form-lts.Need-returns (quantifier-form-calls t) (quantifier-form-at t) quantifier-form.Post
 quantifier-form-returns t c =
@@ -781,7 +781,7 @@ quantifier-form-put-quantifier-requires t c κs =
     let at-row = at-form .before .before .before in
     let at-body = at-row .before .before .before .before .before .before .before in
     let start = at-body .before .before .before .before .before .before .before .before .before .before in
-    (state-after normal _ _ _ _ _ _ _ _ _ (at-body .negation-normal-form .ensures .0 .formed) _ _ (at-form .form .given .1), (omega (arith, at-row .scratch .given, start .pre .1 .1 .0), (start .pre .1 .1 .1 .0, index-at _ _ _ _ _ _ (at-form .form .given .1) (at-body .negation-normal-form .ensures .1))))
+    (state-after normal _ _ _ _ _ _ _ _ _ (at-body .negation-normal-form .ensures .0 .formed) _ _ (at-form .form .given .1), (omega (arith, at-row .out .given, start .pre .1 .1 .0), (start .pre .1 .1 .1 .0, index-at _ _ _ _ _ _ (at-form .form .given .1) (at-body .negation-normal-form .ensures .1))))
 
 quantifier-form-same-length-5 : (t : ℕ) → quantifier-form-lts.Need-same-length-5 (quantifier-form-calls t) (quantifier-form-at t) quantifier-form.Post
 quantifier-form-same-length-5 t c =
@@ -802,7 +802,7 @@ quantifier-form-same-length-8 : (t : ℕ) → quantifier-form-lts.Need-same-leng
 quantifier-form-same-length-8 t c =
     let at-row2 = c .before in
     let at-row = at-row2 .before .before .before .before .before .before .before .before .before .before .before .before .before .before in
-    at-row2 .scratch2 .given ∙ at-row .scratch .given
+    at-row2 .out2 .given ∙ at-row .out .given
 
 quantifier-form-returns-2 : (t : ℕ) → quantifier-form-lts.Need-returns-2 (quantifier-form-calls t) (quantifier-form-at t) quantifier-form.Post
 quantifier-form-returns-2 t c =
@@ -833,7 +833,7 @@ two-pairs-same-length-3 : (t : ℕ) → two-pairs-lts.Need-same-length-3 (two-pa
 two-pairs-same-length-3 t c = c .before .before .before .before .before .memo .given
 
 two-pairs-same-length-4 : (t : ℕ) → two-pairs-lts.Need-same-length-4 (two-pairs-calls t) (two-pairs-at t) two-pairs.Post
-two-pairs-same-length-4 t c = c .before .before .before .scratch .given
+two-pairs-same-length-4 t c = c .before .before .before .out .given
 
 two-pairs-returns : (t : ℕ) → two-pairs-lts.Need-returns (two-pairs-calls t) (two-pairs-at t) two-pairs.Post
 two-pairs-returns t c = search (twos, indexings)
@@ -846,7 +846,7 @@ two-pairs-pair-of-requires-2 t c κs =
     let at-pair-of = at-memo .before .before .before .before .before in
     let start = at-pair-of .before .before .before .before .before .before .before .before .before .before in
     let j = at-pair-of .pair-of .ensures .0 in
-    (omega (arith, max-right (maxOf (start .args .a .0) (start .args .b .0)) (maxOf (start .args .c .0 .0) (start .args .d .0)), start .pre .0), (ready-after normal _ _ _ _ _ _ _ _ _ j _ _ (at-p .p .given .1) (omega (arith, at-memo .memo .given, start .pre .1 .0 .room)), (omega (arith, at-row .scratch .given, start .pre .1 .1 .0), (start .pre .1 .1 .1 .0 .third, (start .pre .1 .1 .1 .0 .fourth, index-at _ _ _ _ _ _ (at-p .p .given .1) (at-pair-of .pair-of .ensures .1))))))
+    (omega (arith, max-right (maxOf (start .args .a .0) (start .args .b .0)) (maxOf (start .args .c .0 .0) (start .args .d .0)), start .pre .0), (ready-after normal _ _ _ _ _ _ _ _ _ j _ _ (at-p .p .given .1) (omega (arith, at-memo .memo .given, start .pre .1 .0 .room)), (omega (arith, at-row .out .given, start .pre .1 .1 .0), (start .pre .1 .1 .1 .0 .third, (start .pre .1 .1 .1 .0 .fourth, index-at _ _ _ _ _ _ (at-p .p .given .1) (at-pair-of .pair-of .ensures .1))))))
 
 two-pairs-enum-known-q : (t : ℕ) → two-pairs-lts.Need-enum-known-q (two-pairs-calls t) (two-pairs-at t) two-pairs.Post
 two-pairs-enum-known-q t c = search needs
@@ -876,7 +876,7 @@ two-pairs-same-length-8 : (t : ℕ) → two-pairs-lts.Need-same-length-8 (two-pa
 two-pairs-same-length-8 t c =
     let at-row2 = c .before .before .before in
     let at-row = at-row2 .before .before .before .before .before .before .before .before .before .before .before .before .before .before .before .before .before in
-    at-row2 .scratch2 .given ∙ at-row .scratch .given
+    at-row2 .out2 .given ∙ at-row .out .given
 
 two-pairs-returns-2 : (t : ℕ) → two-pairs-lts.Need-returns-2 (two-pairs-calls t) (two-pairs-at t) two-pairs.Post
 two-pairs-returns-2 t c =
@@ -916,7 +916,7 @@ two-pairs-same-length-12 : (t : ℕ) → two-pairs-lts.Need-same-length-12 (two-
 two-pairs-same-length-12 t c =
     let at-row2 = c .before .before .before .before .before .before .before .before .before .before .before .before in
     let at-row = at-row2 .before .before .before .before .before .before .before .before .before .before .before .before .before .before .before .before .before in
-    at-row2 .scratch2 .given ∙ at-row .scratch .given
+    at-row2 .out2 .given ∙ at-row .out .given
 
 two-pairs-returns-3 : (t : ℕ) → two-pairs-lts.Need-returns-3 (two-pairs-calls t) (two-pairs-at t) two-pairs.Post
 two-pairs-returns-3 t c =

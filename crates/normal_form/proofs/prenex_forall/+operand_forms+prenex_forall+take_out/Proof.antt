@@ -138,7 +138,7 @@ operand-forms-same-length-5 : (t : ℕ) → operand-forms-lts.Need-same-length-5
 operand-forms-same-length-5 t c = c .before .before .before .before .before .memo .given
 
 operand-forms-same-length-6 : (t : ℕ) → operand-forms-lts.Need-same-length-6 (operand-forms-calls t) (operand-forms-at t) operand-forms.Post
-operand-forms-same-length-6 t c = c .before .before .before .scratch .given
+operand-forms-same-length-6 t c = c .before .before .before .out .given
 
 operand-forms-returns-2 : (t : ℕ) → operand-forms-lts.Need-returns-2 (operand-forms-calls t) (operand-forms-at t) operand-forms.Post
 operand-forms-returns-2 t c = search (operand-walks, indexings)
@@ -156,7 +156,7 @@ operand-forms-operand-forms-requires t c κs =
     let at-operands = at-if1 .before in
     let start = at-operands .before .before .before .before .before .before .before in
     let j = at-prenex-forall .prenex-forall .ensures .0 in
-    (omega (arith, run-short _ _ _ _ (start .pre .1 .0 .state) _ (start .pre .1 .1 .1 .0) _ (at-operands .operands .ensures), at-if1 .if1 .left, start .pre .0), (ready-after taken-out _ _ _ _ _ _ _ _ _ (j .formed) _ _ (at-m .m .given .1) (omega (arith, at-memo .memo .given, start .pre .1 .0 .room)), (omega (arith, at-row .scratch .given, start .pre .1 .1 .0), (start .pre .1 .1 .1 .0, (before-same _ _ _ _ _ (j .formed .puts .left) _ (start .pre .1 .1 .1 .1 .0), index-at _ _ _ _ _ _ (at-m .m .given .1) (at-prenex-forall .prenex-forall .ensures .1))))))
+    (omega (arith, run-short _ _ _ _ (start .pre .1 .0 .state) _ (start .pre .1 .1 .1 .0) _ (at-operands .operands .ensures), at-if1 .if1 .left, start .pre .0), (ready-after taken-out _ _ _ _ _ _ _ _ _ (j .formed) _ _ (at-m .m .given .1) (omega (arith, at-memo .memo .given, start .pre .1 .0 .room)), (omega (arith, at-row .out .given, start .pre .1 .1 .0), (start .pre .1 .1 .1 .0, (before-same _ _ _ _ _ (j .formed .puts .left) _ (start .pre .1 .1 .1 .1 .0), index-at _ _ _ _ _ _ (at-m .m .given .1) (at-prenex-forall .prenex-forall .ensures .1))))))
 
 operand-forms-same-length-7 : (t : ℕ) → operand-forms-lts.Need-same-length-7 (operand-forms-calls t) (operand-forms-at t) operand-forms.Post
 operand-forms-same-length-7 t c =
@@ -180,7 +180,7 @@ operand-forms-same-length-10 : (t : ℕ) → operand-forms-lts.Need-same-length-
 operand-forms-same-length-10 t c =
     let at-row2 = c .before in
     let at-row = at-row2 .before .before .before .before .before .before .before .before .before .before .before .before .before .before .before .before .before in
-    at-row2 .scratch2 .given ∙ at-row .scratch .given
+    at-row2 .out2 .given ∙ at-row .out .given
 
 operand-forms-returns-3 : (t : ℕ) → operand-forms-lts.Need-returns-3 (operand-forms-calls t) (operand-forms-at t) operand-forms.Post
 operand-forms-returns-3 t c =
@@ -231,7 +231,7 @@ prenex-forall-same-length-3 : (t : ℕ) → prenex-forall-lts.Need-same-length-3
 prenex-forall-same-length-3 t c = c .before .before .before .before .before .memo .given
 
 prenex-forall-same-length-4 : (t : ℕ) → prenex-forall-lts.Need-same-length-4 (prenex-forall-calls t) (prenex-forall-at t) prenex-forall.Post
-prenex-forall-same-length-4 t c = c .before .before .before .scratch .given
+prenex-forall-same-length-4 t c = c .before .before .before .out .given
 
 prenex-forall-returns-2 : (t : ℕ) → prenex-forall-lts.Need-returns-2 (prenex-forall-calls t) (prenex-forall-at t) prenex-forall.Post
 prenex-forall-returns-2 t c =
@@ -270,7 +270,7 @@ prenex-forall-same-length-7 : (t : ℕ) → prenex-forall-lts.Need-same-length-7
 prenex-forall-same-length-7 t c = search needs
 
 prenex-forall-same-length-8 : (t : ℕ) → prenex-forall-lts.Need-same-length-8 (prenex-forall-calls t) (prenex-forall-at t) prenex-forall.Post
-prenex-forall-same-length-8 t c = c .before .before .before .before .before .scratch .given
+prenex-forall-same-length-8 t c = c .before .before .before .before .before .out .given
 
 prenex-forall-returns-3 : (t : ℕ) → prenex-forall-lts.Need-returns-3 (prenex-forall-calls t) (prenex-forall-at t) prenex-forall.Post
 prenex-forall-returns-3 t c =
@@ -337,7 +337,7 @@ take-out-same-length-3 : (t : ℕ) → take-out-lts.Need-same-length-3 (take-out
 take-out-same-length-3 t c = c .before .before .before .before .before .memo2 .given
 
 take-out-same-length-4 : (t : ℕ) → take-out-lts.Need-same-length-4 (take-out-calls t) (take-out-at t) take-out.Post
-take-out-same-length-4 t c = c .before .before .before .scratch2 .given
+take-out-same-length-4 t c = c .before .before .before .out2 .given
 
 take-out-returns : (t : ℕ) → take-out-lts.Need-returns (take-out-calls t) (take-out-at t) take-out.Post
 take-out-returns t c =
@@ -353,7 +353,7 @@ take-out-put-connective-requires t c κs =
     let at-row2 = at-m .before .before .before in
     let at-operand-forms = at-row2 .before .before .before .before .before .before .before in
     let start = at-operand-forms .before .before .before .before .before .before .before .before .before .before .before .before .before .before .before .before in
-    (state-after taken-out _ _ _ _ _ _ _ _ _ (at-operand-forms .operand-forms .ensures .0 .builds) _ _ (at-m .m .given .1), (omega (arith, at-row2 .scratch2 .given, start .pre .1 .1 .0), (start .pre .1 .1 .1 .0, index-at _ _ _ _ _ _ (at-m .m .given .1) (at-operand-forms .operand-forms .ensures .1))))
+    (state-after taken-out _ _ _ _ _ _ _ _ _ (at-operand-forms .operand-forms .ensures .0 .builds) _ _ (at-m .m .given .1), (omega (arith, at-row2 .out2 .given, start .pre .1 .1 .0), (start .pre .1 .1 .1 .0, index-at _ _ _ _ _ _ (at-m .m .given .1) (at-operand-forms .operand-forms .ensures .1))))
 
 take-out-same-length-5 : (t : ℕ) → take-out-lts.Need-same-length-5 (take-out-calls t) (take-out-at t) take-out.Post
 take-out-same-length-5 t c = search needs
@@ -374,7 +374,7 @@ take-out-same-length-9 : (t : ℕ) → take-out-lts.Need-same-length-9 (take-out
 take-out-same-length-9 t c = c .before .before .before .memo .given
 
 take-out-same-length-10 : (t : ℕ) → take-out-lts.Need-same-length-10 (take-out-calls t) (take-out-at t) take-out.Post
-take-out-same-length-10 t c = c .before .scratch .given
+take-out-same-length-10 t c = c .before .out .given
 
 take-out-returns-3 : (t : ℕ) → take-out-lts.Need-returns-3 (take-out-calls t) (take-out-at t) take-out.Post
 take-out-returns-3 t c =
@@ -403,7 +403,7 @@ take-out-same-length-14 : (t : ℕ) → take-out-lts.Need-same-length-14 (take-o
 take-out-same-length-14 t c =
     let at-row3 = c .before in
     let at-row2 = at-row3 .before .before .before .before .before .before .before .before .before .before .before .before .before .before .before in
-    at-row3 .scratch3 .given ∙ at-row2 .scratch2 .given
+    at-row3 .out3 .given ∙ at-row2 .out2 .given
 
 take-out-returns-4 : (t : ℕ) → take-out-lts.Need-returns-4 (take-out-calls t) (take-out-at t) take-out.Post
 take-out-returns-4 t c =
