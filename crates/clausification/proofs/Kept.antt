@@ -31,7 +31,7 @@ use Rattle.meaning.proofs.trees.Parts.{pair-second, from-two}
 use Rattle.meaning.proofs.trees.Terms.{even-rest}
 use Rattle.meaning.proofs.places.SameTree.{at-true}
 use Rattle.bindings.specs.Binding.{Binding}
-use Rattle.free_variables.specs.BindingFree.{bindingFree, freeAt}
+use Rattle.free_pairs.specs.BindingFree.{bindingFree, freeAt}
 use Rattle.formulas.specs.PatternAnswer.{pairsOf}
 use Rattle.clausification.specs.QntCnf.{isClause}
 

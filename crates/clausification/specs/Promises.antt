@@ -1,5 +1,5 @@
 -- What the functions of rule 3 promise each other.
--- Rests on answers' Outcome and struct `Answer`, on bindings' Binding, on descriptions' Description, on sorts' Table, on free_variables' BindingFree,
+-- Rests on answers' Outcome and struct `Answer`, on bindings' Binding, on descriptions' Description, on sorts' Table, on free_pairs' BindingFree,
 -- on pool's Check, on formulas' Pattern, Normal and PatternAnswer, on building's Walk, on clauses' ClauseWalk, and on QntCnf.
 use Prim.Native.Nat.{ℕ, _<_}
 use mathlib.Core.Path.{_≡_}
@@ -14,7 +14,7 @@ use Rattle.clauses.specs.ClauseWalk.{formAt}
 use Rattle.building.specs.Walk.{Left}
 use Rattle.answers.specs.Outcome.{Outcome, _>>_, guard, unless, answerOf}
 use Rattle.bindings.specs.Binding.{Binding, bindingsOf, has, firstOf}
-use Rattle.free_variables.specs.BindingFree.{bindingFree}
+use Rattle.free_pairs.specs.BindingFree.{bindingFree}
 use Rattle.formulas.specs.Pattern.{Quantifier}
 use Rattle.formulas.specs.PatternAnswer.{pairsOf, withList}
 use Rattle.clausification.specs.QntCnf.{isClause, anyClause, qntCnf}

@@ -1,7 +1,7 @@
 -- Rule 3, `qnt_cnf`: `(or (not (forall L phi)) (forall R c))`, where c is a clause of phi.
 -- 01: "form `(or (not l) r)`; 3 for each, 4 unless forall for each; 31; 13; 32; 8; 10; 9 for the first variable of the left or taken-out list
 -- that is free in the clause and not bound right. A one-literal clause is the literal, a longer one an `or`."
--- Rests on answers' Outcome, on cells' Cell, on bindings' Binding, on free_variables' BindingFree, on formulas' Formula, Pattern, Normal, Built and
+-- Rests on answers' Outcome, on cells' Cell, on bindings' Binding, on free_pairs' BindingFree, on formulas' Formula, Pattern, Normal, Built and
 -- Clauses, on building's Arrays, and on clauses' Lists.
 use Prim.Native.Nat.{ℕ}
 use mathlib.Core.Bool.{Bool, true, false, not, _&&_, _||_, cond}
@@ -17,7 +17,7 @@ use Rattle.clauses.specs.Lists.{clausePlaces}
 use Rattle.building.specs.Arrays.{fits, normalIn, clausalIn, clausalFormIn}
 use Rattle.answers.specs.Outcome.{Outcome, _>>=_, _>>_, need, guard, unless}
 use Rattle.bindings.specs.Binding.{Binding, bindingsOf, has, firstOf}
-use Rattle.free_variables.specs.BindingFree.{bindingFree}
+use Rattle.free_pairs.specs.BindingFree.{bindingFree}
 use Rattle.formulas.specs.Pattern.{Quantifier, quantifier, operator, oneOf, twoOf, andThen}
 use Rattle.formulas.specs.Formula.{quantifierTag}
 

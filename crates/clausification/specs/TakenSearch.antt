@@ -1,6 +1,6 @@
 -- The search among the variables that are taken out of a term in normal form: what is sought, and what the walk and its memo promise.
 -- The memo is no part of a public contract.
--- Rests on cells' Cell, on bindings' Binding, BindingAnswer and enum `FirstName`, on free_variables' BindingFree and Names, on formulas' Formula,
+-- Rests on cells' Cell, on bindings' Binding, BindingAnswer and enum `FirstName`, on free_pairs' BindingFree, on free_variables' Names, on formulas' Formula,
 -- Normal and Built, on clauses' ClauseWalk, and on the enums `Sought` and `Step`.
 use Prim.Native.Nat.{ℕ, _<_}
 use mathlib.Core.Path.{_≡_}
@@ -14,7 +14,7 @@ use Rattle.formulas.specs.Normal.{taken, takens}
 use Rattle.formulas.specs.Built.{normalsOf}
 use Rattle.clauses.specs.ClauseWalk.{formAt}
 use Rattle.bindings.specs.Binding.{Binding, bindingsOf, same, has, firstOf}
-use Rattle.free_variables.specs.BindingFree.{bindingFree}
+use Rattle.free_pairs.specs.BindingFree.{bindingFree}
 use Rattle.bindings.specs.BindingAnswer.{pair, nameOf}
 use Rattle.bindings.specs.declared.binding.FirstName.{FirstName}
 use Rattle.bindings.specs.declared.binding.FirstName.the-variants as first

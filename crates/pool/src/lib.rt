@@ -18,7 +18,7 @@ pub use cells::run;
 pub use cells::tags;
 pub use descriptions::description;
 pub use descriptions::index;
-pub use free_variables::free_lists;
+pub use free_pairs::free_lists;
 pub use free_variables::free_vars;
 pub use free_variables::term_names;
 pub use headers::well_formed;

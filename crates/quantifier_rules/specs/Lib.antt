@@ -1,9 +1,3 @@
 pub mod JoinAlong
 pub mod QntJoin
-pub mod IteAnswer
-pub mod LeftFits
-pub mod MiniscopeDistribute
-pub mod MiniscopeIte
-pub mod MiniscopeSplit
-pub mod SidesAnswer
 pub mod QntRmUnused

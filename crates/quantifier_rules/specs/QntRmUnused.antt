@@ -1,6 +1,6 @@
 -- Rule 2, `qnt_rm_unused`.
 -- 01: "form; left quantifier; accept if no left variable is free in the body and the right is that body; right quantifier, 4, 5, 8, 9."
--- Rests on answers' Outcome, on bindings' Binding, on free_variables' BindingFree, and on formulas' Formula and Pattern.
+-- Rests on answers' Outcome, on bindings' Binding, on free_pairs' BindingFree, and on formulas' Formula and Pattern.
 use Prim.Native.Nat.{ℕ}
 use mathlib.Core.Bool.{Bool, true, false, not, _&&_, Bool·beq, cond}
 use mathlib.Core.List.{List}
@@ -8,7 +8,7 @@ use mathlib.Core.Option.{Option, some, none}
 use lib.Dec.{eqb}
 use Rattle.answers.specs.Outcome.{Outcome, pass, _>>=_, _>>_, need, guard, unless}
 use Rattle.bindings.specs.Binding.{Binding, has, firstOf}
-use Rattle.free_variables.specs.BindingFree.{bindingFree}
+use Rattle.free_pairs.specs.BindingFree.{bindingFree}
 use Rattle.formulas.specs.Pattern.{Quantifier, quantifier, equality}
 use Rattle.formulas.specs.Formula.{quantifierTag}
 

@@ -16,10 +16,10 @@ use Rattle.formulas.specs.Pattern.{Quantifier}
 use Rattle.quantifier_rules.specs.QntJoin.{qntJoin}
 use Rattle.quantifier_rules.specs.QntRmUnused.{removes, unused, bodyOr, qntRmUnused}
 use Rattle.clausification.specs.QntCnf.{clauseFollows, clausified, qntCnf}
-use Rattle.quantifier_rules.specs.MiniscopeDistribute.{Sides, distributed, distributedAll, miniscopeDistribute}
+use Rattle.miniscoping.specs.MiniscopeDistribute.{Sides, distributed, distributedAll, miniscopeDistribute}
 use Rattle.bindings.specs.Used.{without, useAll}
-use Rattle.quantifier_rules.specs.MiniscopeSplit.{splitOff, splitOne, splitAll, splitSides, miniscopeSplit}
-use Rattle.quantifier_rules.specs.MiniscopeIte.{miniscopeIte}
+use Rattle.miniscoping.specs.MiniscopeSplit.{splitOff, splitOne, splitAll, splitSides, miniscopeSplit}
+use Rattle.miniscoping.specs.MiniscopeIte.{miniscopeIte}
 use Rattle.rules.specs.Step.{ruleOutcome}
 
 -- neither 0 nor 30

@@ -12,8 +12,8 @@
 --     31      (or (not l) (forall (x) (or x z)))
 --
 -- x is taken out of l's body and free in l. Where x is true and z is false, l is true and the clause is not true for every x.
--- Rests on answers' Outcome, on cells' ByPlace, Cell and Headers, on bindings' Binding, on descriptions' Description, on free_variables' Free and
--- BindingFree, on formulas' Formula, Pattern and Built, on building's Arrays, on meaning's Sort, Term, Skeleton, Tree, FreeTree, Truth and
+-- Rests on answers' Outcome, on cells' ByPlace, Cell and Headers, on bindings' Binding, on descriptions' Description, on free_variables' Free,
+-- on free_pairs' BindingFree, on formulas' Formula, Pattern and Built, on building's Arrays, on meaning's Sort, Term, Skeleton, Tree, FreeTree, Truth and
 -- TruthCases, and on clausification's QntCnf.
 use Prim.Native.Nat.{ℕ}
 use mathlib.Core.Path.{_≡_, refl}
@@ -37,7 +37,7 @@ use Rattle.meaning.specs.TruthCases.{twoValues, x}
 use Rattle.building.specs.Arrays.{fits}
 use Rattle.answers.specs.Outcome.{pass, _>>=_, _>>_, need, guard, unless}
 use Rattle.bindings.specs.Binding.{bindingsOf, same, has, firstOf}
-use Rattle.free_variables.specs.BindingFree.{bindingFree}
+use Rattle.free_pairs.specs.BindingFree.{bindingFree}
 use Rattle.formulas.specs.Pattern.{quantifier, operator}
 use Rattle.clausification.specs.QntCnf.{implication, withinLimits, isClause, anyClause, takenFrom, clausesFrom, leftAndTaken, clauseFollows, clausified, qntCnf}
 

@@ -5,8 +5,8 @@
 --     rule 2, (= (forall (x) x) (forall (y) x))      8 with y: a new variable comes before a missing one
 --
 -- x, y and p are the names 1, 2 and 3, of sort Bool.
--- Rests on answers' Outcome, on cells' ByPlace, Cell and Headers, on bindings' Binding, on descriptions' Description, on free_variables' Free and
--- BindingFree, on formulas' Pattern, and on quantifier_rules' QntJoin and QntRmUnused.
+-- Rests on answers' Outcome, on cells' ByPlace, Cell and Headers, on bindings' Binding, on descriptions' Description, on free_variables' Free,
+-- on free_pairs' BindingFree, on formulas' Pattern, and on quantifier_rules' QntJoin and QntRmUnused.
 use mathlib.Core.Path.{_≡_, refl}
 use mathlib.Core.List.{[], _∷_}
 use Rattle.cells.specs.ByPlace.{downTo, byPlace}
@@ -16,7 +16,7 @@ use Rattle.descriptions.specs.Description.{find}
 use Rattle.free_variables.specs.Free.{pairIn, boundBy, anyOf, underPairs, freeStep, isFree}
 use Rattle.answers.specs.Outcome.{pass, refuse, _>>=_, _>>_, need, guard, unless}
 use Rattle.bindings.specs.Binding.{bindingsOf, same, has, firstOf}
-use Rattle.free_variables.specs.BindingFree.{bindingFree}
+use Rattle.free_pairs.specs.BindingFree.{bindingFree}
 use Rattle.formulas.specs.Pattern.{quantifier, operator, equality}
 use Rattle.quantifier_rules.specs.QntJoin.{qntJoin}
 use Rattle.quantifier_rules.specs.QntRmUnused.{removes, unused, bodyOr, qntRmUnused}

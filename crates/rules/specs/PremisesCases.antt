@@ -14,8 +14,8 @@
 --
 -- x is free in l, so that rule 2 refuses (= (forall (x) l) l), with 3 and l's place. In a reading where a let that has x free has the truth
 -- value of x, and which fixes every opaque term by its free variables' values, that equality is false if x is true.
--- Rests on answers' Outcome, on cells' ByPlace, Cell and Headers, on bindings' Binding, on descriptions' Description, on free_variables' Free and
--- BindingFree, on formulas' Pattern, on meaning's Sort, Term, Lets, Skeleton, Tree, FreeTree, Truth and TruthCases, and on quantifier_rules'
+-- Rests on answers' Outcome, on cells' ByPlace, Cell and Headers, on bindings' Binding, on descriptions' Description, on free_variables' Free,
+-- on free_pairs' BindingFree, on formulas' Pattern, on meaning's Sort, Term, Lets, Skeleton, Tree, FreeTree, Truth and TruthCases, and on quantifier_rules'
 -- QntRmUnused.
 use Prim.Native.Nat.{ℕ}
 use mathlib.Core.Path.{_≡_, refl}
@@ -37,7 +37,7 @@ use Rattle.meaning.specs.Truth.{Assignment, Reading, Local, valueAt, assign, ov
 use Rattle.meaning.specs.TruthCases.{either}
 use Rattle.answers.specs.Outcome.{refuse, _>>=_, _>>_, need, guard, unless}
 use Rattle.bindings.specs.Binding.{bindingsOf, same as samePair, has as hasPair, firstOf}
-use Rattle.free_variables.specs.BindingFree.{bindingFree}
+use Rattle.free_pairs.specs.BindingFree.{bindingFree}
 use Rattle.formulas.specs.Pattern.{quantifier, operator, equality}
 use Rattle.quantifier_rules.specs.QntRmUnused.{removes, unused, bodyOr, qntRmUnused}
 

@@ -1,7 +1,8 @@
 -- `check`: the checks of a step and then its rule, what the arrays hold after it, and what an acceptance says of the conclusion.
 -- 01, "What stops a step": "0 is acceptance. Checks run 30, 14, 15, 16, 18, 1, 17, then the rule."
--- Rests on answers' Answer, Outcome and struct `Answer`, on headers' WellFormed, on descriptions' Description, on pool's Check, on meaning's Term and
--- Tree, on quantifier_rules' MiniscopeDistribute, MiniscopeIte, QntJoin, QntRmUnused and MiniscopeSplit, on clausification's NoCapture and QntCnf,
+-- Rests on answers' Answer, Outcome and struct `Answer`, on headers' WellFormed, on descriptions' Description, on pool's Check, on meaning's Term
+-- and Tree, on quantifier_rules' QntJoin and QntRmUnused, on miniscoping's MiniscopeDistribute, MiniscopeIte and MiniscopeSplit, on
+-- clausification's NoCapture and QntCnf,
 -- and on Premises and RuleSchema.
 use Prim.Native.Nat.{ℕ, min}
 use mathlib.Core.Path.{_≡_}
@@ -21,9 +22,9 @@ use Rattle.answers.specs.Outcome.{Outcome, answerOf}
 use Rattle.quantifier_rules.specs.QntJoin.{qntJoin}
 use Rattle.quantifier_rules.specs.QntRmUnused.{qntRmUnused}
 use Rattle.clausification.specs.QntCnf.{qntCnf}
-use Rattle.quantifier_rules.specs.MiniscopeDistribute.{miniscopeDistribute}
-use Rattle.quantifier_rules.specs.MiniscopeSplit.{miniscopeSplit}
-use Rattle.quantifier_rules.specs.MiniscopeIte.{miniscopeIte}
+use Rattle.miniscoping.specs.MiniscopeDistribute.{miniscopeDistribute}
+use Rattle.miniscoping.specs.MiniscopeSplit.{miniscopeSplit}
+use Rattle.miniscoping.specs.MiniscopeIte.{miniscopeIte}
 use Rattle.clausification.specs.NoCapture.{NoCapture}
 use Rattle.rules.specs.RuleSchema.{RuleHolds}
 use Rattle.rules.specs.Premises.{TrueInReadings}

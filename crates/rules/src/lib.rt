@@ -1,7 +1,7 @@
 // The six rules of document 01, over a pool that passes its checks.
 pub mod check;
 
-pub use quantifier_rules::miniscope_distribute;
-pub use quantifier_rules::miniscope_ite;
+pub use miniscoping::miniscope_distribute;
+pub use miniscoping::miniscope_ite;
 pub use quantifier_rules::qnt_join;
 pub use quantifier_rules::qnt_rm_unused;

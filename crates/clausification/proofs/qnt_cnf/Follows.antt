@@ -17,7 +17,7 @@ use Rattle.clauses.specs.ClauseWalk.{formAt}
 use Rattle.building.specs.Arrays.{normalIn}
 use Rattle.answers.specs.Outcome.{Outcome, pass, refuse, _>>_, guard, unless}
 use Rattle.bindings.specs.Binding.{Binding, bindingsOf, has, firstOf}
-use Rattle.free_variables.specs.BindingFree.{bindingFree}
+use Rattle.free_pairs.specs.BindingFree.{bindingFree}
 use Rattle.bindings.specs.BindingAnswer.{nameOf}
 use Rattle.formulas.specs.PatternAnswer.{pairsOf}
 use Rattle.bindings.specs.declared.binding.FirstName.{FirstName}

@@ -26,7 +26,7 @@ use Rattle.normal_form.proofs.prenex_forall.Laws.{body-before}
 use Rattle.bindings.specs.Binding.{Binding, bindingsOf, same, has, firstOf}
 use Rattle.bindings.specs.BindingAnswer.{pair, nameOf}
 use Rattle.bindings.proofs.binding.Laws.{same-is}
-use Rattle.free_variables.specs.FreeLists.{isMissing}
+use Rattle.free_pairs.specs.FreeLists.{isMissing}
 use Rattle.formulas.specs.PatternAnswer.{pairsOf}
 use Rattle.bindings.specs.declared.binding.FirstName.{FirstName}
 use Rattle.bindings.specs.declared.binding.FirstName.the-variants.{Name, Nothing}

@@ -24,7 +24,7 @@ use Rattle.meaning.proofs.trees.Terms.{term-op}
 use Rattle.meaning.proofs.trees.Passed.{Passed, term-of-cells, one-term}
 use Rattle.meaning.proofs.truth.Over.{same-at, same-eq, same-refl}
 use Rattle.bindings.specs.Binding.{Binding, same, has, sameAll, firstOf}
-use Rattle.free_variables.specs.BindingFree.{bindingFree}
+use Rattle.free_pairs.specs.BindingFree.{bindingFree}
 use Rattle.meaning.proofs.patterns.Bindings.{binding-eq, same-self, list-same, first-is-none, varOf, varsAt, has-at}
 use Rattle.meaning.proofs.patterns.Sound.{Unfree}
 use Rattle.formulas.specs.Pattern.{Quantifier, quantifier, operator, twoOf, equality, andThen}

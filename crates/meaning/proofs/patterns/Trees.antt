@@ -36,7 +36,7 @@ use Rattle.meaning.proofs.trees.Stated.{var-tag}
 use Rattle.meaning.proofs.trees.Passed.{Passed, sort-of-cells, term-of-cells, sort-of-term, one-sort, sort-place-of, states, free-of-tree, free-stands, cells-of-var, found-at, found-none}
 use Rattle.meaning.proofs.truth.Over.{bool-cases}
 use Rattle.bindings.specs.Binding.{Binding, bindingsOf, same, has, firstOf}
-use Rattle.free_variables.specs.BindingFree.{bindingFree, freeAt}
+use Rattle.free_pairs.specs.BindingFree.{bindingFree, freeAt}
 use Rattle.formulas.specs.Pattern.{Quantifier, quantifier, operator, oneOf, twoOf, threeOf, equality}
 use Rattle.formulas.specs.Formula.{quantifierTag}
 use Rattle.meaning.proofs.patterns.Passes.{then-some, cond-some}

@@ -11,7 +11,7 @@ use Rattle.cells.specs.declared.TermPlace.{TermPlace}
 use Rattle.answers.specs.declared.Answer.{Answer}
 use Rattle.answers.specs.Outcome.{pass, refuse, _>>=_, _>>_, need, guard, answerOf}
 use Rattle.bindings.specs.Binding.{Binding, bindingsOf, has, firstOf}
-use Rattle.free_variables.specs.BindingFree.{bindingFree}
+use Rattle.free_pairs.specs.BindingFree.{bindingFree}
 use Rattle.bindings.specs.BindingAnswer.{nameOf}
 use Rattle.formulas.specs.Pattern.{equality}
 use Rattle.formulas.specs.Formula.{quantifierTag}

@@ -23,10 +23,10 @@ use Rattle.answers.specs.Outcome.{answerOf}
 use Rattle.meaning.proofs.patterns.Trees.{equality-tree}
 use Rattle.quantifier_rules.specs.QntJoin.{qntJoin}
 use Rattle.quantifier_rules.specs.QntRmUnused.{qntRmUnused}
-use Rattle.quantifier_rules.specs.MiniscopeDistribute.{miniscopeDistribute}
-use Rattle.quantifier_rules.specs.MiniscopeSplit.{miniscopeSplit}
-use Rattle.quantifier_rules.specs.MiniscopeIte.{miniscopeIte}
-use Rattle.quantifier_rules.specs.LeftFits.{LeftFits}
+use Rattle.miniscoping.specs.MiniscopeDistribute.{miniscopeDistribute}
+use Rattle.miniscoping.specs.MiniscopeSplit.{miniscopeSplit}
+use Rattle.miniscoping.specs.MiniscopeIte.{miniscopeIte}
+use Rattle.miniscoping.specs.LeftFits.{LeftFits}
 use Rattle.rules.specs.Step.{isRule, ruleOutcome, stepAnswer, cellsLeft, Follows, StepHolds, Step}
 use Rattle.clausification.specs.Promises.{Clausified}
 use Rattle.rules.specs.StepWalk.{beforeRule, Judged, CellsKept}

@@ -18,7 +18,7 @@ use Rattle.formulas.specs.Clauses.{Clause, emptyOr}
 use Rattle.meaning.proofs.truth.Over.{not-both}
 use Rattle.answers.specs.Outcome.{refuse}
 use Rattle.bindings.specs.Binding.{has}
-use Rattle.free_variables.specs.BindingFree.{bindingFree}
+use Rattle.free_pairs.specs.BindingFree.{bindingFree}
 use Rattle.meaning.proofs.patterns.Bindings.{first-some, varOf, varsAt, has-at}
 use Rattle.formulas.specs.Pattern.{Quantifier}
 use Rattle.formulas.specs.Formula.{quantifierTag}

@@ -14,7 +14,7 @@ use Rattle.meaning.specs.FreeTree.{has, free}
 use Rattle.meaning.proofs.trees.Passed.{Passed}
 use Rattle.answers.specs.Outcome.{refuse}
 use Rattle.meaning.proofs.patterns.Bindings.{varOf}
-use Rattle.quantifier_rules.specs.MiniscopeIte.{iteSides, miniscopeIte}
+use Rattle.miniscoping.specs.MiniscopeIte.{iteSides, miniscopeIte}
 use Rattle.schemas.specs.Schemas.{equal, binder, iteTerm}
 use Rattle.rules.proofs.schemas.Ite.{sides-back}
 use Rattle.rules.proofs.sound.MiniscopeIte.{sides-tree}

@@ -25,8 +25,8 @@ use Rattle.formulas.specs.Pattern.{quantifier, andThen}
 use Rattle.meaning.proofs.patterns.Passes.{need-passes, guard-passes}
 use Rattle.meaning.proofs.patterns.Trees.{AllTerms, Sorted, quantifier-tree}
 use Rattle.bindings.specs.Used.{without as withoutPair, useAll}
-use Rattle.quantifier_rules.specs.MiniscopeDistribute.{Sides, sidesOf, orElse, ofKind, distributed, distributedAll, miniscopeDistribute}
-use Rattle.quantifier_rules.specs.MiniscopeSplit.{splitOff, splitOne, splitAll, splitSides, miniscopeSplit}
+use Rattle.miniscoping.specs.MiniscopeDistribute.{Sides, sidesOf, orElse, ofKind, distributed, distributedAll, miniscopeDistribute}
+use Rattle.miniscoping.specs.MiniscopeSplit.{splitOff, splitOne, splitAll, splitSides, miniscopeSplit}
 use Rattle.rules.proofs.sound.Sides.{AreSides, of-kind, either-sides}
 use Rattle.schemas.specs.Notation.{termCount}
 use Rattle.schemas.specs.Schemas.{equal, binder}

@@ -22,7 +22,7 @@ use Rattle.meaning.proofs.trees.Header.{both}
 use Rattle.meaning.proofs.trees.Passed.{Passed}
 use Rattle.meaning.proofs.truth.Over.{not-both}
 use Rattle.bindings.specs.Binding.{Binding, has, sameAll, firstOf}
-use Rattle.free_variables.specs.BindingFree.{bindingFree}
+use Rattle.free_pairs.specs.BindingFree.{bindingFree}
 use Rattle.meaning.proofs.patterns.Bindings.{first-some, varOf, varsAt, has-at}
 use Rattle.meaning.proofs.patterns.Sound.{beq-same}
 use Rattle.formulas.specs.Pattern.{quantifier, equality}

@@ -20,7 +20,7 @@ use Rattle.answers.specs.Outcome.{pass, _>>=_, _>>_, need, guard}
 use Rattle.meaning.proofs.patterns.Bindings.{varsAt}
 use Rattle.meaning.proofs.patterns.Passes.{need-passes, guard-passes, then-passes}
 use Rattle.meaning.proofs.patterns.Trees.{AllTerms, Sorted}
-use Rattle.quantifier_rules.specs.MiniscopeDistribute.{Sides, sidesOf, orElse, distributed, distributedAll, miniscopeDistribute}
+use Rattle.miniscoping.specs.MiniscopeDistribute.{Sides, sidesOf, orElse, distributed, distributedAll, miniscopeDistribute}
 use Rattle.rules.proofs.sound.Sides.{either-sides}
 use Rattle.rules.proofs.sound.MiniscopeDistribute.{operand-tree}
 use Rattle.schemas.specs.Notation.{termCount}

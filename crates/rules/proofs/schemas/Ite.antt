@@ -17,7 +17,7 @@ use Rattle.meaning.proofs.patterns.Bindings.{list-eq, varsAt}
 use Rattle.formulas.specs.Pattern.{operator, threeOf, andThen}
 use Rattle.meaning.proofs.patterns.Passes.{need-passes, guard-passes, unless-last}
 use Rattle.meaning.proofs.patterns.Trees.{AllTerms, Sorted, list-unfree}
-use Rattle.quantifier_rules.specs.MiniscopeIte.{IteSides, iteSides, miniscopeIte}
+use Rattle.miniscoping.specs.MiniscopeIte.{IteSides, iteSides, miniscopeIte}
 use Rattle.rules.proofs.sound.MiniscopeIte.{sides-tree}
 use Rattle.schemas.specs.Schemas.{MiniscopeIte, splits-ite, equal, binder, iteTerm}
 use Rattle.meaning.proofs.patterns.Back.{quantifier-back, operator-back, equality-back, equality-found, same-place, lists-same, list-unfree-back}

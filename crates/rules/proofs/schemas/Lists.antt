@@ -13,7 +13,7 @@ use Rattle.meaning.specs.FreeTree.{has as hasVar}
 use Rattle.meaning.proofs.trees.Passed.{Passed}
 use Rattle.meaning.proofs.truth.Over.{bool-cases, not-both}
 use Rattle.bindings.specs.Binding.{Binding, has, firstOf}
-use Rattle.free_variables.specs.BindingFree.{bindingFree}
+use Rattle.free_pairs.specs.BindingFree.{bindingFree}
 use Rattle.meaning.proofs.patterns.Bindings.{first-is-none, varOf, varsAt, has-at}
 use Rattle.meaning.proofs.patterns.Trees.{Sorted, sorted-has, binding-free}
 use Rattle.schemas.specs.Schemas.{Among, FreeAmong}

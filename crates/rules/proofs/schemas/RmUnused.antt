@@ -16,7 +16,7 @@ use Rattle.meaning.proofs.trees.Passed.{Passed}
 use Rattle.meaning.proofs.truth.Over.{bool-cases}
 use Rattle.answers.specs.Outcome.{pass, _>>=_, _>>_, need, guard, unless}
 use Rattle.bindings.specs.Binding.{firstOf}
-use Rattle.free_variables.specs.BindingFree.{bindingFree}
+use Rattle.free_pairs.specs.BindingFree.{bindingFree}
 use Rattle.meaning.proofs.patterns.Bindings.{varsAt}
 use Rattle.meaning.proofs.patterns.Sound.{beq-eq, beq-same}
 use Rattle.formulas.specs.Pattern.{Quantifier}

@@ -22,7 +22,7 @@ use Rattle.formulas.specs.Pattern.{quantifier}
 use Rattle.meaning.proofs.patterns.Passes.{bind-passes, need-passes, guard-passes, then-passes, unless-last}
 use Rattle.meaning.proofs.patterns.Trees.{AllTerms, SortPlace, Sorted, quantifier-tree, list-unfree}
 use Rattle.bindings.specs.Used.{without as withoutPair, useAll}
-use Rattle.quantifier_rules.specs.MiniscopeSplit.{splitOff, splitOne, splitAll, splitSides, miniscopeSplit}
+use Rattle.miniscoping.specs.MiniscopeSplit.{splitOff, splitOne, splitAll, splitSides, miniscopeSplit}
 use Rattle.rules.proofs.sound.Sides.{of-kind, either-sides}
 use Rattle.schemas.specs.Notation.{termCount}
 use Rattle.schemas.specs.Schemas.{MiniscopeSplit, splits, Split, ends, as-it-is, under, Uses, nothing, next, without, binder, NotFree}

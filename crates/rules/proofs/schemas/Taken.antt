@@ -32,7 +32,7 @@ use Rattle.building.specs.Arrays.{normalIn}
 use Rattle.normal_form.proofs.NormalFormTruth.{used-count, normal-form-is}
 use Rattle.normal_form.proofs.ClauseListTruth.{old-sort, taken-are, normal-form-read}
 use Rattle.bindings.specs.Binding.{Binding, bindingsOf, has, firstOf}
-use Rattle.free_variables.specs.BindingFree.{bindingFree, freeAt}
+use Rattle.free_pairs.specs.BindingFree.{bindingFree, freeAt}
 use Rattle.meaning.proofs.patterns.Bindings.{first-none, first-is-none, pairs-append, varOf, varsAt, has-at, has-pair}
 use Rattle.meaning.proofs.patterns.Trees.{term-below, SortPlace, Sorted, sorted-append, pairs-sorted, sorted-has, binding-free}
 use Rattle.clausification.specs.QntCnf.{takenFrom}

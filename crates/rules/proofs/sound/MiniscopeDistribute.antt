@@ -17,7 +17,7 @@ use Rattle.meaning.specs.Skeleton.{skeleton, skeletons, formOf}
 use Rattle.meaning.specs.Truth.{Assignment, Reading, Local, andOr, over, truth, truths, True}
 use Rattle.meaning.proofs.truth.Over.{same-at, andOr-intro, andOr-left, andOr-right, over-elim, over-intro}
 use Rattle.answers.specs.Outcome.{pass}
-use Rattle.quantifier_rules.specs.MiniscopeDistribute.{Sides, distributed, distributedAll, miniscopeDistribute}
+use Rattle.miniscoping.specs.MiniscopeDistribute.{Sides, distributed, distributedAll, miniscopeDistribute}
 use Rattle.formulas.specs.Pattern.{quantifier}
 use Rattle.meaning.proofs.patterns.Passes.{need-passes, guard-passes, guard-last, then-passes}
 use Rattle.meaning.proofs.patterns.Bindings.{list-eq, varsAt}

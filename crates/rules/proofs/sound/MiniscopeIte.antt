@@ -20,7 +20,7 @@ use Rattle.meaning.specs.Truth.{Assignment, Reading, Local, over, True}
 use Rattle.meaning.proofs.truth.Over.{bool-cases}
 use Rattle.answers.specs.Outcome.{pass}
 use Rattle.formulas.specs.Pattern.{Quantifier, quantifier, operator, threeOf, equality, andThen}
-use Rattle.quantifier_rules.specs.MiniscopeIte.{IteSides, iteSides, miniscopeIte}
+use Rattle.miniscoping.specs.MiniscopeIte.{IteSides, iteSides, miniscopeIte}
 use Rattle.meaning.proofs.patterns.Passes.{need-passes, guard-passes, unless-last, then-some, cond-some}
 use Rattle.meaning.proofs.patterns.Bindings.{list-eq, varsAt}
 use Rattle.meaning.proofs.patterns.Trees.{IsQuantifier, AllTerms, Sorted, three-are, quantifier-tree, operator-tree, equality-tree, list-unfree}

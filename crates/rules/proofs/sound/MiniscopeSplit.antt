@@ -22,7 +22,7 @@ use Rattle.answers.specs.Outcome.{pass}
 use Rattle.bindings.specs.Binding.{Binding, same, has as hasPair}
 use Rattle.formulas.specs.Pattern.{quantifier}
 use Rattle.bindings.specs.Used.{without, useAll}
-use Rattle.quantifier_rules.specs.MiniscopeSplit.{splitOff, splitOne, splitAll, splitSides, miniscopeSplit}
+use Rattle.miniscoping.specs.MiniscopeSplit.{splitOff, splitOne, splitAll, splitSides, miniscopeSplit}
 use Rattle.meaning.proofs.patterns.Passes.{need-passes, guard-passes, bind-passes, then-passes, unless-last}
 use Rattle.meaning.proofs.patterns.Bindings.{binding-eq, varOf, varsAt, has-at, has-pair}
 use Rattle.meaning.proofs.patterns.Trees.{AllTerms, Sorted, sorted-has, quantifier-tree, one-binding, list-unfree}

@@ -20,7 +20,7 @@ use Rattle.meaning.proofs.truth.Over.{bool-cases, not-both, Subset}
 use Rattle.meaning.proofs.truth.Coincide.{term-coincide}
 use Rattle.answers.specs.Outcome.{pass}
 use Rattle.bindings.specs.Binding.{Binding, has as hasPair, firstOf}
-use Rattle.free_variables.specs.BindingFree.{bindingFree}
+use Rattle.free_pairs.specs.BindingFree.{bindingFree}
 use Rattle.formulas.specs.Pattern.{Quantifier}
 use Rattle.quantifier_rules.specs.QntRmUnused.{removes, unused, bodyOr, qntRmUnused}
 use Rattle.meaning.proofs.patterns.Passes.{need-passes, guard-passes, unless-passes, unless-last, by-option}

@@ -13,7 +13,7 @@ use Rattle.meaning.specs.Tree.{termsOf, tree}
 use Rattle.meaning.proofs.trees.Passed.{Passed}
 use Rattle.formulas.specs.Formula.{connectiveTag}
 use Rattle.formulas.specs.Pattern.{Quantifier, quantifier, operator, equality, andThen}
-use Rattle.quantifier_rules.specs.MiniscopeDistribute.{Sides, sidesOf, orElse, ofKind}
+use Rattle.miniscoping.specs.MiniscopeDistribute.{Sides, sidesOf, orElse, ofKind}
 use Rattle.meaning.proofs.patterns.Passes.{then-some, by-option, cond-some}
 use Rattle.meaning.proofs.patterns.Bindings.{varsAt}
 use Rattle.meaning.proofs.patterns.Trees.{AllTerms, Sorted, quantifier-tree, operator-tree, equality-tree}

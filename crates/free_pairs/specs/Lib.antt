@@ -1,0 +1,4 @@
+pub mod FreeLists
+pub mod Mask
+pub mod MaskWalk
+pub mod BindingFree
