@@ -20,48 +20,64 @@ use Rattle.formulas.specs.Formula.{form}
 use Rattle.formulas.specs.Built.{Pool, Placed, count, intern, interns, normalsOf, normalAt}
 use Rattle.building.specs.Arrays.{poolOf, fits}
 
--- arrays of one length whose first n cells are filled by headers with their cells; the walk reads the first lim of them
-pub record State (lim n : ℕ) (tags values : List ℕ) : Type 0 where
+-- arrays of one length whose first n cells are filled by headers with their cells; a walk reads those before `end`
+pub record State (end n : ℕ) (tags values : List ℕ) : Type 0 where
   pub size : length tags ≡ length values
   pub within : n ≤ length tags
   pub small : n ≤ cellLimit
   pub fills : Fills values n 0
-  pub source : lim ≤ n
+  pub source : end ≤ n
 
 -- what a refusal leaves: the source cells, and the arrays' sizes
-pub record Left (lim : ℕ) (tags values tags′ values′ : List ℕ) : Type 0 where
+pub record Left (end : ℕ) (tags values tags′ values′ : List ℕ) : Type 0 where
   pub tags-size : length tags′ ≡ length tags
   pub values-size : length values′ ≡ length values
-  pub tags-kept : take lim tags′ ≡ take lim tags
-  pub values-kept : take lim values′ ≡ take lim values
+  pub tags-kept : take end tags′ ≡ take end tags
+  pub values-kept : take end values′ ≡ take end values
 
 -- ---- what a call that builds comes to
 -- the arrays hold the pool o in their first m cells, and p is its place
-pub record Holds (lim : ℕ) (o : Placed) (p m : ℕ) (tags values : List ℕ) : Type 0 where
+pub record Holds (end : ℕ) (o : Placed) (p m : ℕ) (tags values : List ℕ) : Type 0 where
   pub pool-is : poolOf tags values m ≡ o .pool
   pub place-is : p ≡ o .place
   pub below : p < m
-  pub state : State lim m tags values
+  pub state : State end m tags values
 
 -- that, or no room for o in arrays of this size
 abbrev pub BuiltOutcome : ℕ → ℕ → Placed → Built → List ℕ → List ℕ → Type 0
-BuiltOutcome lim size o (At p m) tags values = Holds lim o (p .0) m tags values
-BuiltOutcome lim size o Full tags values = fits (o .pool) size ≡ false
+BuiltOutcome end size o (At p m) tags values = Holds end o (p .0) m tags values
+BuiltOutcome end size o Full tags values = fits (o .pool) size ≡ false
 
 -- r is the answer of a call that puts o into tags and values, which leaves tags′ and values′
-pub record Puts (lim : ℕ) (tags values : List ℕ) (o : Placed) (r : Built) (tags′ values′ : List ℕ) : Type 0 where
-  pub outcome : BuiltOutcome lim (length tags) o r tags′ values′
-  pub left : Left lim tags values tags′ values′
+pub record Puts (end : ℕ) (tags values : List ℕ) (o : Placed) (r : Built) (tags′ values′ : List ℕ) : Type 0 where
+  pub outcome : BuiltOutcome end (length tags) o r tags′ values′
+  pub left : Left end tags values tags′ values′
 
 -- the index of the pool that a call leaves; a refusal leaves any
 abbrev pub Indexed : Built → List ℕ → List ℕ → List ℕ → Type 0
 Indexed (At p m) tags values index = Index tags values m index
 Indexed Full tags values index = Unit {0}
 
--- the first k cells of the row are these
-pub record FirstCells (cells : List ℕ) (k : ℕ) (row : List ℕ) : Type 0 where
-  pub within : k ≤ length row
-  pub are : take k row ≡ cells
+-- ---- a walk's array: the memo, then the row of a new term's cells
+abbrev pub rowStart : ℕ
+rowStart = 16384
+
+abbrev pub workSize : ℕ
+workSize = 24576
+
+unfoldable pub memoOf : List ℕ → List ℕ
+memoOf work = take rowStart work
+
+pub record MemoKept (work work′ : List ℕ) : Type 0 where
+  pub size : length work′ ≡ length work
+  pub same : memoOf work′ ≡ memoOf work
+
+-- the row's cells as far as k are these; the memo is as it was
+pub record RowHolds (cells : List ℕ) (k : ℕ) (work work′ : List ℕ) : Type 0 where
+  pub started : rowStart ≤ k
+  pub within : k ≤ workSize
+  pub are : take (k - rowStart) (drop rowStart work′) ≡ cells
+  pub kept : MemoKept work work′
 
 -- ---- the memo
 -- its index of a term and a polarity: the forms at true polarity come first
@@ -81,29 +97,30 @@ abbrev pub StandAll : Pool → Normals (List ℕ) ℕ → List ℕ → Type 0
 StandAll q fs ps = interns fs q ≡ record { pool = q; places = ps }
 
 -- every entry of the memo that is set is one more than the place where its form stands; formAt gives the form of an entry
-pub record FormsMemo (formAt : ℕ → Normal (List ℕ) ℕ) (q : Pool) (memo : List ℕ) : Type 0 where
-  pub entry : (i p : ℕ) → getD memo i 0 ≡ suc p → Stands q (formAt i) p
-  pub below : (i p : ℕ) → getD memo i 0 ≡ suc p → p < count q
+pub record FormsMemo (formAt : ℕ → Normal (List ℕ) ℕ) (q : Pool) (work : List ℕ) : Type 0 where
+  pub size : length work ≡ workSize
+  pub entry : (i p : ℕ) → getD (memoOf work) i 0 ≡ suc p → Stands q (formAt i) p
+  pub below : (i p : ℕ) → getD (memoOf work) i 0 ≡ suc p → p < count q
 
 -- an entry that is set stays as it is
 abbrev pub Keeps : List ℕ → List ℕ → Type 0
-Keeps memo memo′ = (i p : ℕ) → getD memo i 0 ≡ suc p → getD memo′ i 0 ≡ suc p
+Keeps work work′ = (i p : ℕ) → getD (memoOf work) i 0 ≡ suc p → getD (memoOf work′) i 0 ≡ suc p
 
-pub record FormsNoted (formAt : ℕ → Normal (List ℕ) ℕ) (q : Pool) (memo memo′ : List ℕ) : Type 0 where
-  pub right : FormsMemo formAt q memo′
-  pub keeps : Keeps memo memo′
+pub record FormsNoted (formAt : ℕ → Normal (List ℕ) ℕ) (q : Pool) (work work′ : List ℕ) : Type 0 where
+  pub right : FormsMemo formAt q work′
+  pub keeps : Keeps work work′
 
 -- what is left of the memo's promise: a refusal ends the whole walk
 abbrev pub Remembers : (ℕ → Normal (List ℕ) ℕ) → List ℕ → Built → List ℕ → List ℕ → List ℕ → Type 0
-Remembers formAt memo (At p m) tags values memo′ = FormsNoted formAt (poolOf tags values m) memo memo′
-Remembers formAt memo Full tags values memo′ = Unit {0}
+Remembers formAt work (At p m) tags values work′ = FormsNoted formAt (poolOf tags values m) work work′
+Remembers formAt work Full tags values work′ = Unit {0}
 
 -- a walker that puts o, and keeps in the memo what it built on the way
-pub record Builds (formAt : ℕ → Normal (List ℕ) ℕ) (lim : ℕ) (tags values memo : List ℕ) (o : Placed) (r : Built) (tags′ values′ memo′ : List ℕ) : Type 0 where
-  pub puts : Puts lim tags values o r tags′ values′
-  pub memo-is : Remembers formAt memo r tags′ values′ memo′
+pub record Builds (formAt : ℕ → Normal (List ℕ) ℕ) (end : ℕ) (tags values work : List ℕ) (o : Placed) (r : Built) (tags′ values′ work′ : List ℕ) : Type 0 where
+  pub puts : Puts end tags values o r tags′ values′
+  pub memo-is : Remembers formAt work r tags′ values′ work′
 
--- ---- the two walks over the first lim cells
+-- ---- the two walks over the cells before `end`
 -- the negation normal form of a term, or the taken-out form of a term in normal form
 pub data Walk : Type 0 where
   normal : Walk
@@ -111,60 +128,54 @@ pub data Walk : Type 0 where
 
 -- the form that a walk builds of the term at t; a taken-out form has no polarity
 unfoldable pub formOf : Walk → ℕ → List ℕ → List ℕ → ℕ → Bool → Normal (List ℕ) ℕ
-formOf normal lim tags values t polarity = nnf (form (take lim tags) (take lim values) t) polarity
-formOf taken-out lim tags values t polarity = prenex (normalAt (poolOf tags values lim) t)
+formOf normal end tags values t polarity = nnf (form (take end tags) (take end values) t) polarity
+formOf taken-out end tags values t polarity = prenex (normalAt (poolOf tags values end) t)
 
 abbrev pub normalOf : ℕ → List ℕ → List ℕ → ℕ → Bool → Normal (List ℕ) ℕ
-normalOf lim tags values t polarity = formOf normal lim tags values t polarity
+normalOf end tags values t polarity = formOf normal end tags values t polarity
 
 abbrev pub runOf : ℕ → List ℕ → List ℕ → ℕ → List ℕ
-runOf lim tags values t = operandsOf (take lim tags) (take lim values) t
+runOf end tags values t = operandsOf (take end tags) (take end values) t
 
 -- the form of the memo's entry i
 unfoldable pub entryForm : Walk → ℕ → List ℕ → List ℕ → ℕ → Normal (List ℕ) ℕ
-entryForm w lim tags values i = cond (ltb i cellLimit) (formOf w lim tags values i true) (formOf w lim tags values (i - cellLimit) false)
-
--- how many entries a walk uses: a taken-out form is kept at true polarity alone
-abbrev pub roomFor : Walk → ℕ
-roomFor normal = cellLimit + cellLimit
-roomFor taken-out = cellLimit
+entryForm w end tags values i = cond (ltb i cellLimit) (formOf w end tags values i true) (formOf w end tags values (i - cellLimit) false)
 
 -- what the walkers start from
-pub record WalkReady (w : Walk) (lim n : ℕ) (tags values memo : List ℕ) : Type 0 where
-  pub state : State lim n tags values
-  pub room : roomFor w ≤ length memo
-  pub right : FormsMemo (entryForm w lim tags values) (poolOf tags values n) memo
+pub record WalkReady (w : Walk) (end n : ℕ) (tags values work : List ℕ) : Type 0 where
+  pub state : State end n tags values
+  pub right : FormsMemo (entryForm w end tags values) (poolOf tags values n) work
 
 -- a form is put into the pool of n cells
 abbrev pub Formed : Walk → ℕ → ℕ → List ℕ → List ℕ → List ℕ → Normal (List ℕ) ℕ → Built → List ℕ → List ℕ → List ℕ → Type 0
-Formed w lim n tags values memo f r tags′ values′ memo′ =
-    Builds (entryForm w lim tags values) lim tags values memo (intern f (poolOf tags values n)) r tags′ values′ memo′
+Formed w end n tags values work f r tags′ values′ work′ =
+    Builds (entryForm w end tags values) end tags values work (intern f (poolOf tags values n)) r tags′ values′ work′
 
 -- the form of the term at t, which the memo then has
-pub record Known (w : Walk) (lim n : ℕ) (tags values memo : List ℕ) (t : ℕ) (polarity : Bool) (r : Built) (tags′ values′ memo′ : List ℕ) : Type 0 where
-  pub formed : Formed w lim n tags values memo (formOf w lim tags values t polarity) r tags′ values′ memo′
-  pub known : (p : TermPlace) (m : ℕ) → r ≡ At p m → getD memo′ (slotOf t polarity) 0 ≡ suc (p .0)
+pub record Known (w : Walk) (end n : ℕ) (tags values work : List ℕ) (t : ℕ) (polarity : Bool) (r : Built) (tags′ values′ work′ : List ℕ) : Type 0 where
+  pub formed : Formed w end n tags values work (formOf w end tags values t polarity) r tags′ values′ work′
+  pub known : (p : TermPlace) (m : ℕ) → r ≡ At p m → getD (memoOf work′) (slotOf t polarity) 0 ≡ suc (p .0)
 
 -- the forms of the operands of the term at t from i on, whose places the memo then has
 abbrev pub operandForms : Walk → ℕ → List ℕ → List ℕ → ℕ → Bool → ℕ → Normals (List ℕ) ℕ
-operandForms w lim tags values t polarity i = normalsOf (λ u. formOf w lim tags values u polarity) (drop i (runOf lim tags values t))
+operandForms w end tags values t polarity i = normalsOf (λ u. formOf w end tags values u polarity) (drop i (runOf end tags values t))
 
-pub record OperandsKnown (w : Walk) (lim n : ℕ) (tags values memo : List ℕ) (t : ℕ) (polarity : Bool) (i : ℕ) (r : Built) (tags′ values′ memo′ : List ℕ) : Type 0 where
-  pub builds : Builds (entryForm w lim tags values) lim tags values memo
-      (record { pool = interns (operandForms w lim tags values t polarity i) (poolOf tags values n) .pool; place = 0 }) r tags′ values′ memo′
+pub record OperandsKnown (w : Walk) (end n : ℕ) (tags values work : List ℕ) (t : ℕ) (polarity : Bool) (i : ℕ) (r : Built) (tags′ values′ work′ : List ℕ) : Type 0 where
+  pub builds : Builds (entryForm w end tags values) end tags values work
+      (record { pool = interns (operandForms w end tags values t polarity i) (poolOf tags values n) .pool; place = 0 }) r tags′ values′ work′
   pub places : (p : TermPlace) (m : ℕ) → r ≡ At p m
-      → interns (operandForms w lim tags values t polarity i) (poolOf tags values n) .places ≡ placesIn memo′ polarity (drop i (runOf lim tags values t))
+      → interns (operandForms w end tags values t polarity i) (poolOf tags values n) .places ≡ placesIn (memoOf work′) polarity (drop i (runOf end tags values t))
 
 -- every operand of the term at t stands before it
-pub record Before (lim : ℕ) (tags values : List ℕ) (t : ℕ) : Type 0 where
-  pub operand : (i : ℕ) → i < length (runOf lim tags values t) → getD (runOf lim tags values t) i 0 < t
+pub record Before (end : ℕ) (tags values : List ℕ) (t : ℕ) : Type 0 where
+  pub operand : (i : ℕ) → i < length (runOf end tags values t) → getD (runOf end tags values t) i 0 < t
 
--- four terms of the first lim cells
-pub record AllBelow (lim a b c d : ℕ) : Type 0 where
-  pub first : a < lim
-  pub second : b < lim
-  pub third : c < lim
-  pub fourth : d < lim
+-- four terms before `end`
+pub record AllBelow (end a b c d : ℕ) : Type 0 where
+  pub first : a < end
+  pub second : b < end
+  pub third : c < end
+  pub fourth : d < end
 
 -- the two pairs that `ite` and `=` become; f gives the form of a term at a polarity
 abbrev pub twoPairs : Bool → (ℕ → Bool → Normal (List ℕ) ℕ) → ℕ → ℕ → ℕ → Bool → ℕ → Normal (List ℕ) ℕ

@@ -1,5 +1,5 @@
-// One new term at a time, put into the pool over parts that stand there: a connective, a quantifier, a pair, a literal. `out` holds the
-// cells of the new term; where the parts stand is read from the memo of a walk.
+// One new term at a time, put into the pool over parts that stand there: a connective, a quantifier, a pair, a literal. A walk lends one
+// array: its memo, from which it is read where the parts stand, and then the row, which takes the cells of the new term.
 ghost use Rattle.cells.specs.Limits.{cellLimit};
 use crate::build::Built;
 use crate::build::put;
@@ -13,14 +13,19 @@ use pool::run::operands;
 use pool::tags::NOT;
 ghost use mathlib.Core.Path.{_≡_};
 ghost use mathlib.Core.List.{_∷_, []};
-ghost use Prim.Native.Nat.{_-_, _≤_, _<_};
+ghost use Prim.Native.Nat.{_-_, _<_};
 ghost use lib.ListN.{length, getD, drop};
 ghost use Rattle.formulas.specs.Normal.{flip, lit};
 ghost use Rattle.formulas.specs.Built.{put, intern};
 ghost use Rattle.formulas.specs.Formula.{quantifierTag, connectiveTag};
 ghost use Rattle.building.specs.Arrays.{poolOf};
 ghost use Rattle.descriptions.specs.Index.{Index};
-ghost use Rattle.building.specs.Walk.{State, Indexed, Puts, slotOf, placesIn, runOf, FirstCells};
+ghost use Rattle.building.specs.Walk.{State, Indexed, Puts, slotOf, placesIn, runOf, workSize, memoOf, MemoKept, RowHolds};
+
+// The array of a walk: an entry for each cell and polarity, then the row.
+pub const WORK: usize = 24576;
+
+const ROW: usize = 16384;
 
 // The memo's index of a term and a polarity: the forms at true polarity come first.
 pub fn slot(t: TermPlace, polarity: bool) -> usize
@@ -34,10 +39,11 @@ pub fn slot(t: TermPlace, polarity: bool) -> usize
 }
 
 // Where the memo has the form of a term, and 0 where it has none.
-fn place_in(memo: &[u32], t: TermPlace, polarity: bool) -> TermPlace
-    ensures { λ r. ⌜ r .0 ≡ getD (now (memo .entry)) (slotOf (t .0) polarity) 0 - 1 ⌝ }
+fn place_in(work: &[u32; WORK], t: TermPlace, polarity: bool) -> TermPlace
+    ensures { λ r. ⌜ r .0 ≡ getD (memoOf (now (work .entry))) (slotOf (t .0) polarity) 0 - 1 ⌝ }
 {
-    let known = cell(memo, slot(t, polarity));
+    let all = &work[..];
+    let known = cell(&all[..ROW], slot(t, polarity));
     if known == 0 {
         return TermPlace(0);
     }
@@ -54,43 +60,47 @@ fn flip(b: bool, polarity: bool) -> bool
     !b
 }
 
-// Writes the sort Bool and the places of the operands' forms to `out`, and gives their number.
-fn gather(run: &[u32], memo: &[u32], out: &mut [u32], polarity: bool) -> usize
-    requires { ⌜ length (now run) < length (now out) ⌝ }
-    ensures { λ r. ⌜ FirstCells (0 ∷ placesIn (now (memo .entry)) polarity (now (run .entry))) r (now (out .exit)) ⌝ }
+// Writes the sort Bool and the places of the operands' forms to the row, and gives the row's end.
+fn gather(run: &[u32], work: &mut [u32; WORK], polarity: bool) -> usize
+    requires { ⌜ length (now run) < cellLimit ⌝ }
+    requires { ⌜ length (now work) ≡ workSize ⌝ }
+    ensures { λ r. ⌜ RowHolds (0 ∷ placesIn (memoOf (now (work .entry))) polarity (now (run .entry))) r (now (work .entry)) (now (work .exit)) ⌝ }
 {
-    out[0] = 0;
+    work[ROW] = 0;
+    let mut k = ROW + 1;
     let mut j: usize = 0;
     while j < run.len() {
-        let p = place_in(memo, TermPlace(run[j]), polarity);
-        out[j + 1] = p.0;
+        let p = place_in(work, TermPlace(run[j]), polarity);
+        work[k] = p.0;
+        k += 1;
         j += 1;
     }
-    j + 1
+    k
 }
 
-// Writes the sort Bool, a quantifier's new body and the pairs of its run to `out`, and gives their number.
-fn gather_pairs(run: &[u32], body: TermPlace, out: &mut [u32]) -> usize
-    requires { ⌜ length (now run) < length (now out) ⌝ }
-    requires { ⌜ 2 ≤ length (now out) ⌝ }
-    ensures { λ r. ⌜ FirstCells (0 ∷ body .0 ∷ drop 1 (now (run .entry))) r (now (out .exit)) ⌝ }
+// Writes the sort Bool, a quantifier's new body and the pairs of its run to the row, and gives the row's end.
+fn gather_pairs(run: &[u32], body: TermPlace, work: &mut [u32; WORK]) -> usize
+    requires { ⌜ length (now run) < cellLimit ⌝ }
+    requires { ⌜ length (now work) ≡ workSize ⌝ }
+    ensures { λ r. ⌜ RowHolds (0 ∷ body .0 ∷ drop 1 (now (run .entry))) r (now (work .entry)) (now (work .exit)) ⌝ }
 {
-    out[0] = 0;
-    out[1] = body.0;
+    work[ROW] = 0;
+    work[ROW + 1] = body.0;
+    let mut k = ROW + 2;
     let mut j: usize = 1;
     while j < run.len() {
-        out[j + 1] = run[j];
+        work[k] = run[j];
+        k += 1;
         j += 1;
     }
-    j + 1
+    k
 }
 
 // Puts the connective of the term at t over its operands' forms, which the memo has.
 pub fn put_connective(
     tags: &mut [u32],
     values: &mut [u32],
-    memo: &[u32],
-    out: &mut [u32],
+    work: &mut [u32; WORK],
     index: &mut [u32; INDEX],
     end: usize,
     n: usize,
@@ -99,23 +109,25 @@ pub fn put_connective(
     b: bool,
 ) -> Built
     requires { ⌜ State end n (now tags) (now values) ⌝ }
-    requires { ⌜ cellLimit ≤ length (now out) ⌝ }
+    requires { ⌜ length (now work) ≡ workSize ⌝ }
     requires { ⌜ t .0 < end ⌝ }
     requires { ⌜ Index (now tags) (now values) n (now index) ⌝ }
-    ensures { λ r. ⌜ Puts n (now (tags .entry)) (now (values .entry)) (put (poolOf (now (tags .entry)) (now (values .entry)) n) (connectiveTag (flip b polarity)) (0 ∷ placesIn (now (memo .entry)) polarity (runOf end (now (tags .entry)) (now (values .entry)) (t .0)))) r (now (tags .exit)) (now (values .exit)) ⌝ }
+    ensures { λ r. ⌜ Puts n (now (tags .entry)) (now (values .entry)) (put (poolOf (now (tags .entry)) (now (values .entry)) n) (connectiveTag (flip b polarity)) (0 ∷ placesIn (memoOf (now (work .entry))) polarity (runOf end (now (tags .entry)) (now (values .entry)) (t .0)))) r (now (tags .exit)) (now (values .exit)) ⌝ }
     ensures { λ r. ⌜ Indexed r (now (tags .exit)) (now (values .exit)) (now (index .exit)) ⌝ }
+    ensures { λ _. ⌜ MemoKept (now (work .entry)) (now (work .exit)) ⌝ }
 {
     let run = operands(&tags[..end], &values[..end], t);
-    let k = gather(run, memo, out, polarity);
+    let k = gather(run, work, polarity);
     let tag = connective_tag(flip(b, polarity));
-    put(tags, values, index, n, tag, &out[..k])
+    let all = &work[..];
+    put(tags, values, index, n, tag, &all[ROW..k])
 }
 
 // Puts the quantifier of the term at t over its body's form.
 pub fn put_quantifier(
     tags: &mut [u32],
     values: &mut [u32],
-    out: &mut [u32],
+    work: &mut [u32; WORK],
     index: &mut [u32; INDEX],
     end: usize,
     n: usize,
@@ -125,16 +137,18 @@ pub fn put_quantifier(
     body: TermPlace,
 ) -> Built
     requires { ⌜ State end n (now tags) (now values) ⌝ }
-    requires { ⌜ cellLimit ≤ length (now out) ⌝ }
+    requires { ⌜ length (now work) ≡ workSize ⌝ }
     requires { ⌜ t .0 < end ⌝ }
     requires { ⌜ Index (now tags) (now values) n (now index) ⌝ }
     ensures { λ r. ⌜ Puts n (now (tags .entry)) (now (values .entry)) (put (poolOf (now (tags .entry)) (now (values .entry)) n) (quantifierTag (flip b polarity)) (0 ∷ body .0 ∷ drop 1 (runOf end (now (tags .entry)) (now (values .entry)) (t .0)))) r (now (tags .exit)) (now (values .exit)) ⌝ }
     ensures { λ r. ⌜ Indexed r (now (tags .exit)) (now (values .exit)) (now (index .exit)) ⌝ }
+    ensures { λ _. ⌜ MemoKept (now (work .entry)) (now (work .exit)) ⌝ }
 {
     let run = operands(&tags[..end], &values[..end], t);
-    let k = gather_pairs(run, body, out);
+    let k = gather_pairs(run, body, work);
     let tag = quantifier_tag(flip(b, polarity));
-    put(tags, values, index, n, tag, &out[..k])
+    let all = &work[..];
+    put(tags, values, index, n, tag, &all[ROW..k])
 }
 
 // Puts a connective of two operands.

@@ -1,7 +1,8 @@
-// The negation normal form of a term, built into the pool. The source pool is the cells before `end`. A memo keeps where the
-// form of a term at a polarity stands, one more than its place, so that each is built once however terms are shared.
-// `out` holds the cells of one new term at a time.
+// The negation normal form of a term, built into the pool. The source pool is the cells before `end`. In the array `work` a memo
+// keeps where the form of a term at a polarity stands, one more than its place, so that each is built once however terms are shared;
+// the row after it holds the cells of one new term at a time.
 use building::build::Built;
+use building::terms::WORK;
 use building::terms::literal;
 use building::terms::put_connective;
 use building::terms::put_pair;
@@ -11,13 +12,11 @@ use formulas::view::View;
 use formulas::view::view_of;
 use pool::TermPlace;
 use pool::index::INDEX;
-use pool::limits::CELLS;
 use pool::run::operands;
 ghost use mathlib.Core.Path.{_≡_};
 ghost use mathlib.Core.Bool.{not};
-ghost use Prim.Native.Nat.{_≤_, _<_};
-ghost use lib.ListN.{length, take};
-ghost use Rattle.cells.specs.Limits.{cellLimit};
+ghost use Prim.Native.Nat.{_<_};
+ghost use lib.ListN.{take};
 ghost use Rattle.formulas.specs.declared.view.View.the-variants.{AndOr, Quantifier};
 ghost use Rattle.formulas.specs.Formula.{viewOf};
 ghost use Rattle.formulas.specs.Normal.{pair};
@@ -26,9 +25,6 @@ ghost use Rattle.building.specs.Arrays.{poolOf};
 ghost use Rattle.descriptions.specs.Index.{Index};
 ghost use Rattle.building.specs.Walk.{State, Indexed, normal, normalOf, Formed, Known, OperandsKnown, Before, AllBelow, twoPairs, NormalBuilt, WalkReady};
 
-// A form for each cell and polarity.
-const FORMS: usize = 16384;
-
 // The place of a term, and a polarity.
 struct Signed(TermPlace, bool);
 
@@ -36,30 +32,28 @@ struct Signed(TermPlace, bool);
 fn negation_normal_form(
     tags: &mut [u32],
     values: &mut [u32],
-    memo: &mut [u32],
-    out: &mut [u32],
+    work: &mut [u32; WORK],
     index: &mut [u32; INDEX],
     end: usize,
     n: usize,
     t: TermPlace,
     polarity: bool,
 ) -> Built
-    requires { ⌜ WalkReady normal end n (now tags) (now values) (now memo) ⌝ }
-    requires { ⌜ cellLimit ≤ length (now out) ⌝ }
+    requires { ⌜ WalkReady normal end n (now tags) (now values) (now work) ⌝ }
     requires { ⌜ t .0 < end ⌝ }
     requires { ⌜ Index (now tags) (now values) n (now index) ⌝ }
-    ensures { λ r. ⌜ Known normal end n (now (tags .entry)) (now (values .entry)) (now (memo .entry)) (t .0) polarity r (now (tags .exit)) (now (values .exit)) (now (memo .exit)) ⌝ }
+    ensures { λ r. ⌜ Known normal end n (now (tags .entry)) (now (values .entry)) (now (work .entry)) (t .0) polarity r (now (tags .exit)) (now (values .exit)) (now (work .exit)) ⌝ }
     ensures { λ r. ⌜ Indexed r (now (tags .exit)) (now (values .exit)) (now (index .exit)) ⌝ }
 {
     let i = slot(t, polarity);
-    let known = memo[i];
+    let known = work[i];
     if known != 0 {
         return Built::At(TermPlace(known - 1), n);
     }
-    let Built::At(p, m) = expand(tags, values, memo, out, index, end, n, t, polarity) else {
+    let Built::At(p, m) = expand(tags, values, work, index, end, n, t, polarity) else {
         return Built::Full;
     };
-    memo[i] = p.0 + 1;
+    work[i] = p.0 + 1;
     Built::At(p, m)
 }
 
@@ -67,40 +61,38 @@ fn negation_normal_form(
 fn expand(
     tags: &mut [u32],
     values: &mut [u32],
-    memo: &mut [u32],
-    out: &mut [u32],
+    work: &mut [u32; WORK],
     index: &mut [u32; INDEX],
     end: usize,
     n: usize,
     t: TermPlace,
     polarity: bool,
 ) -> Built
-    requires { ⌜ WalkReady normal end n (now tags) (now values) (now memo) ⌝ }
-    requires { ⌜ cellLimit ≤ length (now out) ⌝ }
+    requires { ⌜ WalkReady normal end n (now tags) (now values) (now work) ⌝ }
     requires { ⌜ t .0 < end ⌝ }
     requires { ⌜ Index (now tags) (now values) n (now index) ⌝ }
-    ensures { λ r. ⌜ Formed normal end n (now (tags .entry)) (now (values .entry)) (now (memo .entry)) (normalOf end (now (tags .entry)) (now (values .entry)) (t .0) polarity) r (now (tags .exit)) (now (values .exit)) (now (memo .exit)) ⌝ }
+    ensures { λ r. ⌜ Formed normal end n (now (tags .entry)) (now (values .entry)) (now (work .entry)) (normalOf end (now (tags .entry)) (now (values .entry)) (t .0) polarity) r (now (tags .exit)) (now (values .exit)) (now (work .exit)) ⌝ }
     ensures { λ r. ⌜ Indexed r (now (tags .exit)) (now (values .exit)) (now (index .exit)) ⌝ }
 {
     let view = view_of(&tags[..end], &values[..end], t);
     match view {
         View::Opaque => literal(tags, values, index, n, t, polarity),
-        View::Not(a) => negation_normal_form(tags, values, memo, out, index, end, n, a, !polarity),
-        View::AndOr(b) => connective_form(tags, values, memo, out, index, end, n, t, polarity, b),
+        View::Not(a) => negation_normal_form(tags, values, work, index, end, n, a, !polarity),
+        View::AndOr(b) => connective_form(tags, values, work, index, end, n, t, polarity, b),
         View::Implies(a, b) => {
             let first = Signed(a, !polarity);
-            pair_of(tags, values, memo, out, index, end, n, polarity, first, b)
+            pair_of(tags, values, work, index, end, n, polarity, first, b)
         }
         View::Ite(a, b, c) => {
             let d = Signed(a, polarity);
-            two_pairs(tags, values, memo, out, index, end, n, polarity, a, b, d, c)
+            two_pairs(tags, values, work, index, end, n, polarity, a, b, d, c)
         }
         View::Iff(a, b) => {
             let d = Signed(b, !polarity);
-            two_pairs(tags, values, memo, out, index, end, n, polarity, a, b, d, a)
+            two_pairs(tags, values, work, index, end, n, polarity, a, b, d, a)
         }
         View::Quantifier(b, body) => {
-            quantifier_form(tags, values, memo, out, index, end, n, t, polarity, b, body)
+            quantifier_form(tags, values, work, index, end, n, t, polarity, b, body)
         }
     }
 }
@@ -109,8 +101,7 @@ fn expand(
 fn connective_form(
     tags: &mut [u32],
     values: &mut [u32],
-    memo: &mut [u32],
-    out: &mut [u32],
+    work: &mut [u32; WORK],
     index: &mut [u32; INDEX],
     end: usize,
     n: usize,
@@ -118,27 +109,24 @@ fn connective_form(
     polarity: bool,
     b: bool,
 ) -> Built
-    requires { ⌜ WalkReady normal end n (now tags) (now values) (now memo) ⌝ }
-    requires { ⌜ cellLimit ≤ length (now out) ⌝ }
+    requires { ⌜ WalkReady normal end n (now tags) (now values) (now work) ⌝ }
     requires { ⌜ t .0 < end ⌝ }
     requires { ⌜ viewOf (take end (now tags)) (take end (now values)) (t .0) ≡ AndOr b ⌝ }
     requires { ⌜ Index (now tags) (now values) n (now index) ⌝ }
-    ensures { λ r. ⌜ Formed normal end n (now (tags .entry)) (now (values .entry)) (now (memo .entry)) (normalOf end (now (tags .entry)) (now (values .entry)) (t .0) polarity) r (now (tags .exit)) (now (values .exit)) (now (memo .exit)) ⌝ }
+    ensures { λ r. ⌜ Formed normal end n (now (tags .entry)) (now (values .entry)) (now (work .entry)) (normalOf end (now (tags .entry)) (now (values .entry)) (t .0) polarity) r (now (tags .exit)) (now (values .exit)) (now (work .exit)) ⌝ }
     ensures { λ r. ⌜ Indexed r (now (tags .exit)) (now (values .exit)) (now (index .exit)) ⌝ }
 {
-    let Built::At(_, m) = operand_forms(tags, values, memo, out, index, end, n, t, 0, polarity)
-    else {
+    let Built::At(_, m) = operand_forms(tags, values, work, index, end, n, t, 0, polarity) else {
         return Built::Full;
     };
-    put_connective(tags, values, memo, out, index, end, m, t, polarity, b)
+    put_connective(tags, values, work, index, end, m, t, polarity, b)
 }
 
 // The same for a quantifier: over the normal form of its body.
 fn quantifier_form(
     tags: &mut [u32],
     values: &mut [u32],
-    memo: &mut [u32],
-    out: &mut [u32],
+    work: &mut [u32; WORK],
     index: &mut [u32; INDEX],
     end: usize,
     n: usize,
@@ -147,27 +135,25 @@ fn quantifier_form(
     b: bool,
     body: TermPlace,
 ) -> Built
-    requires { ⌜ WalkReady normal end n (now tags) (now values) (now memo) ⌝ }
-    requires { ⌜ cellLimit ≤ length (now out) ⌝ }
+    requires { ⌜ WalkReady normal end n (now tags) (now values) (now work) ⌝ }
     requires { ⌜ t .0 < end ⌝ }
     requires { ⌜ viewOf (take end (now tags)) (take end (now values)) (t .0) ≡ Quantifier b body ⌝ }
     requires { ⌜ Index (now tags) (now values) n (now index) ⌝ }
-    ensures { λ r. ⌜ Formed normal end n (now (tags .entry)) (now (values .entry)) (now (memo .entry)) (normalOf end (now (tags .entry)) (now (values .entry)) (t .0) polarity) r (now (tags .exit)) (now (values .exit)) (now (memo .exit)) ⌝ }
+    ensures { λ r. ⌜ Formed normal end n (now (tags .entry)) (now (values .entry)) (now (work .entry)) (normalOf end (now (tags .entry)) (now (values .entry)) (t .0) polarity) r (now (tags .exit)) (now (values .exit)) (now (work .exit)) ⌝ }
     ensures { λ r. ⌜ Indexed r (now (tags .exit)) (now (values .exit)) (now (index .exit)) ⌝ }
 {
-    let form = negation_normal_form(tags, values, memo, out, index, end, n, body, polarity);
+    let form = negation_normal_form(tags, values, work, index, end, n, body, polarity);
     let Built::At(p, m) = form else {
         return Built::Full;
     };
-    put_quantifier(tags, values, out, index, end, m, t, polarity, b, p)
+    put_quantifier(tags, values, work, index, end, m, t, polarity, b, p)
 }
 
 // The normal forms of the operands of the term at t from i on. The memo then has their places, and the answer's is 0.
 fn operand_forms(
     tags: &mut [u32],
     values: &mut [u32],
-    memo: &mut [u32],
-    out: &mut [u32],
+    work: &mut [u32; WORK],
     index: &mut [u32; INDEX],
     end: usize,
     n: usize,
@@ -175,12 +161,11 @@ fn operand_forms(
     i: usize,
     polarity: bool,
 ) -> Built
-    requires { ⌜ WalkReady normal end n (now tags) (now values) (now memo) ⌝ }
-    requires { ⌜ cellLimit ≤ length (now out) ⌝ }
+    requires { ⌜ WalkReady normal end n (now tags) (now values) (now work) ⌝ }
     requires { ⌜ t .0 < end ⌝ }
     requires { ⌜ Before end (now tags) (now values) (t .0) ⌝ }
     requires { ⌜ Index (now tags) (now values) n (now index) ⌝ }
-    ensures { λ r. ⌜ OperandsKnown normal end n (now (tags .entry)) (now (values .entry)) (now (memo .entry)) (t .0) polarity i r (now (tags .exit)) (now (values .exit)) (now (memo .exit)) ⌝ }
+    ensures { λ r. ⌜ OperandsKnown normal end n (now (tags .entry)) (now (values .entry)) (now (work .entry)) (t .0) polarity i r (now (tags .exit)) (now (values .exit)) (now (work .exit)) ⌝ }
     ensures { λ r. ⌜ Indexed r (now (tags .exit)) (now (values .exit)) (now (index .exit)) ⌝ }
 {
     let run = operands(&tags[..end], &values[..end], t);
@@ -188,19 +173,18 @@ fn operand_forms(
         return Built::At(TermPlace(0), n);
     }
     let u = TermPlace(run[i]);
-    let Built::At(_, m) = negation_normal_form(tags, values, memo, out, index, end, n, u, polarity)
+    let Built::At(_, m) = negation_normal_form(tags, values, work, index, end, n, u, polarity)
     else {
         return Built::Full;
     };
-    operand_forms(tags, values, memo, out, index, end, m, t, i + 1, polarity)
+    operand_forms(tags, values, work, index, end, m, t, i + 1, polarity)
 }
 
 // A pair of the normal forms of a and, at the polarity, of b: their `or`, and their `and` at false polarity.
 fn pair_of(
     tags: &mut [u32],
     values: &mut [u32],
-    memo: &mut [u32],
-    out: &mut [u32],
+    work: &mut [u32; WORK],
     index: &mut [u32; INDEX],
     end: usize,
     n: usize,
@@ -208,19 +192,17 @@ fn pair_of(
     a: Signed,
     b: TermPlace,
 ) -> Built
-    requires { ⌜ WalkReady normal end n (now tags) (now values) (now memo) ⌝ }
-    requires { ⌜ cellLimit ≤ length (now out) ⌝ }
+    requires { ⌜ WalkReady normal end n (now tags) (now values) (now work) ⌝ }
     requires { ⌜ a .0 .0 < end ⌝ }
     requires { ⌜ b .0 < end ⌝ }
     requires { ⌜ Index (now tags) (now values) n (now index) ⌝ }
-    ensures { λ r. ⌜ Formed normal end n (now (tags .entry)) (now (values .entry)) (now (memo .entry)) (pair (not polarity) (normalOf end (now (tags .entry)) (now (values .entry)) (a .0 .0) (a .1)) (normalOf end (now (tags .entry)) (now (values .entry)) (b .0) polarity)) r (now (tags .exit)) (now (values .exit)) (now (memo .exit)) ⌝ }
+    ensures { λ r. ⌜ Formed normal end n (now (tags .entry)) (now (values .entry)) (now (work .entry)) (pair (not polarity) (normalOf end (now (tags .entry)) (now (values .entry)) (a .0 .0) (a .1)) (normalOf end (now (tags .entry)) (now (values .entry)) (b .0) polarity)) r (now (tags .exit)) (now (values .exit)) (now (work .exit)) ⌝ }
     ensures { λ r. ⌜ Indexed r (now (tags .exit)) (now (values .exit)) (now (index .exit)) ⌝ }
 {
-    let Built::At(p, m) = negation_normal_form(tags, values, memo, out, index, end, n, a.0, a.1)
-    else {
+    let Built::At(p, m) = negation_normal_form(tags, values, work, index, end, n, a.0, a.1) else {
         return Built::Full;
     };
-    let Built::At(q, l) = negation_normal_form(tags, values, memo, out, index, end, m, b, polarity)
+    let Built::At(q, l) = negation_normal_form(tags, values, work, index, end, m, b, polarity)
     else {
         return Built::Full;
     };
@@ -232,8 +214,7 @@ fn pair_of(
 fn two_pairs(
     tags: &mut [u32],
     values: &mut [u32],
-    memo: &mut [u32],
-    out: &mut [u32],
+    work: &mut [u32; WORK],
     index: &mut [u32; INDEX],
     end: usize,
     n: usize,
@@ -243,18 +224,17 @@ fn two_pairs(
     c: Signed,
     d: TermPlace,
 ) -> Built
-    requires { ⌜ WalkReady normal end n (now tags) (now values) (now memo) ⌝ }
-    requires { ⌜ cellLimit ≤ length (now out) ⌝ }
+    requires { ⌜ WalkReady normal end n (now tags) (now values) (now work) ⌝ }
     requires { ⌜ AllBelow end (a .0) (b .0) (c .0 .0) (d .0) ⌝ }
     requires { ⌜ Index (now tags) (now values) n (now index) ⌝ }
-    ensures { λ r. ⌜ Formed normal end n (now (tags .entry)) (now (values .entry)) (now (memo .entry)) (twoPairs polarity (λ t p. normalOf end (now (tags .entry)) (now (values .entry)) t p) (a .0) (b .0) (c .0 .0) (c .1) (d .0)) r (now (tags .exit)) (now (values .exit)) (now (memo .exit)) ⌝ }
+    ensures { λ r. ⌜ Formed normal end n (now (tags .entry)) (now (values .entry)) (now (work .entry)) (twoPairs polarity (λ t p. normalOf end (now (tags .entry)) (now (values .entry)) t p) (a .0) (b .0) (c .0 .0) (c .1) (d .0)) r (now (tags .exit)) (now (values .exit)) (now (work .exit)) ⌝ }
     ensures { λ r. ⌜ Indexed r (now (tags .exit)) (now (values .exit)) (now (index .exit)) ⌝ }
 {
     let f = Signed(a, !polarity);
-    let Built::At(p, m) = pair_of(tags, values, memo, out, index, end, n, polarity, f, b) else {
+    let Built::At(p, m) = pair_of(tags, values, work, index, end, n, polarity, f, b) else {
         return Built::Full;
     };
-    let Built::At(q, l) = pair_of(tags, values, memo, out, index, end, m, polarity, c, d) else {
+    let Built::At(q, l) = pair_of(tags, values, work, index, end, m, polarity, c, d) else {
         return Built::Full;
     };
     put_pair(tags, values, index, l, polarity, p, q)
@@ -275,7 +255,6 @@ pub fn build_normal_form(
     ensures { λ r. ⌜ NormalBuilt n (now (tags .entry)) (now (values .entry)) (normalForm (poolOf (now (tags .entry)) (now (values .entry)) n) (t .0) polarity) r (now (tags .exit)) (now (values .exit)) ⌝ }
     ensures { λ r. ⌜ Indexed r (now (tags .exit)) (now (values .exit)) (now (index .exit)) ⌝ }
 {
-    let mut memo = [0u32; FORMS];
-    let mut out = [0u32; CELLS];
-    negation_normal_form(tags, values, &mut memo, &mut out, index, n, n, t, polarity)
+    let mut work = [0u32; WORK];
+    negation_normal_form(tags, values, &mut work, index, n, n, t, polarity)
 }

@@ -1,18 +1,16 @@
 // The taken-out form of a term in normal form, built into the pool: foralls are taken out through `and`, `or` and forall alone.
-// The source pool is the cells before `end`. The memo and `out` are as for the normal form, at true polarity alone.
+// The source pool is the cells before `end`. The array `work` is as for the normal form, at true polarity alone.
 use building::build::Built;
+use building::terms::WORK;
 use building::terms::put_connective;
 use building::terms::slot;
 use formulas::view::NormalView;
 use formulas::view::normal_view;
 use pool::TermPlace;
 use pool::index::INDEX;
-use pool::limits::CELLS;
 use pool::run::operands;
 ghost use mathlib.Core.Bool.{true};
-ghost use Prim.Native.Nat.{_≤_, _<_};
-ghost use Rattle.cells.specs.Limits.{cellLimit};
-ghost use lib.ListN.{length};
+ghost use Prim.Native.Nat.{_<_};
 ghost use Rattle.formulas.specs.Built.{takenOut};
 ghost use Rattle.building.specs.Arrays.{poolOf};
 ghost use Rattle.descriptions.specs.Index.{Index};
@@ -22,29 +20,27 @@ ghost use Rattle.building.specs.Walk.{State, Indexed, taken-out, formOf, Formed
 fn prenex_forall(
     tags: &mut [u32],
     values: &mut [u32],
-    memo: &mut [u32],
-    out: &mut [u32],
+    work: &mut [u32; WORK],
     index: &mut [u32; INDEX],
     end: usize,
     n: usize,
     x: TermPlace,
 ) -> Built
-    requires { ⌜ WalkReady taken-out end n (now tags) (now values) (now memo) ⌝ }
-    requires { ⌜ cellLimit ≤ length (now out) ⌝ }
+    requires { ⌜ WalkReady taken-out end n (now tags) (now values) (now work) ⌝ }
     requires { ⌜ x .0 < end ⌝ }
     requires { ⌜ Index (now tags) (now values) n (now index) ⌝ }
-    ensures { λ r. ⌜ Known taken-out end n (now (tags .entry)) (now (values .entry)) (now (memo .entry)) (x .0) true r (now (tags .exit)) (now (values .exit)) (now (memo .exit)) ⌝ }
+    ensures { λ r. ⌜ Known taken-out end n (now (tags .entry)) (now (values .entry)) (now (work .entry)) (x .0) true r (now (tags .exit)) (now (values .exit)) (now (work .exit)) ⌝ }
     ensures { λ r. ⌜ Indexed r (now (tags .exit)) (now (values .exit)) (now (index .exit)) ⌝ }
 {
     let i = slot(x, true);
-    let known = memo[i];
+    let known = work[i];
     if known != 0 {
         return Built::At(TermPlace(known - 1), n);
     }
-    let Built::At(p, m) = take_out(tags, values, memo, out, index, end, n, x) else {
+    let Built::At(p, m) = take_out(tags, values, work, index, end, n, x) else {
         return Built::Full;
     };
-    memo[i] = p.0 + 1;
+    work[i] = p.0 + 1;
     Built::At(p, m)
 }
 
@@ -52,29 +48,27 @@ fn prenex_forall(
 fn take_out(
     tags: &mut [u32],
     values: &mut [u32],
-    memo: &mut [u32],
-    out: &mut [u32],
+    work: &mut [u32; WORK],
     index: &mut [u32; INDEX],
     end: usize,
     n: usize,
     x: TermPlace,
 ) -> Built
-    requires { ⌜ WalkReady taken-out end n (now tags) (now values) (now memo) ⌝ }
-    requires { ⌜ cellLimit ≤ length (now out) ⌝ }
+    requires { ⌜ WalkReady taken-out end n (now tags) (now values) (now work) ⌝ }
     requires { ⌜ x .0 < end ⌝ }
     requires { ⌜ Index (now tags) (now values) n (now index) ⌝ }
-    ensures { λ r. ⌜ Formed taken-out end n (now (tags .entry)) (now (values .entry)) (now (memo .entry)) (formOf taken-out end (now (tags .entry)) (now (values .entry)) (x .0) true) r (now (tags .exit)) (now (values .exit)) (now (memo .exit)) ⌝ }
+    ensures { λ r. ⌜ Formed taken-out end n (now (tags .entry)) (now (values .entry)) (now (work .entry)) (formOf taken-out end (now (tags .entry)) (now (values .entry)) (x .0) true) r (now (tags .exit)) (now (values .exit)) (now (work .exit)) ⌝ }
     ensures { λ r. ⌜ Indexed r (now (tags .exit)) (now (values .exit)) (now (index .exit)) ⌝ }
 {
     let view = normal_view(&tags[..end], &values[..end], x);
     match view {
         NormalView::Literal => Built::At(x, n),
-        NormalView::Forall(body) => prenex_forall(tags, values, memo, out, index, end, n, body),
+        NormalView::Forall(body) => prenex_forall(tags, values, work, index, end, n, body),
         NormalView::Connective(b) => {
-            let Built::At(_, m) = operand_forms(tags, values, memo, out, index, end, n, x, 0) else {
+            let Built::At(_, m) = operand_forms(tags, values, work, index, end, n, x, 0) else {
                 return Built::Full;
             };
-            put_connective(tags, values, memo, out, index, end, m, x, true, b)
+            put_connective(tags, values, work, index, end, m, x, true, b)
         }
     }
 }
@@ -83,20 +77,18 @@ fn take_out(
 fn operand_forms(
     tags: &mut [u32],
     values: &mut [u32],
-    memo: &mut [u32],
-    out: &mut [u32],
+    work: &mut [u32; WORK],
     index: &mut [u32; INDEX],
     end: usize,
     n: usize,
     x: TermPlace,
     i: usize,
 ) -> Built
-    requires { ⌜ WalkReady taken-out end n (now tags) (now values) (now memo) ⌝ }
-    requires { ⌜ cellLimit ≤ length (now out) ⌝ }
+    requires { ⌜ WalkReady taken-out end n (now tags) (now values) (now work) ⌝ }
     requires { ⌜ x .0 < end ⌝ }
     requires { ⌜ Before end (now tags) (now values) (x .0) ⌝ }
     requires { ⌜ Index (now tags) (now values) n (now index) ⌝ }
-    ensures { λ r. ⌜ OperandsKnown taken-out end n (now (tags .entry)) (now (values .entry)) (now (memo .entry)) (x .0) true i r (now (tags .exit)) (now (values .exit)) (now (memo .exit)) ⌝ }
+    ensures { λ r. ⌜ OperandsKnown taken-out end n (now (tags .entry)) (now (values .entry)) (now (work .entry)) (x .0) true i r (now (tags .exit)) (now (values .exit)) (now (work .exit)) ⌝ }
     ensures { λ r. ⌜ Indexed r (now (tags .exit)) (now (values .exit)) (now (index .exit)) ⌝ }
 {
     let run = operands(&tags[..end], &values[..end], x);
@@ -104,10 +96,10 @@ fn operand_forms(
         return Built::At(TermPlace(0), n);
     }
     let u = TermPlace(run[i]);
-    let Built::At(_, m) = prenex_forall(tags, values, memo, out, index, end, n, u) else {
+    let Built::At(_, m) = prenex_forall(tags, values, work, index, end, n, u) else {
         return Built::Full;
     };
-    operand_forms(tags, values, memo, out, index, end, m, x, i + 1)
+    operand_forms(tags, values, work, index, end, m, x, i + 1)
 }
 
 // The taken-out form of the term in normal form at x, put into the pool of n cells.
@@ -124,7 +116,6 @@ pub fn build_taken_out(
     ensures { λ r. ⌜ NormalBuilt n (now (tags .entry)) (now (values .entry)) (takenOut (poolOf (now (tags .entry)) (now (values .entry)) n) (x .0)) r (now (tags .exit)) (now (values .exit)) ⌝ }
     ensures { λ r. ⌜ Indexed r (now (tags .exit)) (now (values .exit)) (now (index .exit)) ⌝ }
 {
-    let mut memo = [0u32; CELLS];
-    let mut out = [0u32; CELLS];
-    prenex_forall(tags, values, &mut memo, &mut out, index, n, n, x)
+    let mut work = [0u32; WORK];
+    prenex_forall(tags, values, &mut work, index, n, n, x)
 }

@@ -55,7 +55,7 @@ fits-not q q′ size h e =
 pub pool-count : (tags values : List ℕ) (n : ℕ) → n ≤ length tags → count (poolOf tags values n) ≡ n
 pool-count tags values n h = length-take-le n tags h
 
-module _ (lim n : ℕ) (tags values : List ℕ) (s : State lim n tags values) where
+module _ (end n : ℕ) (tags values : List ℕ) (s : State end n tags values) where
   counted : count (poolOf tags values n) ≡ n
   counted = pool-count tags values n (s .within)
 

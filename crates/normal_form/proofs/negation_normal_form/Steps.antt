@@ -14,12 +14,12 @@ use Rattle.formulas.specs.Formula.{connectiveTag}
 use Rattle.building.specs.Arrays.{poolOf}
 use Rattle.building.specs.Walk.{Holds, Puts, Builds, normal, normalOf, entryForm, Formed, Known, twoPairs}
 use Rattle.building.proofs.Interning.{becomes-longer, intern-becomes, put-becomes}
-use Rattle.building.proofs.build.Building.{builds-full, builds-holds}
+use Rattle.building.proofs.build.Building.{memo-stays, builds-full, builds-holds}
 use Rattle.building.proofs.build.Walks.{form-same, then-builds, then-put}
 
 -- ---- two operands
-module _ (lim n : ℕ) (tags values memo : List ℕ) (f : Normal (List ℕ) ℕ) (r₁ : Built) (tags₁ values₁ memo₁ : List ℕ)
-    (b₁ : Formed normal lim n tags values memo f r₁ tags₁ values₁ memo₁) (both : Bool) (g : Normal (List ℕ) ℕ) where
+module _ (end n : ℕ) (tags values work : List ℕ) (f : Normal (List ℕ) ℕ) (r₁ : Built) (tags₁ values₁ work₁ : List ℕ)
+    (b₁ : Formed normal end n tags values work f r₁ tags₁ values₁ work₁) (both : Bool) (g : Normal (List ℕ) ℕ) where
   abbrev o₁ : Placed
   o₁ = intern f (poolOf tags values n)
 
@@ -30,83 +30,83 @@ module _ (lim n : ℕ) (tags values memo : List ℕ) (f : Normal (List ℕ) ℕ)
   unfolding intern interns
   put-last = becomes-longer _ _ (put-becomes (o₂ .pool) (connectiveTag both) (0 ∷ o₁ .place ∷ o₂ .place ∷ []))
 
-  left-full : r₁ ≡ Full → Formed normal lim n tags values memo (pair both f g) Full tags₁ values₁ memo₁
+  left-full : r₁ ≡ Full → Formed normal end n tags values work (pair both f g) Full tags₁ values₁ work₁
   left-full e =
-      builds-full (entryForm normal lim tags values) lim tags values memo o₁ r₁ tags₁ values₁ memo₁ b₁ e (intern (pair both f g) (poolOf tags values n))
+      builds-full (entryForm normal end tags values) end tags values work o₁ r₁ tags₁ values₁ work₁ b₁ e (intern (pair both f g) (poolOf tags values n))
       (omega (arith, put-last, becomes-longer _ _ (intern-becomes g (o₁ .pool))))
 
-  module _ (p : TermPlace) (m : ℕ) (e₁ : r₁ ≡ At p m) (r₂ : Built) (tags₂ values₂ memo₂ : List ℕ) (b₂ : Formed normal lim m tags₁ values₁ memo₁ g r₂ tags₂ values₂ memo₂) where
-    h₁ : Holds lim o₁ (p .0) m tags₁ values₁
-    h₁ = builds-holds (entryForm normal lim tags values) lim tags values memo o₁ r₁ tags₁ values₁ memo₁ b₁ p m e₁
+  module _ (p : TermPlace) (m : ℕ) (e₁ : r₁ ≡ At p m) (r₂ : Built) (tags₂ values₂ work₂ : List ℕ) (b₂ : Formed normal end m tags₁ values₁ work₁ g r₂ tags₂ values₂ work₂) where
+    h₁ : Holds end o₁ (p .0) m tags₁ values₁
+    h₁ = builds-holds (entryForm normal end tags values) end tags values work o₁ r₁ tags₁ values₁ work₁ b₁ p m e₁
 
-    second : Builds (entryForm normal lim tags values) lim tags values memo o₂ r₂ tags₂ values₂ memo₂
+    second : Builds (entryForm normal end tags values) end tags values work o₂ r₂ tags₂ values₂ work₂
     second =
-        rw (← h₁ .pool-is) (then-builds normal lim tags values memo o₁ r₁ tags₁ values₁ memo₁ b₁ p m e₁ (intern g (poolOf tags₁ values₁ m)) r₂ tags₂ values₂ memo₂ b₂)
+        rw (← h₁ .pool-is) (then-builds normal end tags values work o₁ r₁ tags₁ values₁ work₁ b₁ p m e₁ (intern g (poolOf tags₁ values₁ m)) r₂ tags₂ values₂ work₂ b₂)
 
-    right-full : r₂ ≡ Full → Formed normal lim n tags values memo (pair both f g) Full tags₂ values₂ memo₂
+    right-full : r₂ ≡ Full → Formed normal end n tags values work (pair both f g) Full tags₂ values₂ work₂
     right-full e =
-        builds-full (entryForm normal lim tags values) lim tags values memo o₂ r₂ tags₂ values₂ memo₂ second e (intern (pair both f g) (poolOf tags values n)) put-last
+        builds-full (entryForm normal end tags values) end tags values work o₂ r₂ tags₂ values₂ work₂ second e (intern (pair both f g) (poolOf tags values n)) put-last
 
     both-put : (q : TermPlace) (l : ℕ) → r₂ ≡ At q l → (r₃ : Built) (tags₃ values₃ : List ℕ)
         → Puts l tags₂ values₂ (put (poolOf tags₂ values₂ l) (connectiveTag both) (0 ∷ p .0 ∷ q .0 ∷ [])) r₃ tags₃ values₃
-        → Formed normal lim n tags values memo (pair both f g) r₃ tags₃ values₃ memo₂
+        → Formed normal end n tags values work (pair both f g) r₃ tags₃ values₃ work₂
     unfolding intern interns
     both-put q l e₂ r₃ tags₃ values₃ y =
-        let h₂ = builds-holds (entryForm normal lim tags values) lim tags values memo o₂ r₂ tags₂ values₂ memo₂ second q l e₂ in
+        let h₂ = builds-holds (entryForm normal end tags values) end tags values work o₂ r₂ tags₂ values₂ work₂ second q l e₂ in
         rw (← h₁ .place-is, ← h₂ .place-is)
-        (then-put normal lim tags values memo o₂ r₂ tags₂ values₂ memo₂ second q l e₂ (connectiveTag both) (0 ∷ p .0 ∷ q .0 ∷ []) r₃ tags₃ values₃ y)
+        (then-put normal end tags values work o₂ r₂ tags₂ values₂ work₂ second q l e₂ (connectiveTag both) (0 ∷ p .0 ∷ q .0 ∷ []) r₃ tags₃ values₃ work₂ y (memo-stays work₂))
 
 -- pair_of
-module _ (lim n : ℕ) (tags values memo : List ℕ) (both : Bool) (a : ℕ) (a-polarity : Bool) (b : ℕ) (b-polarity : Bool)
-    (r₁ : Built) (tags₁ values₁ memo₁ : List ℕ) (j : Known normal lim n tags values memo a a-polarity r₁ tags₁ values₁ memo₁) where
+module _ (end n : ℕ) (tags values work : List ℕ) (both : Bool) (a : ℕ) (a-polarity : Bool) (b : ℕ) (b-polarity : Bool)
+    (r₁ : Built) (tags₁ values₁ work₁ : List ℕ) (j : Known normal end n tags values work a a-polarity r₁ tags₁ values₁ work₁) where
   abbrev f : Normal (List ℕ) ℕ
-  f = normalOf lim tags values a a-polarity
+  f = normalOf end tags values a a-polarity
 
   abbrev g : Normal (List ℕ) ℕ
-  g = normalOf lim tags values b b-polarity
+  g = normalOf end tags values b b-polarity
 
-  pub pair-left-full : r₁ ≡ Full → Formed normal lim n tags values memo (pair both (normalOf lim tags values a a-polarity) (normalOf lim tags values b b-polarity)) Full tags₁ values₁ memo₁
-  pair-left-full e = left-full lim n tags values memo f r₁ tags₁ values₁ memo₁ (j .formed) both g e
+  pub pair-left-full : r₁ ≡ Full → Formed normal end n tags values work (pair both (normalOf end tags values a a-polarity) (normalOf end tags values b b-polarity)) Full tags₁ values₁ work₁
+  pair-left-full e = left-full end n tags values work f r₁ tags₁ values₁ work₁ (j .formed) both g e
 
-  module _ (p : TermPlace) (m : ℕ) (e₁ : r₁ ≡ At p m) (r₂ : Built) (tags₂ values₂ memo₂ : List ℕ) (k : Known normal lim m tags₁ values₁ memo₁ b b-polarity r₂ tags₂ values₂ memo₂) where
-    b₂ : Formed normal lim m tags₁ values₁ memo₁ g r₂ tags₂ values₂ memo₂
-    b₂ = rw (form-same lim tags values tags₁ values₁ (j .formed .puts .left) normal b b-polarity) at (k .formed)
+  module _ (p : TermPlace) (m : ℕ) (e₁ : r₁ ≡ At p m) (r₂ : Built) (tags₂ values₂ work₂ : List ℕ) (k : Known normal end m tags₁ values₁ work₁ b b-polarity r₂ tags₂ values₂ work₂) where
+    b₂ : Formed normal end m tags₁ values₁ work₁ g r₂ tags₂ values₂ work₂
+    b₂ = rw (form-same end tags values tags₁ values₁ (j .formed .puts .left) normal b b-polarity) at (k .formed)
 
-    pub pair-right-full : r₂ ≡ Full → Formed normal lim n tags values memo (pair both (normalOf lim tags values a a-polarity) (normalOf lim tags values b b-polarity)) Full tags₂ values₂ memo₂
-    pair-right-full e = right-full lim n tags values memo f r₁ tags₁ values₁ memo₁ (j .formed) both g p m e₁ r₂ tags₂ values₂ memo₂ b₂ e
+    pub pair-right-full : r₂ ≡ Full → Formed normal end n tags values work (pair both (normalOf end tags values a a-polarity) (normalOf end tags values b b-polarity)) Full tags₂ values₂ work₂
+    pair-right-full e = right-full end n tags values work f r₁ tags₁ values₁ work₁ (j .formed) both g p m e₁ r₂ tags₂ values₂ work₂ b₂ e
 
     pub pair-put : (q : TermPlace) (l : ℕ) → r₂ ≡ At q l → (r₃ : Built) (tags₃ values₃ : List ℕ)
         → Puts l tags₂ values₂ (put (poolOf tags₂ values₂ l) (connectiveTag both) (0 ∷ p .0 ∷ q .0 ∷ [])) r₃ tags₃ values₃
-        → Formed normal lim n tags values memo (pair both (normalOf lim tags values a a-polarity) (normalOf lim tags values b b-polarity)) r₃ tags₃ values₃ memo₂
+        → Formed normal end n tags values work (pair both (normalOf end tags values a a-polarity) (normalOf end tags values b b-polarity)) r₃ tags₃ values₃ work₂
     pair-put q l e₂ r₃ tags₃ values₃ y =
-        both-put lim n tags values memo f r₁ tags₁ values₁ memo₁ (j .formed) both g p m e₁ r₂ tags₂ values₂ memo₂ b₂ q l e₂ r₃ tags₃ values₃ y
+        both-put end n tags values work f r₁ tags₁ values₁ work₁ (j .formed) both g p m e₁ r₂ tags₂ values₂ work₂ b₂ q l e₂ r₃ tags₃ values₃ y
 
 pub ruleset pairs = (pair-left-full, pair-right-full, pair-put)
 
 -- two_pairs
-module _ (lim n : ℕ) (tags values memo : List ℕ) (polarity : Bool) (a b c : ℕ) (c-polarity : Bool) (d : ℕ) (r₁ : Built) (tags₁ values₁ memo₁ : List ℕ)
-    (b₁ : Formed normal lim n tags values memo (pair (not polarity) (normalOf lim tags values a (not polarity)) (normalOf lim tags values b polarity)) r₁ tags₁ values₁ memo₁) where
+module _ (end n : ℕ) (tags values work : List ℕ) (polarity : Bool) (a b c : ℕ) (c-polarity : Bool) (d : ℕ) (r₁ : Built) (tags₁ values₁ work₁ : List ℕ)
+    (b₁ : Formed normal end n tags values work (pair (not polarity) (normalOf end tags values a (not polarity)) (normalOf end tags values b polarity)) r₁ tags₁ values₁ work₁) where
   abbrev one : Normal (List ℕ) ℕ
-  one = pair (not polarity) (normalOf lim tags values a (not polarity)) (normalOf lim tags values b polarity)
+  one = pair (not polarity) (normalOf end tags values a (not polarity)) (normalOf end tags values b polarity)
 
   abbrev two : Normal (List ℕ) ℕ
-  two = pair (not polarity) (normalOf lim tags values c c-polarity) (normalOf lim tags values d polarity)
+  two = pair (not polarity) (normalOf end tags values c c-polarity) (normalOf end tags values d polarity)
 
-  pub two-left-full : r₁ ≡ Full → Formed normal lim n tags values memo (twoPairs polarity (λ t p. normalOf lim tags values t p) a b c c-polarity d) Full tags₁ values₁ memo₁
-  two-left-full e = left-full lim n tags values memo one r₁ tags₁ values₁ memo₁ b₁ polarity two e
+  pub two-left-full : r₁ ≡ Full → Formed normal end n tags values work (twoPairs polarity (λ t p. normalOf end tags values t p) a b c c-polarity d) Full tags₁ values₁ work₁
+  two-left-full e = left-full end n tags values work one r₁ tags₁ values₁ work₁ b₁ polarity two e
 
-  module _ (p : TermPlace) (m : ℕ) (e₁ : r₁ ≡ At p m) (r₂ : Built) (tags₂ values₂ memo₂ : List ℕ)
-      (b₂ : Formed normal lim m tags₁ values₁ memo₁ (pair (not polarity) (normalOf lim tags₁ values₁ c c-polarity) (normalOf lim tags₁ values₁ d polarity)) r₂ tags₂ values₂ memo₂) where
-    same₂ : Formed normal lim m tags₁ values₁ memo₁ two r₂ tags₂ values₂ memo₂
-    same₂ = rw (form-same lim tags values tags₁ values₁ (b₁ .puts .left) normal c c-polarity, form-same lim tags values tags₁ values₁ (b₁ .puts .left) normal d polarity) at b₂
+  module _ (p : TermPlace) (m : ℕ) (e₁ : r₁ ≡ At p m) (r₂ : Built) (tags₂ values₂ work₂ : List ℕ)
+      (b₂ : Formed normal end m tags₁ values₁ work₁ (pair (not polarity) (normalOf end tags₁ values₁ c c-polarity) (normalOf end tags₁ values₁ d polarity)) r₂ tags₂ values₂ work₂) where
+    same₂ : Formed normal end m tags₁ values₁ work₁ two r₂ tags₂ values₂ work₂
+    same₂ = rw (form-same end tags values tags₁ values₁ (b₁ .puts .left) normal c c-polarity, form-same end tags values tags₁ values₁ (b₁ .puts .left) normal d polarity) at b₂
 
-    pub two-right-full : r₂ ≡ Full → Formed normal lim n tags values memo (twoPairs polarity (λ t p. normalOf lim tags values t p) a b c c-polarity d) Full tags₂ values₂ memo₂
-    two-right-full e = right-full lim n tags values memo one r₁ tags₁ values₁ memo₁ b₁ polarity two p m e₁ r₂ tags₂ values₂ memo₂ same₂ e
+    pub two-right-full : r₂ ≡ Full → Formed normal end n tags values work (twoPairs polarity (λ t p. normalOf end tags values t p) a b c c-polarity d) Full tags₂ values₂ work₂
+    two-right-full e = right-full end n tags values work one r₁ tags₁ values₁ work₁ b₁ polarity two p m e₁ r₂ tags₂ values₂ work₂ same₂ e
 
     pub two-put : (q : TermPlace) (l : ℕ) → r₂ ≡ At q l → (r₃ : Built) (tags₃ values₃ : List ℕ)
         → Puts l tags₂ values₂ (put (poolOf tags₂ values₂ l) (connectiveTag polarity) (0 ∷ p .0 ∷ q .0 ∷ [])) r₃ tags₃ values₃
-        → Formed normal lim n tags values memo (twoPairs polarity (λ t p. normalOf lim tags values t p) a b c c-polarity d) r₃ tags₃ values₃ memo₂
+        → Formed normal end n tags values work (twoPairs polarity (λ t p. normalOf end tags values t p) a b c c-polarity d) r₃ tags₃ values₃ work₂
     two-put q l e₂ r₃ tags₃ values₃ y =
-        both-put lim n tags values memo one r₁ tags₁ values₁ memo₁ b₁ polarity two p m e₁ r₂ tags₂ values₂ memo₂ same₂ q l e₂ r₃ tags₃ values₃ y
+        both-put end n tags values work one r₁ tags₁ values₁ work₁ b₁ polarity two p m e₁ r₂ tags₂ values₂ work₂ same₂ q l e₂ r₃ tags₃ values₃ y
 
 pub ruleset twos = (two-left-full, two-right-full, two-put)

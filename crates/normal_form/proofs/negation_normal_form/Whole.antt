@@ -9,7 +9,7 @@ use Rattle.building.specs.Arrays.{poolOf}
 use Rattle.building.specs.Walk.{normal, formOf, Known, NormalBuilt}
 use Rattle.building.proofs.build.Walks.{whole-built}
 
-pub normal-built : (n : ℕ) (tags values memo : List ℕ) (t : ℕ) (polarity : Bool) (r : Built) (tags′ values′ memo′ : List ℕ)
-    → Known normal n n tags values memo t polarity r tags′ values′ memo′ → NormalBuilt n tags values (normalForm (poolOf tags values n) t polarity) r tags′ values′
+pub normal-built : (n : ℕ) (tags values work : List ℕ) (t : ℕ) (polarity : Bool) (r : Built) (tags′ values′ work′ : List ℕ)
+    → Known normal n n tags values work t polarity r tags′ values′ work′ → NormalBuilt n tags values (normalForm (poolOf tags values n) t polarity) r tags′ values′
 unfolding normalForm formOf
-normal-built n tags values memo t polarity = whole-built normal n tags values memo t polarity
+normal-built n tags values work t polarity = whole-built normal n tags values work t polarity

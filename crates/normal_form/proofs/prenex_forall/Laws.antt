@@ -20,7 +20,7 @@ use Rattle.formulas.specs.Formula.{allBefore, connectiveTag}
 use Rattle.formulas.specs.Normal.{Normal, lit, nmany, prenex, prenexes}
 use Rattle.formulas.specs.Built.{put, intern, normalsOf, normalView, takenOut}
 use Rattle.building.specs.Arrays.{poolOf}
-use Rattle.building.specs.Walk.{Puts, placesIn, taken-out, formOf, runOf, entryForm, Formed, Known, operandForms, OperandsKnown, Before, NormalBuilt, WalkReady}
+use Rattle.building.specs.Walk.{Puts, memoOf, MemoKept, placesIn, taken-out, formOf, runOf, entryForm, Formed, Known, operandForms, OperandsKnown, Before, NormalBuilt, WalkReady}
 use Rattle.clauses.proofs.Reading.{before-at, read-literal, read-forall, read-connective, run-before}
 use Rattle.building.proofs.build.Building.{builds-stood}
 use Rattle.building.proofs.build.Walks.{connective-full, connective-put, whole-built}
@@ -52,45 +52,45 @@ prenexes-are f [] = refl
 prenexes-are f (u ∷ us) = rw (prenexes-are f us)
 
 -- ---- take_out
-module _ (lim n : ℕ) (tags values memo : List ℕ) (ready : WalkReady taken-out lim n tags values memo) (x : ℕ) (within : x < lim) (v : NormalView)
-    (is : v ≡ normalView (take lim tags) (take lim values) x) where
-  pub take-literal : v ≡ Literal → Formed taken-out lim n tags values memo (formOf taken-out lim tags values x true) (At (termAt x) n) tags values memo
+module _ (end n : ℕ) (tags values work : List ℕ) (ready : WalkReady taken-out end n tags values work) (x : ℕ) (within : x < end) (v : NormalView)
+    (is : v ≡ normalView (take end tags) (take end values) x) where
+  pub take-literal : v ≡ Literal → Formed taken-out end n tags values work (formOf taken-out end tags values x true) (At (termAt x) n) tags values work
   unfolding formOf intern
   take-literal e =
-      rw (read-literal (take lim tags) (take lim values) x v is e)
-      (builds-stood (entryForm taken-out lim tags values) lim n tags values memo (ready .state) (ready .right) (lit true x) x
+      rw (read-literal (take end tags) (take end values) x v is e)
+      (builds-stood (entryForm taken-out end tags values) end n tags values work (ready .state) (ready .right) (lit true x) x
       (omega (arith, ready .state .source)) refl)
 
   pub forall-below : (body : TermPlace) → v ≡ Forall body → body .0 < x
-  forall-below body e = body-before (take lim tags) (take lim values) x body (sym e ∙ is)
+  forall-below body e = body-before (take end tags) (take end values) x body (sym e ∙ is)
 
-  pub take-forall : (body : TermPlace) → v ≡ Forall body → (r : Built) (tags₁ values₁ memo₁ : List ℕ) → Known taken-out lim n tags values memo (body .0) true r tags₁ values₁ memo₁
-      → Formed taken-out lim n tags values memo (formOf taken-out lim tags values x true) r tags₁ values₁ memo₁
+  pub take-forall : (body : TermPlace) → v ≡ Forall body → (r : Built) (tags₁ values₁ work₁ : List ℕ) → Known taken-out end n tags values work (body .0) true r tags₁ values₁ work₁
+      → Formed taken-out end n tags values work (formOf taken-out end tags values x true) r tags₁ values₁ work₁
   unfolding formOf
-  take-forall body e r tags₁ values₁ memo₁ j =
-      rw (read-forall (take lim tags) (take lim values) x v is body e, lt-ltb (body .0) x (forall-below body e)) (j .formed)
+  take-forall body e r tags₁ values₁ work₁ j =
+      rw (read-forall (take end tags) (take end values) x v is body e, lt-ltb (body .0) x (forall-below body e)) (j .formed)
 
   module _ (b : Bool) (e : v ≡ Connective b) where
-    pub connective-before : Before lim tags values x
-    connective-before = record { operand = before-at x (runOf lim tags values x) (run-before (take lim tags) (take lim values) x v is b e) }
+    pub connective-before : Before end tags values x
+    connective-before = record { operand = before-at x (runOf end tags values x) (run-before (take end tags) (take end values) x v is b e) }
 
-    connective-is : formOf taken-out lim tags values x true ≡ nmany b (operandForms taken-out lim tags values x true 0)
+    connective-is : formOf taken-out end tags values x true ≡ nmany b (operandForms taken-out end tags values x true 0)
     unfolding formOf
-    connective-is = rw (read-connective (take lim tags) (take lim values) x v is b e, prenexes-are)
+    connective-is = rw (read-connective (take end tags) (take end values) x v is b e, prenexes-are)
 
-    module _ (r₁ : Built) (tags₁ values₁ memo₁ : List ℕ) (j : OperandsKnown taken-out lim n tags values memo x true 0 r₁ tags₁ values₁ memo₁) where
-      pub take-full : r₁ ≡ Full → Formed taken-out lim n tags values memo (formOf taken-out lim tags values x true) Full tags₁ values₁ memo₁
-      take-full = connective-full taken-out lim n tags values memo x true b connective-is r₁ tags₁ values₁ memo₁ j
+    module _ (r₁ : Built) (tags₁ values₁ work₁ : List ℕ) (j : OperandsKnown taken-out end n tags values work x true 0 r₁ tags₁ values₁ work₁) where
+      pub take-full : r₁ ≡ Full → Formed taken-out end n tags values work (formOf taken-out end tags values x true) Full tags₁ values₁ work₁
+      take-full = connective-full taken-out end n tags values work x true b connective-is r₁ tags₁ values₁ work₁ j
 
-      pub take-put : (p : TermPlace) (m : ℕ) → r₁ ≡ At p m → (r₂ : Built) (tags₂ values₂ : List ℕ)
-          → Puts m tags₁ values₁ (put (poolOf tags₁ values₁ m) (connectiveTag b) (0 ∷ placesIn memo₁ true (runOf lim tags₁ values₁ x))) r₂ tags₂ values₂
-          → Formed taken-out lim n tags values memo (formOf taken-out lim tags values x true) r₂ tags₂ values₂ memo₁
-      take-put = connective-put taken-out lim n tags values memo x true b connective-is r₁ tags₁ values₁ memo₁ j
+      pub take-put : (p : TermPlace) (m : ℕ) → r₁ ≡ At p m → (r₂ : Built) (tags₂ values₂ work₂ : List ℕ)
+          → Puts m tags₁ values₁ (put (poolOf tags₁ values₁ m) (connectiveTag b) (0 ∷ placesIn (memoOf work₁) true (runOf end tags₁ values₁ x))) r₂ tags₂ values₂
+          → MemoKept work₁ work₂ → Formed taken-out end n tags values work (formOf taken-out end tags values x true) r₂ tags₂ values₂ work₂
+      take-put = connective-put taken-out end n tags values work x true b connective-is r₁ tags₁ values₁ work₁ j
 
 pub ruleset takes = (take-literal, take-forall, take-full, take-put)
 
 -- ---- the whole
-pub taken-built : (n : ℕ) (tags values memo : List ℕ) (x : ℕ) (r : Built) (tags′ values′ memo′ : List ℕ)
-    → Known taken-out n n tags values memo x true r tags′ values′ memo′ → NormalBuilt n tags values (takenOut (poolOf tags values n) x) r tags′ values′
+pub taken-built : (n : ℕ) (tags values work : List ℕ) (x : ℕ) (r : Built) (tags′ values′ work′ : List ℕ)
+    → Known taken-out n n tags values work x true r tags′ values′ work′ → NormalBuilt n tags values (takenOut (poolOf tags values n) x) r tags′ values′
 unfolding takenOut formOf
-taken-built n tags values memo x = whole-built taken-out n tags values memo x true
+taken-built n tags values work x = whole-built taken-out n tags values work x true

@@ -1,40 +1,49 @@
 use borrow.Author.Needs.{needs}
 use Rattle.building.proofs.terms.Cells.{Pairing, pairings}
+use Rattle.building.specs.Walk.{memoOf}
 use Prim.Native.Nat.{_-_}
-use lib.ListN.{length, length-set}
-use mathlib.Core.Path.{_∙_}
+use lib.ListN.{length, getD}
 use Rattle.building.proofs.terms.gather_pairs.Statement.{statement}
 use Rattle.building.proofs.terms.gather_pairs.Tie as tie
 
 abbrev Inv-loop : tie.InvT-loop
-Inv-loop run out₀ j₀ out j = Pairing run out₀ out j
+Inv-loop run work₀ k₀ j₀ work k j = Pairing (memoOf work₀) (getD work₀ 16385 0) run work k j
 
 abbrev μ-loop : tie.MeasureT-loop
-μ-loop run out₀ j₀ out j = length run - j
+μ-loop run work₀ k₀ j₀ work k j = length run - j
 
-slice-write-out : tie.Need-slice-write-out Inv-loop μ-loop
-slice-write-out c = search needs
+element-write-work : tie.Need-element-write-work Inv-loop μ-loop
+element-write-work c = search needs
 
-slice-write-out-2 : tie.Need-slice-write-out-2 Inv-loop μ-loop
-slice-write-out-2 c = search needs
+add-work : tie.Need-add-work Inv-loop μ-loop
+add-work c = search needs
+
+mul-work : tie.Need-mul-work Inv-loop μ-loop
+mul-work c = search needs
+
+element-write-work-2 : tie.Need-element-write-work-2 Inv-loop μ-loop
+element-write-work-2 c = search needs
+
+add-k : tie.Need-add-k Inv-loop μ-loop
+add-k c = search needs
 
 loop-holds : tie.Need-loop-holds Inv-loop μ-loop
 loop-holds c = search pairings
 
-mul-out : tie.Need-mul-out Inv-loop μ-loop
-mul-out c = search needs
+mul-work-2 : tie.Need-mul-work-2 Inv-loop μ-loop
+mul-work-2 c = search needs
 
-shared-slice-read-out : tie.Need-shared-slice-read-out Inv-loop μ-loop
-shared-slice-read-out c = search needs
+shared-slice-read-work : tie.Need-shared-slice-read-work Inv-loop μ-loop
+shared-slice-read-work c = search needs
 
-add-out : tie.Need-add-out Inv-loop μ-loop
-add-out c = search needs
+mul-work-3 : tie.Need-mul-work-3 Inv-loop μ-loop
+mul-work-3 c = search needs
 
-mul-out-2 : tie.Need-mul-out-2 Inv-loop μ-loop
-mul-out-2 c = search needs
+element-write-work-3 : tie.Need-element-write-work-3 Inv-loop μ-loop
+element-write-work-3 c = search needs
 
-slice-write-out-3 : tie.Need-slice-write-out-3 Inv-loop μ-loop
-slice-write-out-3 c = search needs
+add-k-2 : tie.Need-add-k-2 Inv-loop μ-loop
+add-k-2 c = search needs
 
 add-j : tie.Need-add-j Inv-loop μ-loop
 add-j c = search needs
@@ -45,12 +54,6 @@ loop-less c = search needs
 loop-again : tie.Need-loop-again Inv-loop μ-loop
 loop-again c = search pairings
 
-add-result : tie.Need-add-result Inv-loop μ-loop
-add-result c = search needs
-
-same-length : tie.Need-same-length Inv-loop μ-loop
-same-length c = c .before .loop .inv .long ∙ simp length-set
-
 returns : tie.Need-returns Inv-loop μ-loop
 returns c = search pairings
 
@@ -60,17 +63,18 @@ gather-pairs-spec =
     (tie.spec
     Inv-loop
     μ-loop
-    slice-write-out
-    slice-write-out-2
+    element-write-work
+    add-work
+    mul-work
+    element-write-work-2
+    add-k
     loop-holds
-    mul-out
-    shared-slice-read-out
-    add-out
-    mul-out-2
-    slice-write-out-3
+    mul-work-2
+    shared-slice-read-work
+    mul-work-3
+    element-write-work-3
+    add-k-2
     add-j
     loop-less
     loop-again
-    add-result
-    same-length
     returns)

@@ -1,7 +1,5 @@
-use Rattle.building.proofs.build.Indexing.{indexings}
-use Rattle.building.proofs.terms.Cells.{terms, parts, run-short}
-use native.Mathlib.Omega.{arith}
 use borrow.Author.Needs.{needs}
+use Rattle.building.proofs.terms.Cells.{terms, parts}
 use Rattle.building.proofs.terms.put_connective.Statement.{statement}
 use Rattle.building.proofs.terms.put_connective.Tie as tie
 
@@ -21,7 +19,7 @@ operands-requires : tie.Need-operands-requires
 operands-requires c κs = search needs
 
 gather-requires : tie.Need-gather-requires
-gather-requires c κs = omega (arith, run-short _ _ _ _ (c .before .before .before .before .before .before .before .before .pre .0) _ (c .before .before .before .before .before .before .before .before .pre .1 .1 .0) _ (c .before .operands .ensures))
+gather-requires c κs = search parts
 
 flip-requires : tie.Need-flip-requires
 flip-requires c κs = search needs
@@ -29,26 +27,26 @@ flip-requires c κs = search needs
 connective-tag-requires : tie.Need-connective-tag-requires
 connective-tag-requires c κs = search needs
 
-slice-reshare-prefix-put : tie.Need-slice-reshare-prefix-put
-slice-reshare-prefix-put c = search needs
+sub-put : tie.Need-sub-put
+sub-put c = search needs
 
-slice-aggregate-put : tie.Need-slice-aggregate-put
-slice-aggregate-put c = search parts
+part-put-start : tie.Need-part-put-start
+part-put-start c = search needs
+
+part-put-end : tie.Need-part-put-end
+part-put-end c = search needs
 
 put-requires : tie.Need-put-requires
 put-requires c κs = search needs
 
 same-length : tie.Need-same-length
-same-length c = c .before .before .before .tags .given
+same-length c = search needs
 
 same-length-2 : tie.Need-same-length-2
-same-length-2 c = c .before .values .given
-
-same-length-3 : tie.Need-same-length-3
-same-length-3 c = c .before .before .before .before .before .before .before .before .before .before .before .before .out .given
+same-length-2 c = search needs
 
 returns : tie.Need-returns
-returns c = search (terms, indexings)
+returns c = (search terms, (search needs, search needs))
 
 pub put-connective-spec : {M : Type 1} → statement M
 put-connective-spec =
@@ -62,10 +60,10 @@ put-connective-spec =
     gather-requires
     flip-requires
     connective-tag-requires
-    slice-reshare-prefix-put
-    slice-aggregate-put
+    sub-put
+    part-put-start
+    part-put-end
     put-requires
     same-length
     same-length-2
-    same-length-3
     returns)

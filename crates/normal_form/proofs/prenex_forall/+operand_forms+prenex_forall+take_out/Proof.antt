@@ -3,7 +3,8 @@ use native.Mathlib.Omega.{arith}
 use mathlib.Core.Path.{refl, _∙_}
 use Rattle.building.specs.Walk.{taken-out}
 use Rattle.building.proofs.terms.Cells.{parts, run-short}
-use Rattle.building.proofs.build.Walks.{slot-first, before-same, operand-before, state-after, place-small, ready-after, one-term, form-full, form-kept, operand-walks, operands-next}
+use Rattle.building.proofs.build.Indexing.{indexings, index-at}
+use Rattle.building.proofs.build.Walks.{slot-within, before-same, operand-before, state-after, memo-long, place-small, ready-after, one-term, form-full, form-kept, operand-walks, operands-next}
 use Rattle.normal_form.proofs.prenex_forall.Laws.{take-forall, takes, take-full, take-put, forall-below, connective-before}
 use Prim.Native.Nat.{ℕ, _<_, _+_, _*_, _-_}
 use borrow.Fn.Kinds.{In}
@@ -17,9 +18,9 @@ use Rattle.normal_form.proofs.prenex_forall.+operand_forms+prenex_foral
 use Rattle.normal_form.proofs.prenex_forall.take_out.Reads as take-out
 use Rattle.normal_form.proofs.prenex_forall.take_out.Kinds as take-out-kinds
 use Rattle.normal_form.proofs.prenex_forall.+operand_forms+prenex_forall+take_out.Lts-take_out as take-out-lts
-use Rattle.cells.proofs.run.operands.Reads as operands-reads
 use Rattle.building.proofs.terms.put_connective.Reads as put-connective-reads
 use Rattle.building.proofs.terms.slot.Reads as slot-reads
+use Rattle.cells.proofs.run.operands.Reads as operands-reads
 use Rattle.formulas.proofs.view.normal_view.Reads as normal-view-reads
 use Rattle.normal_form.proofs.prenex_forall.+operand_forms+prenex_forall+take_out.{
   statement,
@@ -27,47 +28,46 @@ use Rattle.normal_form.proofs.prenex_forall.+operand_forms+prenex_foral
 use Rattle.normal_form.proofs.prenex_forall.+operand_forms+prenex_forall+take_out.Tie.{
   close,
 }
-use Rattle.building.proofs.build.Indexing.{indexings, index-at}
 
-abbrev μ-operand-forms : Measures 5 operand-forms-kinds.ps ℕ
-μ-operand-forms κs a = a .1 .1 .1 .1 .1 .1 .1 .0 .0 * 32768 + (8192 - a .1 .1 .1 .1 .1 .1 .1 .1 .0)
+abbrev μ-operand-forms : Measures 4 operand-forms-kinds.ps ℕ
+μ-operand-forms κs a = a .1 .1 .1 .1 .1 .1 .0 .0 * 32768 + (8192 - a .1 .1 .1 .1 .1 .1 .1 .0)
 
-abbrev μ-prenex-forall : Measures 5 prenex-forall-kinds.ps ℕ
-μ-prenex-forall κs a = a .1 .1 .1 .1 .1 .1 .1 .0 .0 * 32768 + 24576
+abbrev μ-prenex-forall : Measures 4 prenex-forall-kinds.ps ℕ
+μ-prenex-forall κs a = a .1 .1 .1 .1 .1 .1 .0 .0 * 32768 + 24576
 
-abbrev μ-take-out : Measures 5 take-out-kinds.ps ℕ
-μ-take-out κs a = a .1 .1 .1 .1 .1 .1 .1 .0 .0 * 32768 + 16384
+abbrev μ-take-out : Measures 4 take-out-kinds.ps ℕ
+μ-take-out κs a = a .1 .1 .1 .1 .1 .1 .0 .0 * 32768 + 16384
 
-abbrev operand-forms-at : ℕ → In 5 operand-forms-kinds.ps
+abbrev operand-forms-at : ℕ → In 4 operand-forms-kinds.ps
 operand-forms-at t =
-    and 5 operand-forms-kinds.ps (is 5 operand-forms-kinds.ps μ-operand-forms t) operand-forms.Pre
+    and 4 operand-forms-kinds.ps (is 4 operand-forms-kinds.ps μ-operand-forms t) operand-forms.Pre
 
-abbrev operand-forms-below : ℕ → In 5 operand-forms-kinds.ps
+abbrev operand-forms-below : ℕ → In 4 operand-forms-kinds.ps
 operand-forms-below t =
     and
-    5
+    4
     operand-forms-kinds.ps
-    (falls 5 operand-forms-kinds.ps _<_ μ-operand-forms t)
+    (falls 4 operand-forms-kinds.ps _<_ μ-operand-forms t)
     operand-forms.Pre
 
-abbrev prenex-forall-at : ℕ → In 5 prenex-forall-kinds.ps
+abbrev prenex-forall-at : ℕ → In 4 prenex-forall-kinds.ps
 prenex-forall-at t =
-    and 5 prenex-forall-kinds.ps (is 5 prenex-forall-kinds.ps μ-prenex-forall t) prenex-forall.Pre
+    and 4 prenex-forall-kinds.ps (is 4 prenex-forall-kinds.ps μ-prenex-forall t) prenex-forall.Pre
 
-abbrev prenex-forall-below : ℕ → In 5 prenex-forall-kinds.ps
+abbrev prenex-forall-below : ℕ → In 4 prenex-forall-kinds.ps
 prenex-forall-below t =
     and
-    5
+    4
     prenex-forall-kinds.ps
-    (falls 5 prenex-forall-kinds.ps _<_ μ-prenex-forall t)
+    (falls 4 prenex-forall-kinds.ps _<_ μ-prenex-forall t)
     prenex-forall.Pre
 
-abbrev take-out-at : ℕ → In 5 take-out-kinds.ps
-take-out-at t = and 5 take-out-kinds.ps (is 5 take-out-kinds.ps μ-take-out t) take-out.Pre
+abbrev take-out-at : ℕ → In 4 take-out-kinds.ps
+take-out-at t = and 4 take-out-kinds.ps (is 4 take-out-kinds.ps μ-take-out t) take-out.Pre
 
-abbrev take-out-below : ℕ → In 5 take-out-kinds.ps
+abbrev take-out-below : ℕ → In 4 take-out-kinds.ps
 take-out-below t =
-    and 5 take-out-kinds.ps (falls 5 take-out-kinds.ps _<_ μ-take-out t) take-out.Pre
+    and 4 take-out-kinds.ps (falls 4 take-out-kinds.ps _<_ μ-take-out t) take-out.Pre
 
 -- what the calls in `take-out` ask and tell, below the measure t
 abbrev take-out-calls : ℕ → take-out-lts.Claims
@@ -81,19 +81,16 @@ prenex-forall-calls t = (slot-reads.Asked, slot-reads.Learnt, take-out-below t, 
 abbrev operand-forms-calls : ℕ → operand-forms-lts.Claims
 operand-forms-calls t = (operands-reads.Asked, operands-reads.Learnt, prenex-forall-below t, prenex-forall.Post, operand-forms-below t, operand-forms.Post)
 
-operand-forms-slice-reshare-prefix-operands :
-    (t : ℕ) → operand-forms-lts.Need-slice-reshare-prefix-operands (operand-forms-calls t) (operand-forms-at t) operand-forms.Post
+operand-forms-slice-reshare-prefix-operands : (t : ℕ) → operand-forms-lts.Need-slice-reshare-prefix-operands (operand-forms-calls t) (operand-forms-at t) operand-forms.Post
 operand-forms-slice-reshare-prefix-operands t c = search needs
 
 operand-forms-slice-aggregate-operands : (t : ℕ) → operand-forms-lts.Need-slice-aggregate-operands (operand-forms-calls t) (operand-forms-at t) operand-forms.Post
 operand-forms-slice-aggregate-operands t c = search parts
 
-operand-forms-slice-reshare-prefix-operands-2 :
-    (t : ℕ) → operand-forms-lts.Need-slice-reshare-prefix-operands-2 (operand-forms-calls t) (operand-forms-at t) operand-forms.Post
+operand-forms-slice-reshare-prefix-operands-2 : (t : ℕ) → operand-forms-lts.Need-slice-reshare-prefix-operands-2 (operand-forms-calls t) (operand-forms-at t) operand-forms.Post
 operand-forms-slice-reshare-prefix-operands-2 t c = search needs
 
-operand-forms-slice-aggregate-operands-2 :
-    (t : ℕ) → operand-forms-lts.Need-slice-aggregate-operands-2 (operand-forms-calls t) (operand-forms-at t) operand-forms.Post
+operand-forms-slice-aggregate-operands-2 : (t : ℕ) → operand-forms-lts.Need-slice-aggregate-operands-2 (operand-forms-calls t) (operand-forms-at t) operand-forms.Post
 operand-forms-slice-aggregate-operands-2 t c = search parts
 
 operand-forms-operands-requires : (t : ℕ) → operand-forms-lts.Need-operands-requires (operand-forms-calls t) (operand-forms-at t) operand-forms.Post
@@ -108,19 +105,19 @@ operand-forms-same-length-2 t c = search needs
 operand-forms-returns : (t : ℕ) → operand-forms-lts.Need-returns (operand-forms-calls t) (operand-forms-at t) operand-forms.Post
 operand-forms-returns t c = search (operand-walks, indexings)
 
-operand-forms-mul-t17 : (t : ℕ) → operand-forms-lts.Need-mul-t17 (operand-forms-calls t) (operand-forms-at t) operand-forms.Post
-operand-forms-mul-t17 t c = search needs
+operand-forms-mul-t16 : (t : ℕ) → operand-forms-lts.Need-mul-t16 (operand-forms-calls t) (operand-forms-at t) operand-forms.Post
+operand-forms-mul-t16 t c = search needs
 
-operand-forms-shared-slice-read-t21 : (t : ℕ) → operand-forms-lts.Need-shared-slice-read-t21 (operand-forms-calls t) (operand-forms-at t) operand-forms.Post
-operand-forms-shared-slice-read-t21 t c = search needs
+operand-forms-shared-slice-read-t20 : (t : ℕ) → operand-forms-lts.Need-shared-slice-read-t20 (operand-forms-calls t) (operand-forms-at t) operand-forms.Post
+operand-forms-shared-slice-read-t20 t c = search needs
 
 operand-forms-prenex-forall-requires : (t : ℕ) → operand-forms-lts.Need-prenex-forall-requires (operand-forms-calls t) (operand-forms-at t) operand-forms.Post
 operand-forms-prenex-forall-requires t c κs =
-    let at-if1 = c .before .before .before .before .before .before in
+    let at-if1 = c .before .before .before .before .before in
     let at-operands = at-if1 .before in
-    let start = at-operands .before .before .before .before .before .before .before in
-    let h = operand-before _ _ _ _ (start .pre .1 .1 .1 .1 .0) _ (at-operands .operands .ensures) _ (at-if1 .if1 .left) in
-    (omega (arith, start .pre .0), (start .pre .1 .0, (start .pre .1 .1 .0, (omega arith, start .pre .1 .1 .1 .1 .1))))
+    let start = at-operands .before .before .before .before .before in
+    let h = operand-before _ _ _ _ (start .pre .1 .1 .1 .0) _ (at-operands .operands .ensures) _ (at-if1 .if1 .left) in
+    (omega (arith, start .pre .0), (start .pre .1 .0, (omega arith, start .pre .1 .1 .1 .1)))
 
 operand-forms-enum-known-m : (t : ℕ) → operand-forms-lts.Need-enum-known-m (operand-forms-calls t) (operand-forms-at t) operand-forms.Post
 operand-forms-enum-known-m t c = search needs
@@ -129,16 +126,10 @@ operand-forms-enum-told : (t : ℕ) → operand-forms-lts.Need-enum-told (operan
 operand-forms-enum-told t c = search needs
 
 operand-forms-same-length-3 : (t : ℕ) → operand-forms-lts.Need-same-length-3 (operand-forms-calls t) (operand-forms-at t) operand-forms.Post
-operand-forms-same-length-3 t c = c .before .before .before .before .before .before .before .before .before .tags .given
+operand-forms-same-length-3 t c = search needs
 
 operand-forms-same-length-4 : (t : ℕ) → operand-forms-lts.Need-same-length-4 (operand-forms-calls t) (operand-forms-at t) operand-forms.Post
-operand-forms-same-length-4 t c = c .before .before .before .before .before .before .before .values .given
-
-operand-forms-same-length-5 : (t : ℕ) → operand-forms-lts.Need-same-length-5 (operand-forms-calls t) (operand-forms-at t) operand-forms.Post
-operand-forms-same-length-5 t c = c .before .before .before .before .before .memo .given
-
-operand-forms-same-length-6 : (t : ℕ) → operand-forms-lts.Need-same-length-6 (operand-forms-calls t) (operand-forms-at t) operand-forms.Post
-operand-forms-same-length-6 t c = c .before .before .before .out .given
+operand-forms-same-length-4 t c = search needs
 
 operand-forms-returns-2 : (t : ℕ) → operand-forms-lts.Need-returns-2 (operand-forms-calls t) (operand-forms-at t) operand-forms.Post
 operand-forms-returns-2 t c = search (operand-walks, indexings)
@@ -148,46 +139,26 @@ operand-forms-add-operand-forms t c = search needs
 
 operand-forms-operand-forms-requires : (t : ℕ) → operand-forms-lts.Need-operand-forms-requires (operand-forms-calls t) (operand-forms-at t) operand-forms.Post
 operand-forms-operand-forms-requires t c κs =
-    let at-m = c .before .before .before .before .before .before in
-    let at-row = at-m .before .before .before in
-    let at-memo = at-row .before .before in
-    let at-prenex-forall = at-memo .before .before .before .before .before in
-    let at-if1 = at-prenex-forall .before .before .before .before .before .before .before in
+    let at-m = c .before .before .before .before .before in
+    let at-prenex-forall = at-m .before .before .before .before .before .before in
+    let at-if1 = at-prenex-forall .before .before .before .before .before .before in
     let at-operands = at-if1 .before in
-    let start = at-operands .before .before .before .before .before .before .before in
+    let start = at-operands .before .before .before .before .before in
     let j = at-prenex-forall .prenex-forall .ensures .0 in
-    (omega (arith, run-short _ _ _ _ (start .pre .1 .0 .state) _ (start .pre .1 .1 .1 .0) _ (at-operands .operands .ensures), at-if1 .if1 .left, start .pre .0), (ready-after taken-out _ _ _ _ _ _ _ _ _ (j .formed) _ _ (at-m .m .given .1) (omega (arith, at-memo .memo .given, start .pre .1 .0 .room)), (omega (arith, at-row .out .given, start .pre .1 .1 .0), (start .pre .1 .1 .1 .0, (before-same _ _ _ _ _ (j .formed .puts .left) _ (start .pre .1 .1 .1 .1 .0), index-at _ _ _ _ _ _ (at-m .m .given .1) (at-prenex-forall .prenex-forall .ensures .1))))))
+    (omega (arith, run-short _ _ _ _ (start .pre .1 .0 .state) _ (start .pre .1 .1 .0) _ (at-operands .operands .ensures), at-if1 .if1 .left, start .pre .0), (ready-after taken-out _ _ _ _ _ _ _ _ _ (j .formed) _ _ (at-m .m .given .1), (start .pre .1 .1 .0, (before-same _ _ _ _ _ (j .formed .puts .left) _ (start .pre .1 .1 .1 .0), index-at _ _ _ _ _ _ (at-m .m .given .1) (at-prenex-forall .prenex-forall .ensures .1)))))
 
-operand-forms-same-length-7 : (t : ℕ) → operand-forms-lts.Need-same-length-7 (operand-forms-calls t) (operand-forms-at t) operand-forms.Post
-operand-forms-same-length-7 t c =
-    let at-tags2 = c .before .before .before .before .before .before .before in
-    let at-tags = at-tags2 .before .before .before .before .before .before .before .before .before .before .before .before .before .before .before .before .before in
-    at-tags2 .tags2 .given ∙ at-tags .tags .given
+operand-forms-same-length-5 : (t : ℕ) → operand-forms-lts.Need-same-length-5 (operand-forms-calls t) (operand-forms-at t) operand-forms.Post
+operand-forms-same-length-5 t c = search needs
 
-operand-forms-same-length-8 : (t : ℕ) → operand-forms-lts.Need-same-length-8 (operand-forms-calls t) (operand-forms-at t) operand-forms.Post
-operand-forms-same-length-8 t c =
-    let at-values2 = c .before .before .before .before .before in
-    let at-values = at-values2 .before .before .before .before .before .before .before .before .before .before .before .before .before .before .before .before .before in
-    at-values2 .values2 .given ∙ at-values .values .given
-
-operand-forms-same-length-9 : (t : ℕ) → operand-forms-lts.Need-same-length-9 (operand-forms-calls t) (operand-forms-at t) operand-forms.Post
-operand-forms-same-length-9 t c =
-    let at-memo2 = c .before .before .before in
-    let at-memo = at-memo2 .before .before .before .before .before .before .before .before .before .before .before .before .before .before .before .before .before in
-    at-memo2 .memo2 .given ∙ at-memo .memo .given
-
-operand-forms-same-length-10 : (t : ℕ) → operand-forms-lts.Need-same-length-10 (operand-forms-calls t) (operand-forms-at t) operand-forms.Post
-operand-forms-same-length-10 t c =
-    let at-row2 = c .before in
-    let at-row = at-row2 .before .before .before .before .before .before .before .before .before .before .before .before .before .before .before .before .before in
-    at-row2 .out2 .given ∙ at-row .out .given
+operand-forms-same-length-6 : (t : ℕ) → operand-forms-lts.Need-same-length-6 (operand-forms-calls t) (operand-forms-at t) operand-forms.Post
+operand-forms-same-length-6 t c = search needs
 
 operand-forms-returns-3 : (t : ℕ) → operand-forms-lts.Need-returns-3 (operand-forms-calls t) (operand-forms-at t) operand-forms.Post
 operand-forms-returns-3 t c =
-    let at-operand-forms = c .before .before .before .before .before .before .before .before in
-    let at-m = at-operand-forms .before .before .before .before .before .before .before in
-    let at-prenex-forall = at-m .before .before .before .before .before .before .before .before .before .before in
-    let at-if1 = at-prenex-forall .before .before .before .before .before .before .before in
+    let at-operand-forms = c .before .before .before .before in
+    let at-m = at-operand-forms .before .before .before .before .before .before in
+    let at-prenex-forall = at-m .before .before .before .before .before .before in
+    let at-if1 = at-prenex-forall .before .before .before .before .before .before in
     let at-operands = at-if1 .before in
     (operands-next taken-out _ _ _ _ _ _ _ _ _ (at-operands .operands .ensures) (at-if1 .if1 .left) _ refl _ _ _ _ (at-prenex-forall .prenex-forall .ensures .0) _ _ (at-m .m .given .1) _ _ _ _ (at-operand-forms .operand-forms .ensures .0), at-operand-forms .operand-forms .ensures .1)
 
@@ -196,14 +167,14 @@ prenex-forall-slot-requires t c κs = search needs
 
 prenex-forall-mul-known : (t : ℕ) → prenex-forall-lts.Need-mul-known (prenex-forall-calls t) (prenex-forall-at t) prenex-forall.Post
 prenex-forall-mul-known t c =
-    let start = c .before .before .before .before .before in
-    let h = slot-first taken-out _ _ _ _ _ (start .pre .1 .0) _ (start .pre .1 .1 .1 .0) _ (c .slot .ensures) in
+    let start = c .before .before .before in
+    let h = slot-within taken-out _ _ _ _ _ (start .pre .1 .0) _ _ (start .pre .1 .1 .0) _ (c .slot .ensures) in
     search needs
 
-prenex-forall-slice-read-known : (t : ℕ) → prenex-forall-lts.Need-slice-read-known (prenex-forall-calls t) (prenex-forall-at t) prenex-forall.Post
-prenex-forall-slice-read-known t c =
-    let start = c .before .before .before .before .before .before in
-    let h = slot-first taken-out _ _ _ _ _ (start .pre .1 .0) _ (start .pre .1 .1 .1 .0) _ (c .before .slot .ensures) in
+prenex-forall-element-copy-out-known : (t : ℕ) → prenex-forall-lts.Need-element-copy-out-known (prenex-forall-calls t) (prenex-forall-at t) prenex-forall.Post
+prenex-forall-element-copy-out-known t c =
+    let start = c .before .before .before in
+    let h = slot-within taken-out _ _ _ _ _ (start .pre .1 .0) _ _ (start .pre .1 .1 .0) _ (c .slot .ensures) in
     search needs
 
 prenex-forall-sub-t17 : (t : ℕ) → prenex-forall-lts.Need-sub-t17 (prenex-forall-calls t) (prenex-forall-at t) prenex-forall.Post
@@ -222,73 +193,61 @@ prenex-forall-enum-told : (t : ℕ) → prenex-forall-lts.Need-enum-told (prenex
 prenex-forall-enum-told t c = search needs
 
 prenex-forall-same-length : (t : ℕ) → prenex-forall-lts.Need-same-length (prenex-forall-calls t) (prenex-forall-at t) prenex-forall.Post
-prenex-forall-same-length t c = c .before .before .before .before .before .before .before .before .before .tags .given
+prenex-forall-same-length t c = search needs
 
 prenex-forall-same-length-2 : (t : ℕ) → prenex-forall-lts.Need-same-length-2 (prenex-forall-calls t) (prenex-forall-at t) prenex-forall.Post
-prenex-forall-same-length-2 t c = c .before .before .before .before .before .before .before .values .given
-
-prenex-forall-same-length-3 : (t : ℕ) → prenex-forall-lts.Need-same-length-3 (prenex-forall-calls t) (prenex-forall-at t) prenex-forall.Post
-prenex-forall-same-length-3 t c = c .before .before .before .before .before .memo .given
-
-prenex-forall-same-length-4 : (t : ℕ) → prenex-forall-lts.Need-same-length-4 (prenex-forall-calls t) (prenex-forall-at t) prenex-forall.Post
-prenex-forall-same-length-4 t c = c .before .before .before .out .given
+prenex-forall-same-length-2 t c = search needs
 
 prenex-forall-returns-2 : (t : ℕ) → prenex-forall-lts.Need-returns-2 (prenex-forall-calls t) (prenex-forall-at t) prenex-forall.Post
 prenex-forall-returns-2 t c =
-    let at-take-out = c .before .before .before .before .before .before .before .before .before .before in
-    let at-slot = at-take-out .before .before .before .before .before .before .before .before in
-    let start = at-slot .before .before .before .before .before in
-    (form-full taken-out _ _ _ _ _ (start .pre .1 .0) _ _ (start .pre .1 .1 .1 .0) _ (at-slot .slot .ensures) _ refl _ _ _ _ (at-take-out .take-out .ensures .0) (c .enum-told .given .1), tt)
+    let at-take-out = c .before .before .before .before .before .before in
+    let at-slot = at-take-out .before .before .before .before .before .before .before in
+    let start = at-slot .before .before .before in
+    (form-full taken-out _ _ _ _ _ (start .pre .1 .0) _ _ (start .pre .1 .1 .0) _ (at-slot .slot .ensures) _ refl _ _ _ _ (at-take-out .take-out .ensures .0) (c .enum-told .given .1), tt)
 
-prenex-forall-add-memo : (t : ℕ) → prenex-forall-lts.Need-add-memo (prenex-forall-calls t) (prenex-forall-at t) prenex-forall.Post
-prenex-forall-add-memo t c =
-    let at-take-out = c .before .before .before .before .before .before .before .before .before .before .before .before in
-    let h = place-small taken-out _ _ _ _ _ _ _ _ _ (at-take-out .take-out .ensures .0) _ _ (c .before .before .p .given .1) in
+prenex-forall-add-work : (t : ℕ) → prenex-forall-lts.Need-add-work (prenex-forall-calls t) (prenex-forall-at t) prenex-forall.Post
+prenex-forall-add-work t c =
+    let at-p = c .before .before in
+    let at-take-out = at-p .before .before .before .before .before .before in
+    let h = place-small taken-out _ _ _ _ _ _ _ _ _ (at-take-out .take-out .ensures .0) _ _ (at-p .p .given .1) in
     search needs
 
-prenex-forall-mul-memo : (t : ℕ) → prenex-forall-lts.Need-mul-memo (prenex-forall-calls t) (prenex-forall-at t) prenex-forall.Post
-prenex-forall-mul-memo t c =
-    let at-slot = c .before .before .before .before .before .before .before .before .before .before .before .before .before .before .before .before .before .before .before .before in
-    let start = at-slot .before .before .before .before .before in
-    let h = slot-first taken-out _ _ _ _ _ (start .pre .1 .0) _ (start .pre .1 .1 .1 .0) _ (at-slot .slot .ensures) in
+prenex-forall-mul-work : (t : ℕ) → prenex-forall-lts.Need-mul-work (prenex-forall-calls t) (prenex-forall-at t) prenex-forall.Post
+prenex-forall-mul-work t c =
+    let at-slot = c .before .before .before .before .before .before .before .before .before .before .before .before .before .before .before in
+    let start = at-slot .before .before .before in
+    let h = slot-within taken-out _ _ _ _ _ (start .pre .1 .0) _ _ (start .pre .1 .1 .0) _ (at-slot .slot .ensures) in
     search needs
 
-prenex-forall-slice-write-memo : (t : ℕ) → prenex-forall-lts.Need-slice-write-memo (prenex-forall-calls t) (prenex-forall-at t) prenex-forall.Post
-prenex-forall-slice-write-memo t c =
-    let at-slot = c .before .before .before .before .before .before .before .before .before .before .before .before .before .before .before .before .before .before .before .before in
-    let start = at-slot .before .before .before .before .before in
-    let h = slot-first taken-out _ _ _ _ _ (start .pre .1 .0) _ (start .pre .1 .1 .1 .0) _ (at-slot .slot .ensures) in
+prenex-forall-element-write-work : (t : ℕ) → prenex-forall-lts.Need-element-write-work (prenex-forall-calls t) (prenex-forall-at t) prenex-forall.Post
+prenex-forall-element-write-work t c =
+    let at-slot = c .before .before .before .before .before .before .before .before .before .before .before .before .before .before .before in
+    let start = at-slot .before .before .before in
+    let h = slot-within taken-out _ _ _ _ _ (start .pre .1 .0) _ _ (start .pre .1 .1 .0) _ (at-slot .slot .ensures) in
     search needs
 
-prenex-forall-same-length-5 : (t : ℕ) → prenex-forall-lts.Need-same-length-5 (prenex-forall-calls t) (prenex-forall-at t) prenex-forall.Post
-prenex-forall-same-length-5 t c = c .before .before .before .before .before .before .before .before .before .before .before .tags .given
+prenex-forall-same-length-3 : (t : ℕ) → prenex-forall-lts.Need-same-length-3 (prenex-forall-calls t) (prenex-forall-at t) prenex-forall.Post
+prenex-forall-same-length-3 t c = search needs
 
-prenex-forall-same-length-6 : (t : ℕ) → prenex-forall-lts.Need-same-length-6 (prenex-forall-calls t) (prenex-forall-at t) prenex-forall.Post
-prenex-forall-same-length-6 t c = c .before .before .before .before .before .before .before .before .before .values .given
-
-prenex-forall-same-length-7 : (t : ℕ) → prenex-forall-lts.Need-same-length-7 (prenex-forall-calls t) (prenex-forall-at t) prenex-forall.Post
-prenex-forall-same-length-7 t c = search needs
-
-prenex-forall-same-length-8 : (t : ℕ) → prenex-forall-lts.Need-same-length-8 (prenex-forall-calls t) (prenex-forall-at t) prenex-forall.Post
-prenex-forall-same-length-8 t c = c .before .before .before .before .before .out .given
+prenex-forall-same-length-4 : (t : ℕ) → prenex-forall-lts.Need-same-length-4 (prenex-forall-calls t) (prenex-forall-at t) prenex-forall.Post
+prenex-forall-same-length-4 t c = search needs
 
 prenex-forall-returns-3 : (t : ℕ) → prenex-forall-lts.Need-returns-3 (prenex-forall-calls t) (prenex-forall-at t) prenex-forall.Post
 prenex-forall-returns-3 t c =
-    let at-take-out = c .before .before .before .before .before .before .before .before .before .before .before .before in
-    let at-if1 = at-take-out .before .before .before .before .before .before in
+    let at-p = c .before .before in
+    let at-take-out = at-p .before .before .before .before .before .before in
+    let at-if1 = at-take-out .before .before .before .before .before in
     let at-slot = at-if1 .before .before in
-    let start = at-slot .before .before .before .before .before in
-    (form-kept taken-out _ _ _ _ _ (start .pre .1 .0) _ _ (start .pre .1 .1 .1 .0) _ (at-slot .slot .ensures) _ refl _ _ _ _ (at-take-out .take-out .ensures .0) (at-if1 .if1 .left) _ _ (c .before .before .p .given .1) (omega (arith, slot-first taken-out _ _ _ _ _ (start .pre .1 .0) _ (start .pre .1 .1 .1 .0) _ (at-slot .slot .ensures))), index-at _ _ _ _ _ _ (c .before .before .p .given .1) (at-take-out .take-out .ensures .1))
+    let start = at-slot .before .before .before in
+    (form-kept taken-out _ _ _ _ _ (start .pre .1 .0) _ _ (start .pre .1 .1 .0) _ (at-slot .slot .ensures) _ refl _ _ _ _ (at-take-out .take-out .ensures .0) (at-if1 .if1 .left) _ _ (at-p .p .given .1), index-at _ _ _ _ _ _ (at-p .p .given .1) (at-take-out .take-out .ensures .1))
 
-take-out-slice-reshare-prefix-normal-view :
-    (t : ℕ) → take-out-lts.Need-slice-reshare-prefix-normal-view (take-out-calls t) (take-out-at t) take-out.Post
+take-out-slice-reshare-prefix-normal-view : (t : ℕ) → take-out-lts.Need-slice-reshare-prefix-normal-view (take-out-calls t) (take-out-at t) take-out.Post
 take-out-slice-reshare-prefix-normal-view t c = search needs
 
 take-out-slice-aggregate-normal-view : (t : ℕ) → take-out-lts.Need-slice-aggregate-normal-view (take-out-calls t) (take-out-at t) take-out.Post
 take-out-slice-aggregate-normal-view t c = search parts
 
-take-out-slice-reshare-prefix-normal-view-2 :
-    (t : ℕ) → take-out-lts.Need-slice-reshare-prefix-normal-view-2 (take-out-calls t) (take-out-at t) take-out.Post
+take-out-slice-reshare-prefix-normal-view-2 : (t : ℕ) → take-out-lts.Need-slice-reshare-prefix-normal-view-2 (take-out-calls t) (take-out-at t) take-out.Post
 take-out-slice-reshare-prefix-normal-view-2 t c = search needs
 
 take-out-slice-aggregate-normal-view-2 : (t : ℕ) → take-out-lts.Need-slice-aggregate-normal-view-2 (take-out-calls t) (take-out-at t) take-out.Post
@@ -305,21 +264,21 @@ take-out-enum-known-view t c = search needs
 
 take-out-prenex-forall-requires : (t : ℕ) → take-out-lts.Need-prenex-forall-requires (take-out-calls t) (take-out-at t) take-out.Post
 take-out-prenex-forall-requires t c κs =
-    let at-view = c .before .before .before .before .before .before in
+    let at-view = c .before .before .before .before .before in
     let at-normal-view = at-view .before .before in
-    let start = at-normal-view .before .before .before .before .before .before .before in
-    let h = forall-below _ _ _ _ _ (start .pre .1 .0) _ (start .pre .1 .1 .1 .0) _ (at-normal-view .normal-view .ensures) _ (at-view .view .given .1) in
-    (omega (arith, start .pre .0), (start .pre .1 .0, (start .pre .1 .1 .0, (omega (arith, start .pre .1 .1 .1 .0), start .pre .1 .1 .1 .1))))
+    let start = at-normal-view .before .before .before .before .before in
+    let h = forall-below _ _ _ _ _ (start .pre .1 .0) _ (start .pre .1 .1 .0) _ (at-normal-view .normal-view .ensures) _ (at-view .view .given .1) in
+    (omega (arith, start .pre .0), (start .pre .1 .0, (omega (arith, start .pre .1 .1 .0), start .pre .1 .1 .1)))
 
 take-out-enum-known-view-2 : (t : ℕ) → take-out-lts.Need-enum-known-view-2 (take-out-calls t) (take-out-at t) take-out.Post
 take-out-enum-known-view-2 t c = search needs
 
 take-out-operand-forms-requires : (t : ℕ) → take-out-lts.Need-operand-forms-requires (take-out-calls t) (take-out-at t) take-out.Post
 take-out-operand-forms-requires t c κs =
-    let at-view2 = c .before .before .before .before .before .before in
+    let at-view2 = c .before .before .before .before .before in
     let at-normal-view = at-view2 .before .before in
-    let start = at-normal-view .before .before .before .before .before .before .before in
-    (omega (arith, start .pre .0), (start .pre .1 .0, (start .pre .1 .1 .0, (start .pre .1 .1 .1 .0, (connective-before _ _ _ _ _ (start .pre .1 .0) _ (start .pre .1 .1 .1 .0) _ (at-normal-view .normal-view .ensures) _ (at-view2 .view2 .given .1), start .pre .1 .1 .1 .1)))))
+    let start = at-normal-view .before .before .before .before .before in
+    (omega (arith, start .pre .0), (start .pre .1 .0, (start .pre .1 .1 .0, (connective-before _ _ _ _ _ (start .pre .1 .0) _ (start .pre .1 .1 .0) _ (at-normal-view .normal-view .ensures) _ (at-view2 .view2 .given .1), start .pre .1 .1 .1))))
 
 take-out-enum-known-m : (t : ℕ) → take-out-lts.Need-enum-known-m (take-out-calls t) (take-out-at t) take-out.Post
 take-out-enum-known-m t c = search needs
@@ -328,32 +287,34 @@ take-out-enum-told-2 : (t : ℕ) → take-out-lts.Need-enum-told-2 (take-out-cal
 take-out-enum-told-2 t c = search needs
 
 take-out-same-length : (t : ℕ) → take-out-lts.Need-same-length (take-out-calls t) (take-out-at t) take-out.Post
-take-out-same-length t c = c .before .before .before .before .before .before .before .before .before .tags2 .given
+take-out-same-length t c = search needs
 
 take-out-same-length-2 : (t : ℕ) → take-out-lts.Need-same-length-2 (take-out-calls t) (take-out-at t) take-out.Post
-take-out-same-length-2 t c = c .before .before .before .before .before .before .before .values2 .given
-
-take-out-same-length-3 : (t : ℕ) → take-out-lts.Need-same-length-3 (take-out-calls t) (take-out-at t) take-out.Post
-take-out-same-length-3 t c = c .before .before .before .before .before .memo2 .given
-
-take-out-same-length-4 : (t : ℕ) → take-out-lts.Need-same-length-4 (take-out-calls t) (take-out-at t) take-out.Post
-take-out-same-length-4 t c = c .before .before .before .out2 .given
+take-out-same-length-2 t c = search needs
 
 take-out-returns : (t : ℕ) → take-out-lts.Need-returns (take-out-calls t) (take-out-at t) take-out.Post
 take-out-returns t c =
-    let at-operand-forms = c .before .before .before .before .before .before .before .before .before .before in
-    let at-view2 = at-operand-forms .before .before .before .before .before .before .before in
+    let at-operand-forms = c .before .before .before .before .before .before in
+    let at-view2 = at-operand-forms .before .before .before .before .before .before in
     let at-normal-view = at-view2 .before .before in
-    let start = at-normal-view .before .before .before .before .before .before .before in
-    (take-full _ _ _ _ _ (start .pre .1 .0) _ (start .pre .1 .1 .1 .0) _ (at-normal-view .normal-view .ensures) _ (at-view2 .view2 .given .1) _ _ _ _ (at-operand-forms .operand-forms .ensures .0) (c .enum-told2 .given .1), tt)
+    let start = at-normal-view .before .before .before .before .before in
+    (take-full _ _ _ _ _ (start .pre .1 .0) _ (start .pre .1 .1 .0) _ (at-normal-view .normal-view .ensures) _ (at-view2 .view2 .given .1) _ _ _ _ (at-operand-forms .operand-forms .ensures .0) (c .enum-told2 .given .1), tt)
 
 take-out-put-connective-requires : (t : ℕ) → take-out-lts.Need-put-connective-requires (take-out-calls t) (take-out-at t) take-out.Post
 take-out-put-connective-requires t c κs =
-    let at-m = c .before .before .before .before .before .before in
-    let at-row2 = at-m .before .before .before in
-    let at-operand-forms = at-row2 .before .before .before .before .before .before .before in
-    let start = at-operand-forms .before .before .before .before .before .before .before .before .before .before .before .before .before .before .before .before in
-    (state-after taken-out _ _ _ _ _ _ _ _ _ (at-operand-forms .operand-forms .ensures .0 .builds) _ _ (at-m .m .given .1), (omega (arith, at-row2 .out2 .given, start .pre .1 .1 .0), (start .pre .1 .1 .1 .0, index-at _ _ _ _ _ _ (at-m .m .given .1) (at-operand-forms .operand-forms .ensures .1))))
+    let at-m = c .before .before .before .before .before in
+    let at-operand-forms = at-m .before .before .before .before .before .before in
+    let start = at-operand-forms .before .before .before .before .before .before .before .before .before .before .before .before .before in
+    (state-after taken-out _ _ _ _ _ _ _ _ _ (at-operand-forms .operand-forms .ensures .0 .builds) _ _ (at-m .m .given .1), (memo-long taken-out _ _ _ _ _ _ _ _ _ (at-operand-forms .operand-forms .ensures .0 .builds) _ _ (at-m .m .given .1), (start .pre .1 .1 .0, index-at _ _ _ _ _ _ (at-m .m .given .1) (at-operand-forms .operand-forms .ensures .1))))
+
+take-out-same-length-3 : (t : ℕ) → take-out-lts.Need-same-length-3 (take-out-calls t) (take-out-at t) take-out.Post
+take-out-same-length-3 t c = search needs
+
+take-out-same-length-4 : (t : ℕ) → take-out-lts.Need-same-length-4 (take-out-calls t) (take-out-at t) take-out.Post
+take-out-same-length-4 t c = search needs
+
+take-out-returns-2 : (t : ℕ) → take-out-lts.Need-returns-2 (take-out-calls t) (take-out-at t) take-out.Post
+take-out-returns-2 t c = search (takes, indexings)
 
 take-out-same-length-5 : (t : ℕ) → take-out-lts.Need-same-length-5 (take-out-calls t) (take-out-at t) take-out.Post
 take-out-same-length-5 t c = search needs
@@ -361,59 +322,29 @@ take-out-same-length-5 t c = search needs
 take-out-same-length-6 : (t : ℕ) → take-out-lts.Need-same-length-6 (take-out-calls t) (take-out-at t) take-out.Post
 take-out-same-length-6 t c = search needs
 
-take-out-returns-2 : (t : ℕ) → take-out-lts.Need-returns-2 (take-out-calls t) (take-out-at t) take-out.Post
-take-out-returns-2 t c = search (takes, indexings)
-
-take-out-same-length-7 : (t : ℕ) → take-out-lts.Need-same-length-7 (take-out-calls t) (take-out-at t) take-out.Post
-take-out-same-length-7 t c = c .before .before .before .before .before .before .before .tags .given
-
-take-out-same-length-8 : (t : ℕ) → take-out-lts.Need-same-length-8 (take-out-calls t) (take-out-at t) take-out.Post
-take-out-same-length-8 t c = c .before .before .before .before .before .values .given
-
-take-out-same-length-9 : (t : ℕ) → take-out-lts.Need-same-length-9 (take-out-calls t) (take-out-at t) take-out.Post
-take-out-same-length-9 t c = c .before .before .before .memo .given
-
-take-out-same-length-10 : (t : ℕ) → take-out-lts.Need-same-length-10 (take-out-calls t) (take-out-at t) take-out.Post
-take-out-same-length-10 t c = c .before .out .given
-
 take-out-returns-3 : (t : ℕ) → take-out-lts.Need-returns-3 (take-out-calls t) (take-out-at t) take-out.Post
 take-out-returns-3 t c =
-    let at-call = c .before .before .before .before .before .before .before .before in
-    let at-view = at-call .before .before .before .before .before .before .before in
-    let at-view-of = at-view .before .before in
-    let start = at-view-of .before .before .before .before .before .before .before in
-    (take-forall _ _ _ _ _ (start .pre .1 .0) _ (start .pre .1 .1 .1 .0) _ (at-view-of .normal-view .ensures) _ (at-view .view .given .1) _ _ _ _ (at-call .prenex-forall .ensures .0), at-call .prenex-forall .ensures .1)
+    let at-prenex-forall = c .before .before .before .before in
+    let at-view = at-prenex-forall .before .before .before .before .before .before in
+    let at-normal-view = at-view .before .before in
+    let start = at-normal-view .before .before .before .before .before in
+    (take-forall _ _ _ _ _ (start .pre .1 .0) _ (start .pre .1 .1 .0) _ (at-normal-view .normal-view .ensures) _ (at-view .view .given .1) _ _ _ _ (at-prenex-forall .prenex-forall .ensures .0), at-prenex-forall .prenex-forall .ensures .1)
 
-take-out-same-length-11 : (t : ℕ) → take-out-lts.Need-same-length-11 (take-out-calls t) (take-out-at t) take-out.Post
-take-out-same-length-11 t c =
-    let at-tags3 = c .before .before .before .before .before in
-    let at-tags2 = at-tags3 .before .before .before .before .before .before .before .before .before .before .before .before .before .before .before .before .before in
-    at-tags3 .tags3 .given ∙ at-tags2 .tags2 .given
+take-out-same-length-7 : (t : ℕ) → take-out-lts.Need-same-length-7 (take-out-calls t) (take-out-at t) take-out.Post
+take-out-same-length-7 t c = search needs
 
-take-out-same-length-12 : (t : ℕ) → take-out-lts.Need-same-length-12 (take-out-calls t) (take-out-at t) take-out.Post
-take-out-same-length-12 t c =
-    let at-values3 = c .before .before .before in
-    let at-values2 = at-values3 .before .before .before .before .before .before .before .before .before .before .before .before .before .before .before .before .before in
-    at-values3 .values3 .given ∙ at-values2 .values2 .given
-
-take-out-same-length-13 : (t : ℕ) → take-out-lts.Need-same-length-13 (take-out-calls t) (take-out-at t) take-out.Post
-take-out-same-length-13 t c = c .before .before .before .before .before .before .before .before .before .before .before .before .before .before .before .before .before .before .memo2 .given
-
-take-out-same-length-14 : (t : ℕ) → take-out-lts.Need-same-length-14 (take-out-calls t) (take-out-at t) take-out.Post
-take-out-same-length-14 t c =
-    let at-row3 = c .before in
-    let at-row2 = at-row3 .before .before .before .before .before .before .before .before .before .before .before .before .before .before .before in
-    at-row3 .out3 .given ∙ at-row2 .out2 .given
+take-out-same-length-8 : (t : ℕ) → take-out-lts.Need-same-length-8 (take-out-calls t) (take-out-at t) take-out.Post
+take-out-same-length-8 t c = search needs
 
 take-out-returns-4 : (t : ℕ) → take-out-lts.Need-returns-4 (take-out-calls t) (take-out-at t) take-out.Post
 take-out-returns-4 t c =
-    let at-put-connective = c .before .before .before .before .before .before in
-    let at-m = at-put-connective .before .before .before .before .before .before .before in
-    let at-operand-forms = at-m .before .before .before .before .before .before .before .before .before .before in
-    let at-view2 = at-operand-forms .before .before .before .before .before .before .before in
+    let at-put-connective = c .before .before .before .before in
+    let at-m = at-put-connective .before .before .before .before .before .before in
+    let at-operand-forms = at-m .before .before .before .before .before .before in
+    let at-view2 = at-operand-forms .before .before .before .before .before .before in
     let at-normal-view = at-view2 .before .before in
-    let start = at-normal-view .before .before .before .before .before .before .before in
-    (take-put _ _ _ _ _ (start .pre .1 .0) _ (start .pre .1 .1 .1 .0) _ (at-normal-view .normal-view .ensures) _ (at-view2 .view2 .given .1) _ _ _ _ (at-operand-forms .operand-forms .ensures .0) _ _ (at-m .m .given .1) _ _ _ (at-put-connective .put-connective .ensures .0), at-put-connective .put-connective .ensures .1)
+    let start = at-normal-view .before .before .before .before .before in
+    (take-put _ _ _ _ _ (start .pre .1 .0) _ (start .pre .1 .1 .0) _ (at-normal-view .normal-view .ensures) _ (at-view2 .view2 .given .1) _ _ _ _ (at-operand-forms .operand-forms .ensures .0) _ _ (at-m .m .given .1) _ _ _ _ (at-put-connective .put-connective .ensures .0) (at-put-connective .put-connective .ensures .1 .1), at-put-connective .put-connective .ensures .1 .0)
 
 pub +operand-forms+prenex-forall+take-out-spec : {M : Type 1} → statement M
 +operand-forms+prenex-forall+take-out-spec =
@@ -428,29 +359,25 @@ pub +operand-forms+prenex-forall+take-out-spec : {M : Type 1} → statement M
     (operand-forms-same-length t)
     (operand-forms-same-length-2 t)
     (operand-forms-returns t)
-    (operand-forms-mul-t17 t)
-    (operand-forms-shared-slice-read-t21 t)
+    (operand-forms-mul-t16 t)
+    (operand-forms-shared-slice-read-t20 t)
     (operand-forms-prenex-forall-requires t)
     (operand-forms-enum-known-m t)
     (operand-forms-enum-told t)
     (operand-forms-same-length-3 t)
     (operand-forms-same-length-4 t)
-    (operand-forms-same-length-5 t)
-    (operand-forms-same-length-6 t)
     (operand-forms-returns-2 t)
     (operand-forms-add-operand-forms t)
     (operand-forms-operand-forms-requires t)
-    (operand-forms-same-length-7 t)
-    (operand-forms-same-length-8 t)
-    (operand-forms-same-length-9 t)
-    (operand-forms-same-length-10 t)
+    (operand-forms-same-length-5 t)
+    (operand-forms-same-length-6 t)
     (operand-forms-returns-3 t))
     (λ t. prenex-forall-lts.spec (prenex-forall-calls t)
     (prenex-forall-at t)
     prenex-forall.Post
     (prenex-forall-slot-requires t)
     (prenex-forall-mul-known t)
-    (prenex-forall-slice-read-known t)
+    (prenex-forall-element-copy-out-known t)
     (prenex-forall-sub-t17 t)
     (prenex-forall-returns t)
     (prenex-forall-take-out-requires t)
@@ -458,16 +385,12 @@ pub +operand-forms+prenex-forall+take-out-spec : {M : Type 1} → statement M
     (prenex-forall-enum-told t)
     (prenex-forall-same-length t)
     (prenex-forall-same-length-2 t)
+    (prenex-forall-returns-2 t)
+    (prenex-forall-add-work t)
+    (prenex-forall-mul-work t)
+    (prenex-forall-element-write-work t)
     (prenex-forall-same-length-3 t)
     (prenex-forall-same-length-4 t)
-    (prenex-forall-returns-2 t)
-    (prenex-forall-add-memo t)
-    (prenex-forall-mul-memo t)
-    (prenex-forall-slice-write-memo t)
-    (prenex-forall-same-length-5 t)
-    (prenex-forall-same-length-6 t)
-    (prenex-forall-same-length-7 t)
-    (prenex-forall-same-length-8 t)
     (prenex-forall-returns-3 t))
     λ t. take-out-lts.spec (take-out-calls t)
     (take-out-at t)
@@ -486,20 +409,14 @@ pub +operand-forms+prenex-forall+take-out-spec : {M : Type 1} → statement M
     (take-out-enum-told-2 t)
     (take-out-same-length t)
     (take-out-same-length-2 t)
-    (take-out-same-length-3 t)
-    (take-out-same-length-4 t)
     (take-out-returns t)
     (take-out-put-connective-requires t)
+    (take-out-same-length-3 t)
+    (take-out-same-length-4 t)
+    (take-out-returns-2 t)
     (take-out-same-length-5 t)
     (take-out-same-length-6 t)
-    (take-out-returns-2 t)
+    (take-out-returns-3 t)
     (take-out-same-length-7 t)
     (take-out-same-length-8 t)
-    (take-out-same-length-9 t)
-    (take-out-same-length-10 t)
-    (take-out-returns-3 t)
-    (take-out-same-length-11 t)
-    (take-out-same-length-12 t)
-    (take-out-same-length-13 t)
-    (take-out-same-length-14 t)
     (take-out-returns-4 t)
