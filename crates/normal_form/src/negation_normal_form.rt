@@ -116,7 +116,7 @@ fn connective_form(
     ensures { λ r. ⌜ Formed normal end n (now (tags .entry)) (now (values .entry)) (now (work .entry)) (normalOf end (now (tags .entry)) (now (values .entry)) (t .0) polarity) r (now (tags .exit)) (now (values .exit)) (now (work .exit)) ⌝ }
     ensures { λ r. ⌜ Indexed r (now (tags .exit)) (now (values .exit)) (now (index .exit)) ⌝ }
 {
-    let Built::At(_, m) = operand_forms(tags, values, work, index, end, n, t, 0, polarity) else {
+    let Built::At(_, m) = operand_forms(tags, values, work, index, end, n, t, polarity) else {
         return Built::Full;
     };
     put_connective(tags, values, work, index, end, m, t, polarity, b)
@@ -149,7 +149,7 @@ fn quantifier_form(
     put_quantifier(tags, values, work, index, end, m, t, polarity, b, p)
 }
 
-// The normal forms of the operands of the term at t from i on. The memo then has their places, and the answer's is 0.
+// The normal forms of the operands of the term at t. The memo then has their places, and the answer's is 0.
 fn operand_forms(
     tags: &mut [u32],
     values: &mut [u32],
@@ -158,26 +158,30 @@ fn operand_forms(
     end: usize,
     n: usize,
     t: TermPlace,
-    i: usize,
     polarity: bool,
 ) -> Built
     requires { ⌜ WalkReady normal end n (now tags) (now values) (now work) ⌝ }
     requires { ⌜ t .0 < end ⌝ }
     requires { ⌜ Before end (now tags) (now values) (t .0) ⌝ }
     requires { ⌜ Index (now tags) (now values) n (now index) ⌝ }
-    ensures { λ r. ⌜ OperandsKnown normal end n (now (tags .entry)) (now (values .entry)) (now (work .entry)) (t .0) polarity i r (now (tags .exit)) (now (values .exit)) (now (work .exit)) ⌝ }
+    ensures { λ r. ⌜ OperandsKnown normal end n (now (tags .entry)) (now (values .entry)) (now (work .entry)) (t .0) polarity 0 r (now (tags .exit)) (now (values .exit)) (now (work .exit)) ⌝ }
     ensures { λ r. ⌜ Indexed r (now (tags .exit)) (now (values .exit)) (now (index .exit)) ⌝ }
 {
-    let run = operands(&tags[..end], &values[..end], t);
-    if run.len() <= i {
-        return Built::At(TermPlace(0), n);
+    let mut m = n;
+    let mut i: usize = 0;
+    loop {
+        let run = operands(&tags[..end], &values[..end], t);
+        if run.len() <= i {
+            return Built::At(TermPlace(0), m);
+        }
+        let u = TermPlace(run[i]);
+        let Built::At(_, k) = negation_normal_form(tags, values, work, index, end, m, u, polarity)
+        else {
+            return Built::Full;
+        };
+        m = k;
+        i += 1;
     }
-    let u = TermPlace(run[i]);
-    let Built::At(_, m) = negation_normal_form(tags, values, work, index, end, n, u, polarity)
-    else {
-        return Built::Full;
-    };
-    operand_forms(tags, values, work, index, end, m, t, i + 1, polarity)
 }
 
 // A pair of the normal forms of a and, at the polarity, of b: their `or`, and their `and` at false polarity.

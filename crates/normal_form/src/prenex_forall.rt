@@ -65,7 +65,7 @@ fn take_out(
         NormalView::Literal => Built::At(x, n),
         NormalView::Forall(body) => prenex_forall(tags, values, work, index, end, n, body),
         NormalView::Connective(b) => {
-            let Built::At(_, m) = operand_forms(tags, values, work, index, end, n, x, 0) else {
+            let Built::At(_, m) = operand_forms(tags, values, work, index, end, n, x) else {
                 return Built::Full;
             };
             put_connective(tags, values, work, index, end, m, x, true, b)
@@ -73,7 +73,7 @@ fn take_out(
     }
 }
 
-// The taken-out forms of the operands of the term at x from i on. The memo then has their places, and the answer's is 0.
+// The taken-out forms of the operands of the term at x. The memo then has their places, and the answer's is 0.
 fn operand_forms(
     tags: &mut [u32],
     values: &mut [u32],
@@ -82,24 +82,28 @@ fn operand_forms(
     end: usize,
     n: usize,
     x: TermPlace,
-    i: usize,
 ) -> Built
     requires { ⌜ WalkReady taken-out end n (now tags) (now values) (now work) ⌝ }
     requires { ⌜ x .0 < end ⌝ }
     requires { ⌜ Before end (now tags) (now values) (x .0) ⌝ }
     requires { ⌜ Index (now tags) (now values) n (now index) ⌝ }
-    ensures { λ r. ⌜ OperandsKnown taken-out end n (now (tags .entry)) (now (values .entry)) (now (work .entry)) (x .0) true i r (now (tags .exit)) (now (values .exit)) (now (work .exit)) ⌝ }
+    ensures { λ r. ⌜ OperandsKnown taken-out end n (now (tags .entry)) (now (values .entry)) (now (work .entry)) (x .0) true 0 r (now (tags .exit)) (now (values .exit)) (now (work .exit)) ⌝ }
     ensures { λ r. ⌜ Indexed r (now (tags .exit)) (now (values .exit)) (now (index .exit)) ⌝ }
 {
-    let run = operands(&tags[..end], &values[..end], x);
-    if run.len() <= i {
-        return Built::At(TermPlace(0), n);
+    let mut m = n;
+    let mut i: usize = 0;
+    loop {
+        let run = operands(&tags[..end], &values[..end], x);
+        if run.len() <= i {
+            return Built::At(TermPlace(0), m);
+        }
+        let u = TermPlace(run[i]);
+        let Built::At(_, k) = prenex_forall(tags, values, work, index, end, m, u) else {
+            return Built::Full;
+        };
+        m = k;
+        i += 1;
     }
-    let u = TermPlace(run[i]);
-    let Built::At(_, m) = prenex_forall(tags, values, work, index, end, n, u) else {
-        return Built::Full;
-    };
-    operand_forms(tags, values, work, index, end, m, x, i + 1)
 }
 
 // The taken-out form of the term in normal form at x, put into the pool of n cells.

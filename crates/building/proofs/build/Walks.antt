@@ -60,7 +60,7 @@ module _ (end : ℕ) (tags values tags₁ values₁ : List ℕ) (l : Left end ta
   pub run-same : (t : ℕ) → runOf end tags₁ values₁ t ≡ runOf end tags values t
   run-same t = rw (l .tags-kept, l .values-kept)
 
-  pub before-same : (t : ℕ) → Before end tags values t → Before end tags₁ values₁ t
+  before-same : (t : ℕ) → Before end tags values t → Before end tags₁ values₁ t
   before-same t b = record { operand = λ i h. rw (run-same t) (b .operand i (rw (run-same t) at h)) }
 
 pub operand-before : (end : ℕ) (tags values : List ℕ) (t : ℕ) → Before end tags values t → (run : List ℕ) → run ≡ runOf end tags values t
@@ -148,7 +148,7 @@ pub ruleset one-term = (form-known, form-full, form-kept)
 
 -- ---- a run of operands
 module _ (w : Walk) (end n : ℕ) (tags values work : List ℕ) (t : ℕ) (polarity : Bool) (i : ℕ) (run : List ℕ) (are : run ≡ runOf end tags values t) where
-  pub operands-end : WalkReady w end n tags values work → t < end → length run ≤ i → OperandsKnown w end n tags values work t polarity i (At (termAt 0) n) tags values work
+  operands-end : WalkReady w end n tags values work → t < end → length run ≤ i → OperandsKnown w end n tags values work t polarity i (At (termAt 0) n) tags values work
   unfolding interns
   operands-end ready h l =
       let e : drop i (runOf end tags values t) ≡ [] = rw (← are) (drop-of-length-le run l) in
@@ -174,7 +174,7 @@ module _ (w : Walk) (end n : ℕ) (tags values work : List ℕ) (t : ℕ) (polar
     run-next : drop i (runOf end tags values t) ≡ u ∷ drop (i + 1) (runOf end tags values t)
     run-next = rw (← are, drop-cons run i 0 h, ← at, add-one i)
 
-    pub operands-full : r₁ ≡ Full → OperandsKnown w end n tags values work t polarity i Full tags₁ values₁ work₁
+    operands-full : r₁ ≡ Full → OperandsKnown w end n tags values work t polarity i Full tags₁ values₁ work₁
     unfolding interns
     operands-full e = record {
       builds = builds-full (entryForm w end tags values) end tags values work first r₁ tags₁ values₁ work₁ (j .formed) e _
@@ -205,7 +205,7 @@ module _ (w : Walk) (end n : ℕ) (tags values work : List ℕ) (t : ℕ) (polar
           ≡ record { pool = interns rest (first .pool) .pool; places = first .place ∷ interns rest (first .pool) .places } = rw run-next in
           e₁ ∙ rw (← h₂ .pool-is, ← h₂ .place-is, ← rest-same)
 
-      pub operands-next : OperandsKnown w end n tags values work t polarity i r₂ tags₂ values₂ work₂
+      operands-next : OperandsKnown w end n tags values work t polarity i r₂ tags₂ values₂ work₂
       operands-next = record {
         builds = rw whole (then-builds w end tags values work first r₁ tags₁ values₁ work₁ (j .formed) p m e _ r₂ tags₂ values₂ work₂ (k .builds));
         places = λ q l f.
@@ -215,7 +215,37 @@ module _ (w : Walk) (end n : ℕ) (tags values work : List ℕ) (t : ℕ) (polar
             rw (whole, run-next, here, z, k .places q l f, run-same end tags values tags₁ values₁ l₂ t);
       }
 
-pub ruleset operand-walks = (operands-end, operands-full, operands-next)
+-- the loop of `operand_forms` at i: whoever does the operands from i on has done all
+pub record OperandsLeft (w : Walk) (end n : ℕ) (tags values work : List ℕ) (t : ℕ) (polarity : Bool) (m : ℕ) (tags₁ values₁ work₁ : List ℕ) (i : ℕ) : Type 0 where
+  pub tags-size : length tags₁ ≡ length tags
+  pub values-size : length values₁ ≡ length values
+  pub ready : WalkReady w end m tags₁ values₁ work₁
+  pub before : Before end tags₁ values₁ t
+  pub whole : (r : Built) (tags′ values′ work′ : List ℕ) → OperandsKnown w end m tags₁ values₁ work₁ t polarity i r tags′ values′ work′
+      → OperandsKnown w end n tags values work t polarity 0 r tags′ values′ work′
+
+module _ (w : Walk) (end n : ℕ) (tags values work : List ℕ) (t : ℕ) (polarity : Bool) where
+  pub loop-start : WalkReady w end n tags values work → Before end tags values t → OperandsLeft w end n tags values work t polarity n tags values work 0
+  loop-start ready before = record { tags-size = refl; values-size = refl; ready = ready; before = before; whole = λ r tags′ values′ work′ k. k }
+
+  module _ (m : ℕ) (tags₁ values₁ work₁ : List ℕ) (i : ℕ) (s : OperandsLeft w end n tags values work t polarity m tags₁ values₁ work₁ i)
+      (run : List ℕ) (are : run ≡ runOf end tags₁ values₁ t) where
+    pub loop-end : t < end → length run ≤ i → OperandsKnown w end n tags values work t polarity 0 (At (termAt 0) m) tags₁ values₁ work₁
+    loop-end h l = s .whole _ _ _ _ (operands-end w end m tags₁ values₁ work₁ t polarity i run are (s .ready) h l)
+
+    module _ (h : i < length run) (r : Built) (tags₂ values₂ work₂ : List ℕ) (j : Known w end m tags₁ values₁ work₁ (getD run i 0) polarity r tags₂ values₂ work₂) where
+      pub loop-full : r ≡ Full → OperandsKnown w end n tags values work t polarity 0 Full tags₂ values₂ work₂
+      loop-full e = s .whole _ _ _ _ (operands-full w end m tags₁ values₁ work₁ t polarity i run are h _ refl r tags₂ values₂ work₂ j e)
+
+      pub loop-next : (p : TermPlace) (l : ℕ) → r ≡ At p l → OperandsLeft w end n tags values work t polarity l tags₂ values₂ work₂ (i + 1)
+      loop-next p l e = record {
+        tags-size = j .formed .puts .left .tags-size ∙ s .tags-size;
+        values-size = j .formed .puts .left .values-size ∙ s .values-size;
+        ready = ready-after w end tags₁ values₁ work₁ _ r tags₂ values₂ work₂ (j .formed) p l e;
+        before = before-same end tags₁ values₁ tags₂ values₂ (j .formed .puts .left) t (s .before);
+        whole = λ r′ tags′ values′ work′ k.
+            s .whole r′ tags′ values′ work′ (operands-next w end m tags₁ values₁ work₁ t polarity i run are h _ refl r tags₂ values₂ work₂ j p l e r′ tags′ values′ work′ k);
+      }
 
 -- ---- a connective over its operands' forms
 module _ (w : Walk) (end n : ℕ) (tags values work : List ℕ) (t : ℕ) (polarity b : Bool) (is : formOf w end tags values t polarity ≡ nmany b (operandForms w end tags values t polarity 0))

@@ -100,8 +100,6 @@ module _ (end n : ℕ) (tags values work : List ℕ) (ready : WalkReady normal e
   pub many-before : (b : Bool) → v ≡ AndOr b → Before end tags values t
   many-before b e = record { operand = many-below (take end tags) (take end values) t v is b e }
 
-pub ruleset expands = (expand-opaque, expand-not, expand-implies, expand-ite, expand-iff)
-
 -- ---- the measures: the greater of two places
 unfoldable pub maxOf : ℕ → ℕ → ℕ
 maxOf a b = cond (ltb a b) b a

@@ -2,12 +2,13 @@ use borrow.Author.Needs.{needs}
 use native.Mathlib.Omega.{arith}
 use mathlib.Core.Path.{refl, sym, _∙_}
 use Rattle.building.specs.Walk.{normal}
+use Rattle.descriptions.specs.Index.{Index}
 use Rattle.building.proofs.terms.Cells.{parts, run-short}
 use Rattle.building.proofs.build.Indexing.{indexings, index-at}
-use Rattle.building.proofs.build.Walks.{slot-within, before-same, operand-before, state-after, own-ready, own-after, memo-long, place-small, ready-after, one-term, form-full, form-kept, operand-walks, operands-next}
+use Rattle.building.proofs.build.Walks.{slot-within, operand-before, state-after, own-ready, own-after, memo-long, place-small, ready-after, one-term, form-full, form-kept, OperandsLeft, loop-start, loop-end, loop-full, loop-next}
 use Rattle.normal_form.proofs.negation_normal_form.Forms.{not-below, implies-below, ite-below, iff-below, quantifier-body}
 use Rattle.normal_form.proofs.negation_normal_form.Steps.{pairs, pair-right-full, pair-put, twos, two-right-full, two-put}
-use Rattle.normal_form.proofs.negation_normal_form.Laws.{expand-ite, maxOf, max-left, max-right, max-below, many-before, expands, expand-many-full, expand-many, expand-quantifier-full, expand-quantifier}
+use Rattle.normal_form.proofs.negation_normal_form.Laws.{expand-opaque, expand-not, expand-implies, expand-ite, expand-iff, maxOf, max-left, max-right, max-below, many-before, expand-many-full, expand-many, expand-quantifier-full, expand-quantifier}
 use Prim.Native.Nat.{ℕ, _<_, _+_, _*_, _-_}
 use borrow.Fn.Kinds.{In}
 use borrow.Fn.PlainCycle.{Measures, is, falls, and}
@@ -56,7 +57,7 @@ abbrev μ-negation-normal-form : Measures 4 negation-normal-form-kinds.ps ℕ
 μ-negation-normal-form κs a = a .1 .1 .1 .1 .1 .1 .0 .0 * 32768 + 24576
 
 abbrev μ-operand-forms : Measures 4 operand-forms-kinds.ps ℕ
-μ-operand-forms κs a = a .1 .1 .1 .1 .1 .1 .0 .0 * 32768 + (8192 - a .1 .1 .1 .1 .1 .1 .1 .0)
+μ-operand-forms κs a = a .1 .1 .1 .1 .1 .1 .0 .0 * 32768 + 1
 
 abbrev μ-pair-of : Measures 4 pair-of-kinds.ps ℕ
 μ-pair-of κs a = maxOf (a .1 .1 .1 .1 .1 .1 .1 .0 .0 .0) (a .1 .1 .1 .1 .1 .1 .1 .1 .0 .0) * 32768 + 24577
@@ -146,6 +147,12 @@ abbrev two-pairs-below : ℕ → In 4 two-pairs-kinds.ps
 two-pairs-below t =
     and 4 two-pairs-kinds.ps (falls 4 two-pairs-kinds.ps _<_ μ-two-pairs t) two-pairs.Pre
 
+abbrev operand-forms-Inv-loop : operand-forms-lts.InvT-loop
+operand-forms-Inv-loop tags₀ values₀ work₀ index₀ end n t polarity m₀ i₀ tags values work index m i = OperandsLeft normal end n tags₀ values₀ work₀ (t .0) polarity m tags values work i × Index tags values m index
+
+abbrev operand-forms-μ-loop : operand-forms-lts.MeasureT-loop
+operand-forms-μ-loop tags₀ values₀ work₀ index₀ end n t polarity m₀ i₀ tags values work index m i = 8192 - i
+
 -- what the calls in `two-pairs` ask and tell, below the measure t
 abbrev two-pairs-calls : ℕ → two-pairs-lts.Claims
 two-pairs-calls t = (pair-of-below t, pair-of.Post, put-pair-reads.Asked, put-pair-reads.Learnt)
@@ -160,7 +167,7 @@ pair-of-calls t = (negation-normal-form-below t, negation-normal-form.Post, put-
 
 -- what the calls in `operand-forms` ask and tell, below the measure t
 abbrev operand-forms-calls : ℕ → operand-forms-lts.Claims
-operand-forms-calls t = (operands-reads.Asked, operands-reads.Learnt, negation-normal-form-below t, negation-normal-form.Post, operand-forms-below t, operand-forms.Post)
+operand-forms-calls t = (operands-reads.Asked, operands-reads.Learnt, negation-normal-form-below t, negation-normal-form.Post)
 
 -- what the calls in `negation-normal-form` ask and tell, below the measure t
 abbrev negation-normal-form-calls : ℕ → negation-normal-form-lts.Claims
@@ -186,10 +193,14 @@ connective-form-enum-told : (t : ℕ) → connective-form-lts.Need-enum-told (co
 connective-form-enum-told t c = search needs
 
 connective-form-same-length : (t : ℕ) → connective-form-lts.Need-same-length (connective-form-calls t) (connective-form-at t) connective-form.Post
-connective-form-same-length t c = search needs
+connective-form-same-length t c =
+    let at-tags = c .before .before .before .before .before in
+    at-tags .tags .given
 
 connective-form-same-length-2 : (t : ℕ) → connective-form-lts.Need-same-length-2 (connective-form-calls t) (connective-form-at t) connective-form.Post
-connective-form-same-length-2 t c = search needs
+connective-form-same-length-2 t c =
+    let at-values = c .before .before .before in
+    at-values .values .given
 
 connective-form-returns : (t : ℕ) → connective-form-lts.Need-returns (connective-form-calls t) (connective-form-at t) connective-form.Post
 connective-form-returns t c =
@@ -205,10 +216,16 @@ connective-form-put-connective-requires t c κs =
     (state-after normal _ _ _ _ _ _ _ _ _ (at-operand-forms .operand-forms .ensures .0 .builds) _ _ (at-m .m .given .1), (memo-long normal _ _ _ _ _ _ _ _ _ (at-operand-forms .operand-forms .ensures .0 .builds) _ _ (at-m .m .given .1), (start .pre .1 .1 .0, index-at _ _ _ _ _ _ (at-m .m .given .1) (at-operand-forms .operand-forms .ensures .1))))
 
 connective-form-same-length-3 : (t : ℕ) → connective-form-lts.Need-same-length-3 (connective-form-calls t) (connective-form-at t) connective-form.Post
-connective-form-same-length-3 t c = search needs
+connective-form-same-length-3 t c =
+    let at-tags2 = c .before .before .before in
+    let at-tags = at-tags2 .before .before .before .before .before .before .before .before .before .before .before .before in
+    at-tags2 .tags2 .given ∙ at-tags .tags .given
 
 connective-form-same-length-4 : (t : ℕ) → connective-form-lts.Need-same-length-4 (connective-form-calls t) (connective-form-at t) connective-form.Post
-connective-form-same-length-4 t c = search needs
+connective-form-same-length-4 t c =
+    let at-values2 = c .before in
+    let at-values = at-values2 .before .before .before .before .before .before .before .before .before .before .before .before in
+    at-values2 .values2 .given ∙ at-values .values .given
 
 connective-form-returns-2 : (t : ℕ) → connective-form-lts.Need-returns-2 (connective-form-calls t) (connective-form-at t) connective-form.Post
 connective-form-returns-2 t c =
@@ -306,46 +323,78 @@ expand-quantifier-form-requires t c κs =
     (omega (arith, start .pre .0), (start .pre .1 .0, (start .pre .1 .1 .0, (sym (at-view-of .view-of .ensures) ∙ at-view6 .view6 .given .1, start .pre .1 .1 .1))))
 
 expand-same-length : (t : ℕ) → expand-lts.Need-same-length (expand-calls t) (expand-at t) expand.Post
-expand-same-length t c = search needs
+expand-same-length t c =
+    let at-tags = c .before .before .before in
+    at-tags .tags .given
 
 expand-same-length-2 : (t : ℕ) → expand-lts.Need-same-length-2 (expand-calls t) (expand-at t) expand.Post
-expand-same-length-2 t c = search needs
+expand-same-length-2 t c =
+    let at-values = c .before in
+    at-values .values .given
 
 expand-returns : (t : ℕ) → expand-lts.Need-returns (expand-calls t) (expand-at t) expand.Post
-expand-returns t c = search (expands, indexings)
+expand-returns t c = search (expand-opaque, indexings)
 
 expand-same-length-3 : (t : ℕ) → expand-lts.Need-same-length-3 (expand-calls t) (expand-at t) expand.Post
-expand-same-length-3 t c = search needs
+expand-same-length-3 t c =
+    let at-tags2 = c .before .before .before in
+    at-tags2 .tags2 .given
 
 expand-same-length-4 : (t : ℕ) → expand-lts.Need-same-length-4 (expand-calls t) (expand-at t) expand.Post
-expand-same-length-4 t c = search needs
+expand-same-length-4 t c =
+    let at-values2 = c .before in
+    at-values2 .values2 .given
 
 expand-returns-2 : (t : ℕ) → expand-lts.Need-returns-2 (expand-calls t) (expand-at t) expand.Post
-expand-returns-2 t c = search (expands, indexings)
+expand-returns-2 t c =
+    let at-negation-normal-form = c .before .before .before .before in
+    let at-view = at-negation-normal-form .before .before .before .before .before .before in
+    let at-view-of = at-view .before .before in
+    let start = at-view-of .before .before .before .before .before in
+    (expand-not _ _ _ _ _ (start .pre .1 .0) _ _ _ (at-view-of .view-of .ensures) _ (at-view .view .given .1) _ _ _ _ (at-negation-normal-form .negation-normal-form .ensures .0), at-negation-normal-form .negation-normal-form .ensures .1)
 
 expand-same-length-5 : (t : ℕ) → expand-lts.Need-same-length-5 (expand-calls t) (expand-at t) expand.Post
-expand-same-length-5 t c = search needs
+expand-same-length-5 t c =
+    let at-tags3 = c .before .before .before in
+    at-tags3 .tags3 .given
 
 expand-same-length-6 : (t : ℕ) → expand-lts.Need-same-length-6 (expand-calls t) (expand-at t) expand.Post
-expand-same-length-6 t c = search needs
+expand-same-length-6 t c =
+    let at-values3 = c .before in
+    at-values3 .values3 .given
 
 expand-returns-3 : (t : ℕ) → expand-lts.Need-returns-3 (expand-calls t) (expand-at t) expand.Post
-expand-returns-3 t c = search needs
+expand-returns-3 t c =
+    let at-connective-form = c .before .before .before .before in
+    (at-connective-form .connective-form .ensures .0, at-connective-form .connective-form .ensures .1)
 
 expand-same-length-7 : (t : ℕ) → expand-lts.Need-same-length-7 (expand-calls t) (expand-at t) expand.Post
-expand-same-length-7 t c = search needs
+expand-same-length-7 t c =
+    let at-tags4 = c .before .before .before in
+    at-tags4 .tags4 .given
 
 expand-same-length-8 : (t : ℕ) → expand-lts.Need-same-length-8 (expand-calls t) (expand-at t) expand.Post
-expand-same-length-8 t c = search needs
+expand-same-length-8 t c =
+    let at-values4 = c .before in
+    at-values4 .values4 .given
 
 expand-returns-4 : (t : ℕ) → expand-lts.Need-returns-4 (expand-calls t) (expand-at t) expand.Post
-expand-returns-4 t c = search (expands, indexings)
+expand-returns-4 t c =
+    let at-pair-of = c .before .before .before .before in
+    let at-view3 = at-pair-of .before .before .before .before .before .before in
+    let at-view-of = at-view3 .before .before in
+    let start = at-view-of .before .before .before .before .before in
+    (expand-implies _ _ _ _ _ (start .pre .1 .0) _ _ _ (at-view-of .view-of .ensures) _ _ (at-view3 .view3 .given .1) _ _ _ _ (at-pair-of .pair-of .ensures .0), at-pair-of .pair-of .ensures .1)
 
 expand-same-length-9 : (t : ℕ) → expand-lts.Need-same-length-9 (expand-calls t) (expand-at t) expand.Post
-expand-same-length-9 t c = search needs
+expand-same-length-9 t c =
+    let at-tags5 = c .before .before .before in
+    at-tags5 .tags5 .given
 
 expand-same-length-10 : (t : ℕ) → expand-lts.Need-same-length-10 (expand-calls t) (expand-at t) expand.Post
-expand-same-length-10 t c = search needs
+expand-same-length-10 t c =
+    let at-values5 = c .before in
+    at-values5 .values5 .given
 
 expand-returns-5 : (t : ℕ) → expand-lts.Need-returns-5 (expand-calls t) (expand-at t) expand.Post
 expand-returns-5 t c =
@@ -356,22 +405,37 @@ expand-returns-5 t c =
     (expand-ite _ _ _ _ _ (start .pre .1 .0) _ _ _ (at-view-of .view-of .ensures) _ _ _ (at-view4 .view4 .given .1) _ _ _ _ (at-two-pairs .two-pairs .ensures .0), at-two-pairs .two-pairs .ensures .1)
 
 expand-same-length-11 : (t : ℕ) → expand-lts.Need-same-length-11 (expand-calls t) (expand-at t) expand.Post
-expand-same-length-11 t c = search needs
+expand-same-length-11 t c =
+    let at-tags6 = c .before .before .before in
+    at-tags6 .tags6 .given
 
 expand-same-length-12 : (t : ℕ) → expand-lts.Need-same-length-12 (expand-calls t) (expand-at t) expand.Post
-expand-same-length-12 t c = search needs
+expand-same-length-12 t c =
+    let at-values6 = c .before in
+    at-values6 .values6 .given
 
 expand-returns-6 : (t : ℕ) → expand-lts.Need-returns-6 (expand-calls t) (expand-at t) expand.Post
-expand-returns-6 t c = search (expands, indexings)
+expand-returns-6 t c =
+    let at-two-pairs2 = c .before .before .before .before in
+    let at-view5 = at-two-pairs2 .before .before .before .before .before .before in
+    let at-view-of = at-view5 .before .before in
+    let start = at-view-of .before .before .before .before .before in
+    (expand-iff _ _ _ _ _ (start .pre .1 .0) _ _ _ (at-view-of .view-of .ensures) _ _ (at-view5 .view5 .given .1) _ _ _ _ (at-two-pairs2 .two-pairs2 .ensures .0), at-two-pairs2 .two-pairs2 .ensures .1)
 
 expand-same-length-13 : (t : ℕ) → expand-lts.Need-same-length-13 (expand-calls t) (expand-at t) expand.Post
-expand-same-length-13 t c = search needs
+expand-same-length-13 t c =
+    let at-tags7 = c .before .before .before in
+    at-tags7 .tags7 .given
 
 expand-same-length-14 : (t : ℕ) → expand-lts.Need-same-length-14 (expand-calls t) (expand-at t) expand.Post
-expand-same-length-14 t c = search needs
+expand-same-length-14 t c =
+    let at-values7 = c .before in
+    at-values7 .values7 .given
 
 expand-returns-7 : (t : ℕ) → expand-lts.Need-returns-7 (expand-calls t) (expand-at t) expand.Post
-expand-returns-7 t c = search needs
+expand-returns-7 t c =
+    let at-quantifier-form = c .before .before .before .before in
+    (at-quantifier-form .quantifier-form .ensures .0, at-quantifier-form .quantifier-form .ensures .1)
 
 negation-normal-form-slot-requires : (t : ℕ) → negation-normal-form-lts.Need-slot-requires (negation-normal-form-calls t) (negation-normal-form-at t) negation-normal-form.Post
 negation-normal-form-slot-requires t c κs = search needs
@@ -404,10 +468,14 @@ negation-normal-form-enum-told : (t : ℕ) → negation-normal-form-lts.Need-enu
 negation-normal-form-enum-told t c = search needs
 
 negation-normal-form-same-length : (t : ℕ) → negation-normal-form-lts.Need-same-length (negation-normal-form-calls t) (negation-normal-form-at t) negation-normal-form.Post
-negation-normal-form-same-length t c = search needs
+negation-normal-form-same-length t c =
+    let at-tags = c .before .before .before .before .before in
+    at-tags .tags .given
 
 negation-normal-form-same-length-2 : (t : ℕ) → negation-normal-form-lts.Need-same-length-2 (negation-normal-form-calls t) (negation-normal-form-at t) negation-normal-form.Post
-negation-normal-form-same-length-2 t c = search needs
+negation-normal-form-same-length-2 t c =
+    let at-values = c .before .before .before in
+    at-values .values .given
 
 negation-normal-form-returns-2 : (t : ℕ) → negation-normal-form-lts.Need-returns-2 (negation-normal-form-calls t) (negation-normal-form-at t) negation-normal-form.Post
 negation-normal-form-returns-2 t c =
@@ -438,10 +506,14 @@ negation-normal-form-element-write-work t c =
     search needs
 
 negation-normal-form-same-length-3 : (t : ℕ) → negation-normal-form-lts.Need-same-length-3 (negation-normal-form-calls t) (negation-normal-form-at t) negation-normal-form.Post
-negation-normal-form-same-length-3 t c = search needs
+negation-normal-form-same-length-3 t c =
+    let at-tags = c .before .before .before .before .before .before .before in
+    at-tags .tags .given
 
 negation-normal-form-same-length-4 : (t : ℕ) → negation-normal-form-lts.Need-same-length-4 (negation-normal-form-calls t) (negation-normal-form-at t) negation-normal-form.Post
-negation-normal-form-same-length-4 t c = search needs
+negation-normal-form-same-length-4 t c =
+    let at-values = c .before .before .before .before .before in
+    at-values .values .given
 
 negation-normal-form-returns-3 : (t : ℕ) → negation-normal-form-lts.Need-returns-3 (negation-normal-form-calls t) (negation-normal-form-at t) negation-normal-form.Post
 negation-normal-form-returns-3 t c =
@@ -452,86 +524,115 @@ negation-normal-form-returns-3 t c =
     let start = at-slot .before .before .before in
     (form-kept normal _ _ _ _ _ (start .pre .1 .0) _ _ (start .pre .1 .1 .0) _ (at-slot .slot .ensures) _ refl _ _ _ _ (at-expand .expand .ensures .0) (at-if1 .if1 .left) _ _ (at-p .p .given .1), index-at _ _ _ _ _ _ (at-p .p .given .1) (at-expand .expand .ensures .1))
 
-operand-forms-slice-reshare-prefix-operands : (t : ℕ) → operand-forms-lts.Need-slice-reshare-prefix-operands (operand-forms-calls t) (operand-forms-at t) operand-forms.Post
+operand-forms-loop-holds : (t : ℕ) → operand-forms-lts.Need-loop-holds (operand-forms-calls t) (operand-forms-at t) operand-forms.Post operand-forms-Inv-loop operand-forms-μ-loop
+operand-forms-loop-holds t c =
+    let start = c .before .before in
+    (loop-start normal _ _ _ _ _ _ _ (start .pre .1 .0) (start .pre .1 .1 .1 .0), start .pre .1 .1 .1 .1)
+
+operand-forms-slice-reshare-prefix-operands : (t : ℕ) → operand-forms-lts.Need-slice-reshare-prefix-operands (operand-forms-calls t) (operand-forms-at t) operand-forms.Post operand-forms-Inv-loop operand-forms-μ-loop
 operand-forms-slice-reshare-prefix-operands t c = search needs
 
-operand-forms-slice-aggregate-operands : (t : ℕ) → operand-forms-lts.Need-slice-aggregate-operands (operand-forms-calls t) (operand-forms-at t) operand-forms.Post
-operand-forms-slice-aggregate-operands t c = search parts
+operand-forms-slice-aggregate-operands : (t : ℕ) → operand-forms-lts.Need-slice-aggregate-operands (operand-forms-calls t) (operand-forms-at t) operand-forms.Post operand-forms-Inv-loop operand-forms-μ-loop
+operand-forms-slice-aggregate-operands t c =
+    let at-loop = c .before in
+    let s = at-loop .loop .inv .0 .ready .state in
+    search parts
 
-operand-forms-slice-reshare-prefix-operands-2 : (t : ℕ) → operand-forms-lts.Need-slice-reshare-prefix-operands-2 (operand-forms-calls t) (operand-forms-at t) operand-forms.Post
+operand-forms-slice-reshare-prefix-operands-2 : (t : ℕ) → operand-forms-lts.Need-slice-reshare-prefix-operands-2 (operand-forms-calls t) (operand-forms-at t) operand-forms.Post operand-forms-Inv-loop operand-forms-μ-loop
 operand-forms-slice-reshare-prefix-operands-2 t c = search needs
 
-operand-forms-slice-aggregate-operands-2 : (t : ℕ) → operand-forms-lts.Need-slice-aggregate-operands-2 (operand-forms-calls t) (operand-forms-at t) operand-forms.Post
-operand-forms-slice-aggregate-operands-2 t c = search parts
+operand-forms-slice-aggregate-operands-2 : (t : ℕ) → operand-forms-lts.Need-slice-aggregate-operands-2 (operand-forms-calls t) (operand-forms-at t) operand-forms.Post operand-forms-Inv-loop operand-forms-μ-loop
+operand-forms-slice-aggregate-operands-2 t c =
+    let at-loop = c .before .before in
+    let s = at-loop .loop .inv .0 .ready .state in
+    search parts
 
-operand-forms-operands-requires : (t : ℕ) → operand-forms-lts.Need-operands-requires (operand-forms-calls t) (operand-forms-at t) operand-forms.Post
+operand-forms-operands-requires : (t : ℕ) → operand-forms-lts.Need-operands-requires (operand-forms-calls t) (operand-forms-at t) operand-forms.Post operand-forms-Inv-loop operand-forms-μ-loop
 operand-forms-operands-requires t c κs = search needs
 
-operand-forms-same-length : (t : ℕ) → operand-forms-lts.Need-same-length (operand-forms-calls t) (operand-forms-at t) operand-forms.Post
-operand-forms-same-length t c = search needs
+operand-forms-same-length : (t : ℕ) → operand-forms-lts.Need-same-length (operand-forms-calls t) (operand-forms-at t) operand-forms.Post operand-forms-Inv-loop operand-forms-μ-loop
+operand-forms-same-length t c =
+    let at-loop = c .before .before .before .before in
+    at-loop .loop .inv .0 .tags-size
 
-operand-forms-same-length-2 : (t : ℕ) → operand-forms-lts.Need-same-length-2 (operand-forms-calls t) (operand-forms-at t) operand-forms.Post
-operand-forms-same-length-2 t c = search needs
+operand-forms-same-length-2 : (t : ℕ) → operand-forms-lts.Need-same-length-2 (operand-forms-calls t) (operand-forms-at t) operand-forms.Post operand-forms-Inv-loop operand-forms-μ-loop
+operand-forms-same-length-2 t c =
+    let at-loop = c .before .before .before .before in
+    at-loop .loop .inv .0 .values-size
 
-operand-forms-returns : (t : ℕ) → operand-forms-lts.Need-returns (operand-forms-calls t) (operand-forms-at t) operand-forms.Post
-operand-forms-returns t c = search (operand-walks, indexings)
+operand-forms-returns : (t : ℕ) → operand-forms-lts.Need-returns (operand-forms-calls t) (operand-forms-at t) operand-forms.Post operand-forms-Inv-loop operand-forms-μ-loop
+operand-forms-returns t c =
+    let at-operands = c .before in
+    let at-loop = at-operands .before .before .before in
+    let start = at-loop .before .before .before in
+    (loop-end normal _ _ _ _ _ _ _ _ _ _ _ _ (at-loop .loop .inv .0) _ (at-operands .operands .ensures) (start .pre .1 .1 .0) (c .if1 .taken), at-loop .loop .inv .1)
 
-operand-forms-mul-t17 : (t : ℕ) → operand-forms-lts.Need-mul-t17 (operand-forms-calls t) (operand-forms-at t) operand-forms.Post
-operand-forms-mul-t17 t c = search needs
+operand-forms-mul-t18 : (t : ℕ) → operand-forms-lts.Need-mul-t18 (operand-forms-calls t) (operand-forms-at t) operand-forms.Post operand-forms-Inv-loop operand-forms-μ-loop
+operand-forms-mul-t18 t c = search needs
 
-operand-forms-shared-slice-read-t21 : (t : ℕ) → operand-forms-lts.Need-shared-slice-read-t21 (operand-forms-calls t) (operand-forms-at t) operand-forms.Post
-operand-forms-shared-slice-read-t21 t c = search needs
+operand-forms-shared-slice-read-t22 : (t : ℕ) → operand-forms-lts.Need-shared-slice-read-t22 (operand-forms-calls t) (operand-forms-at t) operand-forms.Post operand-forms-Inv-loop operand-forms-μ-loop
+operand-forms-shared-slice-read-t22 t c = search needs
 
-operand-forms-negation-normal-form-requires : (t : ℕ) → operand-forms-lts.Need-negation-normal-form-requires (operand-forms-calls t) (operand-forms-at t) operand-forms.Post
+operand-forms-negation-normal-form-requires : (t : ℕ) → operand-forms-lts.Need-negation-normal-form-requires (operand-forms-calls t) (operand-forms-at t) operand-forms.Post operand-forms-Inv-loop operand-forms-μ-loop
 operand-forms-negation-normal-form-requires t c κs =
     let at-if1 = c .before .before .before .before .before in
     let at-operands = at-if1 .before in
-    let start = at-operands .before .before .before .before .before in
-    let h = operand-before _ _ _ _ (start .pre .1 .1 .1 .0) _ (at-operands .operands .ensures) _ (at-if1 .if1 .left) in
-    (omega (arith, start .pre .0), (start .pre .1 .0, (omega arith, start .pre .1 .1 .1 .1)))
+    let at-loop = at-operands .before .before .before in
+    let start = at-loop .before .before .before in
+    let h = operand-before _ _ _ _ (at-loop .loop .inv .0 .before) _ (at-operands .operands .ensures) _ (at-if1 .if1 .left) in
+    (omega (arith, start .pre .0), (at-loop .loop .inv .0 .ready, (omega (arith, start .pre .1 .1 .0), at-loop .loop .inv .1)))
 
-operand-forms-enum-known-m : (t : ℕ) → operand-forms-lts.Need-enum-known-m (operand-forms-calls t) (operand-forms-at t) operand-forms.Post
-operand-forms-enum-known-m t c = search needs
+operand-forms-enum-known-k : (t : ℕ) → operand-forms-lts.Need-enum-known-k (operand-forms-calls t) (operand-forms-at t) operand-forms.Post operand-forms-Inv-loop operand-forms-μ-loop
+operand-forms-enum-known-k t c = search needs
 
-operand-forms-enum-told : (t : ℕ) → operand-forms-lts.Need-enum-told (operand-forms-calls t) (operand-forms-at t) operand-forms.Post
+operand-forms-enum-told : (t : ℕ) → operand-forms-lts.Need-enum-told (operand-forms-calls t) (operand-forms-at t) operand-forms.Post operand-forms-Inv-loop operand-forms-μ-loop
 operand-forms-enum-told t c = search needs
 
-operand-forms-same-length-3 : (t : ℕ) → operand-forms-lts.Need-same-length-3 (operand-forms-calls t) (operand-forms-at t) operand-forms.Post
-operand-forms-same-length-3 t c = search needs
+operand-forms-same-length-3 : (t : ℕ) → operand-forms-lts.Need-same-length-3 (operand-forms-calls t) (operand-forms-at t) operand-forms.Post operand-forms-Inv-loop operand-forms-μ-loop
+operand-forms-same-length-3 t c =
+    let at-tags = c .before .before .before .before .before in
+    let at-loop = at-tags .before .before .before .before .before .before .before .before .before .before .before in
+    at-tags .tags .given ∙ at-loop .loop .inv .0 .tags-size
 
-operand-forms-same-length-4 : (t : ℕ) → operand-forms-lts.Need-same-length-4 (operand-forms-calls t) (operand-forms-at t) operand-forms.Post
-operand-forms-same-length-4 t c = search needs
+operand-forms-same-length-4 : (t : ℕ) → operand-forms-lts.Need-same-length-4 (operand-forms-calls t) (operand-forms-at t) operand-forms.Post operand-forms-Inv-loop operand-forms-μ-loop
+operand-forms-same-length-4 t c =
+    let at-values = c .before .before .before in
+    let at-loop = at-values .before .before .before .before .before .before .before .before .before .before .before .before .before in
+    at-values .values .given ∙ at-loop .loop .inv .0 .values-size
 
-operand-forms-returns-2 : (t : ℕ) → operand-forms-lts.Need-returns-2 (operand-forms-calls t) (operand-forms-at t) operand-forms.Post
-operand-forms-returns-2 t c = search (operand-walks, indexings)
-
-operand-forms-add-operand-forms : (t : ℕ) → operand-forms-lts.Need-add-operand-forms (operand-forms-calls t) (operand-forms-at t) operand-forms.Post
-operand-forms-add-operand-forms t c = search needs
-
-operand-forms-operand-forms-requires : (t : ℕ) → operand-forms-lts.Need-operand-forms-requires (operand-forms-calls t) (operand-forms-at t) operand-forms.Post
-operand-forms-operand-forms-requires t c κs =
-    let at-m = c .before .before .before .before .before in
-    let at-negation-normal-form = at-m .before .before .before .before .before .before in
+operand-forms-returns-2 : (t : ℕ) → operand-forms-lts.Need-returns-2 (operand-forms-calls t) (operand-forms-at t) operand-forms.Post operand-forms-Inv-loop operand-forms-μ-loop
+operand-forms-returns-2 t c =
+    let at-negation-normal-form = c .before .before .before .before .before .before in
     let at-if1 = at-negation-normal-form .before .before .before .before .before .before in
     let at-operands = at-if1 .before in
-    let start = at-operands .before .before .before .before .before in
-    let j = at-negation-normal-form .negation-normal-form .ensures .0 in
-    (omega (arith, run-short _ _ _ _ (start .pre .1 .0 .state) _ (start .pre .1 .1 .0) _ (at-operands .operands .ensures), at-if1 .if1 .left, start .pre .0), (ready-after normal _ _ _ _ _ _ _ _ _ (j .formed) _ _ (at-m .m .given .1), (start .pre .1 .1 .0, (before-same _ _ _ _ _ (j .formed .puts .left) _ (start .pre .1 .1 .1 .0), index-at _ _ _ _ _ _ (at-m .m .given .1) (at-negation-normal-form .negation-normal-form .ensures .1)))))
+    let at-loop = at-operands .before .before .before in
+    (loop-full normal _ _ _ _ _ _ _ _ _ _ _ _ (at-loop .loop .inv .0) _ (at-operands .operands .ensures) (at-if1 .if1 .left) _ _ _ _ (at-negation-normal-form .negation-normal-form .ensures .0) (c .enum-told .given .1), tt)
 
-operand-forms-same-length-5 : (t : ℕ) → operand-forms-lts.Need-same-length-5 (operand-forms-calls t) (operand-forms-at t) operand-forms.Post
-operand-forms-same-length-5 t c = search needs
+operand-forms-add-i : (t : ℕ) → operand-forms-lts.Need-add-i (operand-forms-calls t) (operand-forms-at t) operand-forms.Post operand-forms-Inv-loop operand-forms-μ-loop
+operand-forms-add-i t c =
+    let at-if1 = c .before .before .before .before .before .before .before .before .before .before .before .before .before in
+    let at-operands = at-if1 .before in
+    let at-loop = at-operands .before .before .before in
+    let start = at-loop .before .before .before in
+    let h = run-short _ _ _ _ (at-loop .loop .inv .0 .ready .state) _ (start .pre .1 .1 .0) _ (at-operands .operands .ensures) in
+    omega (arith, at-if1 .if1 .left)
 
-operand-forms-same-length-6 : (t : ℕ) → operand-forms-lts.Need-same-length-6 (operand-forms-calls t) (operand-forms-at t) operand-forms.Post
-operand-forms-same-length-6 t c = search needs
+operand-forms-loop-less : (t : ℕ) → operand-forms-lts.Need-loop-less (operand-forms-calls t) (operand-forms-at t) operand-forms.Post operand-forms-Inv-loop operand-forms-μ-loop
+operand-forms-loop-less t c =
+    let at-if1 = c .before .before .before .before .before .before .before .before .before .before .before .before .before in
+    let at-operands = at-if1 .before in
+    let at-loop = at-operands .before .before .before in
+    let start = at-loop .before .before .before in
+    omega (arith, run-short _ _ _ _ (at-loop .loop .inv .0 .ready .state) _ (start .pre .1 .1 .0) _ (at-operands .operands .ensures), at-if1 .if1 .left)
 
-operand-forms-returns-3 : (t : ℕ) → operand-forms-lts.Need-returns-3 (operand-forms-calls t) (operand-forms-at t) operand-forms.Post
-operand-forms-returns-3 t c =
-    let at-operand-forms = c .before .before .before .before in
-    let at-m = at-operand-forms .before .before .before .before .before .before in
-    let at-negation-normal-form = at-m .before .before .before .before .before .before in
+operand-forms-loop-again : (t : ℕ) → operand-forms-lts.Need-loop-again (operand-forms-calls t) (operand-forms-at t) operand-forms.Post operand-forms-Inv-loop operand-forms-μ-loop
+operand-forms-loop-again t c =
+    let at-k = c .before in
+    let at-negation-normal-form = at-k .before .before .before .before .before .before in
     let at-if1 = at-negation-normal-form .before .before .before .before .before .before in
     let at-operands = at-if1 .before in
-    (operands-next normal _ _ _ _ _ _ _ _ _ (at-operands .operands .ensures) (at-if1 .if1 .left) _ refl _ _ _ _ (at-negation-normal-form .negation-normal-form .ensures .0) _ _ (at-m .m .given .1) _ _ _ _ (at-operand-forms .operand-forms .ensures .0), at-operand-forms .operand-forms .ensures .1)
+    let at-loop = at-operands .before .before .before in
+    (loop-next normal _ _ _ _ _ _ _ _ _ _ _ _ (at-loop .loop .inv .0) _ (at-operands .operands .ensures) (at-if1 .if1 .left) _ _ _ _ (at-negation-normal-form .negation-normal-form .ensures .0) _ _ (at-k .k .given .1), index-at _ _ _ _ _ _ (at-k .k .given .1) (at-negation-normal-form .negation-normal-form .ensures .1))
 
 pair-of-negation-normal-form-requires : (t : ℕ) → pair-of-lts.Need-negation-normal-form-requires (pair-of-calls t) (pair-of-at t) pair-of.Post
 pair-of-negation-normal-form-requires t c κs =
@@ -545,10 +646,14 @@ pair-of-enum-told : (t : ℕ) → pair-of-lts.Need-enum-told (pair-of-calls t) (
 pair-of-enum-told t c = search needs
 
 pair-of-same-length : (t : ℕ) → pair-of-lts.Need-same-length (pair-of-calls t) (pair-of-at t) pair-of.Post
-pair-of-same-length t c = search needs
+pair-of-same-length t c =
+    let at-tags = c .before .before .before .before .before in
+    at-tags .tags .given
 
 pair-of-same-length-2 : (t : ℕ) → pair-of-lts.Need-same-length-2 (pair-of-calls t) (pair-of-at t) pair-of.Post
-pair-of-same-length-2 t c = search needs
+pair-of-same-length-2 t c =
+    let at-values = c .before .before .before in
+    at-values .values .given
 
 pair-of-returns : (t : ℕ) → pair-of-lts.Need-returns (pair-of-calls t) (pair-of-at t) pair-of.Post
 pair-of-returns t c = search (pairs, indexings)
@@ -568,10 +673,16 @@ pair-of-enum-told-2 : (t : ℕ) → pair-of-lts.Need-enum-told-2 (pair-of-calls 
 pair-of-enum-told-2 t c = search needs
 
 pair-of-same-length-3 : (t : ℕ) → pair-of-lts.Need-same-length-3 (pair-of-calls t) (pair-of-at t) pair-of.Post
-pair-of-same-length-3 t c = search needs
+pair-of-same-length-3 t c =
+    let at-tags2 = c .before .before .before .before .before in
+    let at-tags = at-tags2 .before .before .before .before .before .before .before .before .before .before .before .before in
+    at-tags2 .tags2 .given ∙ at-tags .tags .given
 
 pair-of-same-length-4 : (t : ℕ) → pair-of-lts.Need-same-length-4 (pair-of-calls t) (pair-of-at t) pair-of.Post
-pair-of-same-length-4 t c = search needs
+pair-of-same-length-4 t c =
+    let at-values2 = c .before .before .before in
+    let at-values = at-values2 .before .before .before .before .before .before .before .before .before .before .before .before in
+    at-values2 .values2 .given ∙ at-values .values .given
 
 pair-of-returns-2 : (t : ℕ) → pair-of-lts.Need-returns-2 (pair-of-calls t) (pair-of-at t) pair-of.Post
 pair-of-returns-2 t c =
@@ -587,10 +698,18 @@ pair-of-put-pair-requires t c κs =
     (own-after normal _ _ _ _ _ _ _ _ _ (at-negation-normal-form2 .negation-normal-form2 .ensures .0 .formed) _ _ (at-q .q .given .1), index-at _ _ _ _ _ _ (at-q .q .given .1) (at-negation-normal-form2 .negation-normal-form2 .ensures .1))
 
 pair-of-same-length-5 : (t : ℕ) → pair-of-lts.Need-same-length-5 (pair-of-calls t) (pair-of-at t) pair-of.Post
-pair-of-same-length-5 t c = search needs
+pair-of-same-length-5 t c =
+    let at-tags3 = c .before .before .before in
+    let at-tags2 = at-tags3 .before .before .before .before .before .before .before .before .before .before .before in
+    let at-tags = at-tags2 .before .before .before .before .before .before .before .before .before .before .before .before in
+    at-tags3 .tags3 .given ∙ (at-tags2 .tags2 .given ∙ at-tags .tags .given)
 
 pair-of-same-length-6 : (t : ℕ) → pair-of-lts.Need-same-length-6 (pair-of-calls t) (pair-of-at t) pair-of.Post
-pair-of-same-length-6 t c = search needs
+pair-of-same-length-6 t c =
+    let at-values3 = c .before in
+    let at-values2 = at-values3 .before .before .before .before .before .before .before .before .before .before .before in
+    let at-values = at-values2 .before .before .before .before .before .before .before .before .before .before .before .before in
+    at-values3 .values3 .given ∙ (at-values2 .values2 .given ∙ at-values .values .given)
 
 pair-of-returns-3 : (t : ℕ) → pair-of-lts.Need-returns-3 (pair-of-calls t) (pair-of-at t) pair-of.Post
 pair-of-returns-3 t c =
@@ -614,10 +733,14 @@ quantifier-form-enum-told : (t : ℕ) → quantifier-form-lts.Need-enum-told (qu
 quantifier-form-enum-told t c = search needs
 
 quantifier-form-same-length : (t : ℕ) → quantifier-form-lts.Need-same-length (quantifier-form-calls t) (quantifier-form-at t) quantifier-form.Post
-quantifier-form-same-length t c = search needs
+quantifier-form-same-length t c =
+    let at-tags = c .before .before .before .before .before in
+    at-tags .tags .given
 
 quantifier-form-same-length-2 : (t : ℕ) → quantifier-form-lts.Need-same-length-2 (quantifier-form-calls t) (quantifier-form-at t) quantifier-form.Post
-quantifier-form-same-length-2 t c = search needs
+quantifier-form-same-length-2 t c =
+    let at-values = c .before .before .before in
+    at-values .values .given
 
 quantifier-form-returns : (t : ℕ) → quantifier-form-lts.Need-returns (quantifier-form-calls t) (quantifier-form-at t) quantifier-form.Post
 quantifier-form-returns t c =
@@ -633,10 +756,16 @@ quantifier-form-put-quantifier-requires t c κs =
     (state-after normal _ _ _ _ _ _ _ _ _ (at-negation-normal-form .negation-normal-form .ensures .0 .formed) _ _ (at-form .form .given .1), (memo-long normal _ _ _ _ _ _ _ _ _ (at-negation-normal-form .negation-normal-form .ensures .0 .formed) _ _ (at-form .form .given .1), (start .pre .1 .1 .0, index-at _ _ _ _ _ _ (at-form .form .given .1) (at-negation-normal-form .negation-normal-form .ensures .1))))
 
 quantifier-form-same-length-3 : (t : ℕ) → quantifier-form-lts.Need-same-length-3 (quantifier-form-calls t) (quantifier-form-at t) quantifier-form.Post
-quantifier-form-same-length-3 t c = search needs
+quantifier-form-same-length-3 t c =
+    let at-tags2 = c .before .before .before in
+    let at-tags = at-tags2 .before .before .before .before .before .before .before .before .before .before .before .before in
+    at-tags2 .tags2 .given ∙ at-tags .tags .given
 
 quantifier-form-same-length-4 : (t : ℕ) → quantifier-form-lts.Need-same-length-4 (quantifier-form-calls t) (quantifier-form-at t) quantifier-form.Post
-quantifier-form-same-length-4 t c = search needs
+quantifier-form-same-length-4 t c =
+    let at-values2 = c .before in
+    let at-values = at-values2 .before .before .before .before .before .before .before .before .before .before .before .before in
+    at-values2 .values2 .given ∙ at-values .values .given
 
 quantifier-form-returns-2 : (t : ℕ) → quantifier-form-lts.Need-returns-2 (quantifier-form-calls t) (quantifier-form-at t) quantifier-form.Post
 quantifier-form-returns-2 t c =
@@ -658,10 +787,14 @@ two-pairs-enum-told : (t : ℕ) → two-pairs-lts.Need-enum-told (two-pairs-call
 two-pairs-enum-told t c = search needs
 
 two-pairs-same-length : (t : ℕ) → two-pairs-lts.Need-same-length (two-pairs-calls t) (two-pairs-at t) two-pairs.Post
-two-pairs-same-length t c = search needs
+two-pairs-same-length t c =
+    let at-tags = c .before .before .before .before .before in
+    at-tags .tags .given
 
 two-pairs-same-length-2 : (t : ℕ) → two-pairs-lts.Need-same-length-2 (two-pairs-calls t) (two-pairs-at t) two-pairs.Post
-two-pairs-same-length-2 t c = search needs
+two-pairs-same-length-2 t c =
+    let at-values = c .before .before .before in
+    at-values .values .given
 
 two-pairs-returns : (t : ℕ) → two-pairs-lts.Need-returns (two-pairs-calls t) (two-pairs-at t) two-pairs.Post
 two-pairs-returns t c = search (twos, indexings)
@@ -681,10 +814,16 @@ two-pairs-enum-told-2 : (t : ℕ) → two-pairs-lts.Need-enum-told-2 (two-pairs-
 two-pairs-enum-told-2 t c = search needs
 
 two-pairs-same-length-3 : (t : ℕ) → two-pairs-lts.Need-same-length-3 (two-pairs-calls t) (two-pairs-at t) two-pairs.Post
-two-pairs-same-length-3 t c = search needs
+two-pairs-same-length-3 t c =
+    let at-tags2 = c .before .before .before .before .before in
+    let at-tags = at-tags2 .before .before .before .before .before .before .before .before .before .before .before .before in
+    at-tags2 .tags2 .given ∙ at-tags .tags .given
 
 two-pairs-same-length-4 : (t : ℕ) → two-pairs-lts.Need-same-length-4 (two-pairs-calls t) (two-pairs-at t) two-pairs.Post
-two-pairs-same-length-4 t c = search needs
+two-pairs-same-length-4 t c =
+    let at-values2 = c .before .before .before in
+    let at-values = at-values2 .before .before .before .before .before .before .before .before .before .before .before .before in
+    at-values2 .values2 .given ∙ at-values .values .given
 
 two-pairs-returns-2 : (t : ℕ) → two-pairs-lts.Need-returns-2 (two-pairs-calls t) (two-pairs-at t) two-pairs.Post
 two-pairs-returns-2 t c =
@@ -708,7 +847,11 @@ two-pairs-same-length-5 t c =
     at-tags3 .tags3 .given ∙ (at-tags2 .tags2 .given ∙ at-tags .tags .given)
 
 two-pairs-same-length-6 : (t : ℕ) → two-pairs-lts.Need-same-length-6 (two-pairs-calls t) (two-pairs-at t) two-pairs.Post
-two-pairs-same-length-6 t c = search needs
+two-pairs-same-length-6 t c =
+    let at-values3 = c .before in
+    let at-values2 = at-values3 .before .before .before .before .before .before .before .before .before .before .before in
+    let at-values = at-values2 .before .before .before .before .before .before .before .before .before .before .before .before in
+    at-values3 .values3 .given ∙ (at-values2 .values2 .given ∙ at-values .values .given)
 
 two-pairs-returns-3 : (t : ℕ) → two-pairs-lts.Need-returns-3 (two-pairs-calls t) (two-pairs-at t) two-pairs.Post
 two-pairs-returns-3 t c =
@@ -810,6 +953,9 @@ pub +connective-form+expand+negation-normal-form+operand-forms+pair-of+quantifie
     (λ t. operand-forms-lts.spec (operand-forms-calls t)
     (operand-forms-at t)
     operand-forms.Post
+    operand-forms-Inv-loop
+    operand-forms-μ-loop
+    (operand-forms-loop-holds t)
     (operand-forms-slice-reshare-prefix-operands t)
     (operand-forms-slice-aggregate-operands t)
     (operand-forms-slice-reshare-prefix-operands-2 t)
@@ -818,19 +964,17 @@ pub +connective-form+expand+negation-normal-form+operand-forms+pair-of+quantifie
     (operand-forms-same-length t)
     (operand-forms-same-length-2 t)
     (operand-forms-returns t)
-    (operand-forms-mul-t17 t)
-    (operand-forms-shared-slice-read-t21 t)
+    (operand-forms-mul-t18 t)
+    (operand-forms-shared-slice-read-t22 t)
     (operand-forms-negation-normal-form-requires t)
-    (operand-forms-enum-known-m t)
+    (operand-forms-enum-known-k t)
     (operand-forms-enum-told t)
     (operand-forms-same-length-3 t)
     (operand-forms-same-length-4 t)
     (operand-forms-returns-2 t)
-    (operand-forms-add-operand-forms t)
-    (operand-forms-operand-forms-requires t)
-    (operand-forms-same-length-5 t)
-    (operand-forms-same-length-6 t)
-    (operand-forms-returns-3 t))
+    (operand-forms-add-i t)
+    (operand-forms-loop-less t)
+    (operand-forms-loop-again t))
     (λ t. pair-of-lts.spec (pair-of-calls t)
     (pair-of-at t)
     pair-of.Post

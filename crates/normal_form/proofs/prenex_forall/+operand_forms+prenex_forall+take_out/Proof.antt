@@ -1,10 +1,12 @@
 use borrow.Author.Needs.{needs}
 use native.Mathlib.Omega.{arith}
 use mathlib.Core.Path.{refl, _∙_}
+use mathlib.Core.Bool.{true}
 use Rattle.building.specs.Walk.{taken-out}
+use Rattle.descriptions.specs.Index.{Index}
 use Rattle.building.proofs.terms.Cells.{parts, run-short}
 use Rattle.building.proofs.build.Indexing.{indexings, index-at}
-use Rattle.building.proofs.build.Walks.{slot-within, before-same, operand-before, state-after, memo-long, place-small, ready-after, one-term, form-full, form-kept, operand-walks, operands-next}
+use Rattle.building.proofs.build.Walks.{slot-within, operand-before, state-after, memo-long, place-small, one-term, form-full, form-kept, OperandsLeft, loop-start, loop-end, loop-full, loop-next}
 use Rattle.normal_form.proofs.prenex_forall.Laws.{take-forall, takes, take-full, take-put, forall-below, connective-before}
 use Prim.Native.Nat.{ℕ, _<_, _+_, _*_, _-_}
 use borrow.Fn.Kinds.{In}
@@ -30,7 +32,7 @@ use Rattle.normal_form.proofs.prenex_forall.+operand_forms+prenex_foral
 }
 
 abbrev μ-operand-forms : Measures 4 operand-forms-kinds.ps ℕ
-μ-operand-forms κs a = a .1 .1 .1 .1 .1 .1 .0 .0 * 32768 + (8192 - a .1 .1 .1 .1 .1 .1 .1 .0)
+μ-operand-forms κs a = a .1 .1 .1 .1 .1 .1 .0 .0 * 32768 + 1
 
 abbrev μ-prenex-forall : Measures 4 prenex-forall-kinds.ps ℕ
 μ-prenex-forall κs a = a .1 .1 .1 .1 .1 .1 .0 .0 * 32768 + 24576
@@ -69,6 +71,12 @@ abbrev take-out-below : ℕ → In 4 take-out-kinds.ps
 take-out-below t =
     and 4 take-out-kinds.ps (falls 4 take-out-kinds.ps _<_ μ-take-out t) take-out.Pre
 
+abbrev operand-forms-Inv-loop : operand-forms-lts.InvT-loop
+operand-forms-Inv-loop tags₀ values₀ work₀ index₀ end n x m₀ i₀ tags values work index m i = OperandsLeft taken-out end n tags₀ values₀ work₀ (x .0) true m tags values work i × Index tags values m index
+
+abbrev operand-forms-μ-loop : operand-forms-lts.MeasureT-loop
+operand-forms-μ-loop tags₀ values₀ work₀ index₀ end n x m₀ i₀ tags values work index m i = 8192 - i
+
 -- what the calls in `take-out` ask and tell, below the measure t
 abbrev take-out-calls : ℕ → take-out-lts.Claims
 take-out-calls t = (normal-view-reads.Asked, normal-view-reads.Learnt, prenex-forall-below t, prenex-forall.Post, operand-forms-below t, operand-forms.Post, put-connective-reads.Asked, put-connective-reads.Learnt)
@@ -79,88 +87,117 @@ prenex-forall-calls t = (slot-reads.Asked, slot-reads.Learnt, take-out-below t, 
 
 -- what the calls in `operand-forms` ask and tell, below the measure t
 abbrev operand-forms-calls : ℕ → operand-forms-lts.Claims
-operand-forms-calls t = (operands-reads.Asked, operands-reads.Learnt, prenex-forall-below t, prenex-forall.Post, operand-forms-below t, operand-forms.Post)
+operand-forms-calls t = (operands-reads.Asked, operands-reads.Learnt, prenex-forall-below t, prenex-forall.Post)
 
-operand-forms-slice-reshare-prefix-operands : (t : ℕ) → operand-forms-lts.Need-slice-reshare-prefix-operands (operand-forms-calls t) (operand-forms-at t) operand-forms.Post
+operand-forms-loop-holds : (t : ℕ) → operand-forms-lts.Need-loop-holds (operand-forms-calls t) (operand-forms-at t) operand-forms.Post operand-forms-Inv-loop operand-forms-μ-loop
+operand-forms-loop-holds t c =
+    let start = c .before .before in
+    (loop-start taken-out _ _ _ _ _ _ _ (start .pre .1 .0) (start .pre .1 .1 .1 .0), start .pre .1 .1 .1 .1)
+
+operand-forms-slice-reshare-prefix-operands : (t : ℕ) → operand-forms-lts.Need-slice-reshare-prefix-operands (operand-forms-calls t) (operand-forms-at t) operand-forms.Post operand-forms-Inv-loop operand-forms-μ-loop
 operand-forms-slice-reshare-prefix-operands t c = search needs
 
-operand-forms-slice-aggregate-operands : (t : ℕ) → operand-forms-lts.Need-slice-aggregate-operands (operand-forms-calls t) (operand-forms-at t) operand-forms.Post
-operand-forms-slice-aggregate-operands t c = search parts
+operand-forms-slice-aggregate-operands : (t : ℕ) → operand-forms-lts.Need-slice-aggregate-operands (operand-forms-calls t) (operand-forms-at t) operand-forms.Post operand-forms-Inv-loop operand-forms-μ-loop
+operand-forms-slice-aggregate-operands t c =
+    let at-loop = c .before in
+    let s = at-loop .loop .inv .0 .ready .state in
+    search parts
 
-operand-forms-slice-reshare-prefix-operands-2 : (t : ℕ) → operand-forms-lts.Need-slice-reshare-prefix-operands-2 (operand-forms-calls t) (operand-forms-at t) operand-forms.Post
+operand-forms-slice-reshare-prefix-operands-2 : (t : ℕ) → operand-forms-lts.Need-slice-reshare-prefix-operands-2 (operand-forms-calls t) (operand-forms-at t) operand-forms.Post operand-forms-Inv-loop operand-forms-μ-loop
 operand-forms-slice-reshare-prefix-operands-2 t c = search needs
 
-operand-forms-slice-aggregate-operands-2 : (t : ℕ) → operand-forms-lts.Need-slice-aggregate-operands-2 (operand-forms-calls t) (operand-forms-at t) operand-forms.Post
-operand-forms-slice-aggregate-operands-2 t c = search parts
+operand-forms-slice-aggregate-operands-2 : (t : ℕ) → operand-forms-lts.Need-slice-aggregate-operands-2 (operand-forms-calls t) (operand-forms-at t) operand-forms.Post operand-forms-Inv-loop operand-forms-μ-loop
+operand-forms-slice-aggregate-operands-2 t c =
+    let at-loop = c .before .before in
+    let s = at-loop .loop .inv .0 .ready .state in
+    search parts
 
-operand-forms-operands-requires : (t : ℕ) → operand-forms-lts.Need-operands-requires (operand-forms-calls t) (operand-forms-at t) operand-forms.Post
+operand-forms-operands-requires : (t : ℕ) → operand-forms-lts.Need-operands-requires (operand-forms-calls t) (operand-forms-at t) operand-forms.Post operand-forms-Inv-loop operand-forms-μ-loop
 operand-forms-operands-requires t c κs = search needs
 
-operand-forms-same-length : (t : ℕ) → operand-forms-lts.Need-same-length (operand-forms-calls t) (operand-forms-at t) operand-forms.Post
-operand-forms-same-length t c = search needs
+operand-forms-same-length : (t : ℕ) → operand-forms-lts.Need-same-length (operand-forms-calls t) (operand-forms-at t) operand-forms.Post operand-forms-Inv-loop operand-forms-μ-loop
+operand-forms-same-length t c =
+    let at-loop = c .before .before .before .before in
+    at-loop .loop .inv .0 .tags-size
 
-operand-forms-same-length-2 : (t : ℕ) → operand-forms-lts.Need-same-length-2 (operand-forms-calls t) (operand-forms-at t) operand-forms.Post
-operand-forms-same-length-2 t c = search needs
+operand-forms-same-length-2 : (t : ℕ) → operand-forms-lts.Need-same-length-2 (operand-forms-calls t) (operand-forms-at t) operand-forms.Post operand-forms-Inv-loop operand-forms-μ-loop
+operand-forms-same-length-2 t c =
+    let at-loop = c .before .before .before .before in
+    at-loop .loop .inv .0 .values-size
 
-operand-forms-returns : (t : ℕ) → operand-forms-lts.Need-returns (operand-forms-calls t) (operand-forms-at t) operand-forms.Post
-operand-forms-returns t c = search (operand-walks, indexings)
+operand-forms-returns : (t : ℕ) → operand-forms-lts.Need-returns (operand-forms-calls t) (operand-forms-at t) operand-forms.Post operand-forms-Inv-loop operand-forms-μ-loop
+operand-forms-returns t c =
+    let at-operands = c .before in
+    let at-loop = at-operands .before .before .before in
+    let start = at-loop .before .before .before in
+    (loop-end taken-out _ _ _ _ _ _ _ _ _ _ _ _ (at-loop .loop .inv .0) _ (at-operands .operands .ensures) (start .pre .1 .1 .0) (c .if1 .taken), at-loop .loop .inv .1)
 
-operand-forms-mul-t16 : (t : ℕ) → operand-forms-lts.Need-mul-t16 (operand-forms-calls t) (operand-forms-at t) operand-forms.Post
-operand-forms-mul-t16 t c = search needs
+operand-forms-mul-t17 : (t : ℕ) → operand-forms-lts.Need-mul-t17 (operand-forms-calls t) (operand-forms-at t) operand-forms.Post operand-forms-Inv-loop operand-forms-μ-loop
+operand-forms-mul-t17 t c = search needs
 
-operand-forms-shared-slice-read-t20 : (t : ℕ) → operand-forms-lts.Need-shared-slice-read-t20 (operand-forms-calls t) (operand-forms-at t) operand-forms.Post
-operand-forms-shared-slice-read-t20 t c = search needs
+operand-forms-shared-slice-read-t21 : (t : ℕ) → operand-forms-lts.Need-shared-slice-read-t21 (operand-forms-calls t) (operand-forms-at t) operand-forms.Post operand-forms-Inv-loop operand-forms-μ-loop
+operand-forms-shared-slice-read-t21 t c = search needs
 
-operand-forms-prenex-forall-requires : (t : ℕ) → operand-forms-lts.Need-prenex-forall-requires (operand-forms-calls t) (operand-forms-at t) operand-forms.Post
+operand-forms-prenex-forall-requires : (t : ℕ) → operand-forms-lts.Need-prenex-forall-requires (operand-forms-calls t) (operand-forms-at t) operand-forms.Post operand-forms-Inv-loop operand-forms-μ-loop
 operand-forms-prenex-forall-requires t c κs =
     let at-if1 = c .before .before .before .before .before in
     let at-operands = at-if1 .before in
-    let start = at-operands .before .before .before .before .before in
-    let h = operand-before _ _ _ _ (start .pre .1 .1 .1 .0) _ (at-operands .operands .ensures) _ (at-if1 .if1 .left) in
-    (omega (arith, start .pre .0), (start .pre .1 .0, (omega arith, start .pre .1 .1 .1 .1)))
+    let at-loop = at-operands .before .before .before in
+    let start = at-loop .before .before .before in
+    let h = operand-before _ _ _ _ (at-loop .loop .inv .0 .before) _ (at-operands .operands .ensures) _ (at-if1 .if1 .left) in
+    (omega (arith, start .pre .0), (at-loop .loop .inv .0 .ready, (omega (arith, start .pre .1 .1 .0), at-loop .loop .inv .1)))
 
-operand-forms-enum-known-m : (t : ℕ) → operand-forms-lts.Need-enum-known-m (operand-forms-calls t) (operand-forms-at t) operand-forms.Post
-operand-forms-enum-known-m t c = search needs
+operand-forms-enum-known-k : (t : ℕ) → operand-forms-lts.Need-enum-known-k (operand-forms-calls t) (operand-forms-at t) operand-forms.Post operand-forms-Inv-loop operand-forms-μ-loop
+operand-forms-enum-known-k t c = search needs
 
-operand-forms-enum-told : (t : ℕ) → operand-forms-lts.Need-enum-told (operand-forms-calls t) (operand-forms-at t) operand-forms.Post
+operand-forms-enum-told : (t : ℕ) → operand-forms-lts.Need-enum-told (operand-forms-calls t) (operand-forms-at t) operand-forms.Post operand-forms-Inv-loop operand-forms-μ-loop
 operand-forms-enum-told t c = search needs
 
-operand-forms-same-length-3 : (t : ℕ) → operand-forms-lts.Need-same-length-3 (operand-forms-calls t) (operand-forms-at t) operand-forms.Post
-operand-forms-same-length-3 t c = search needs
+operand-forms-same-length-3 : (t : ℕ) → operand-forms-lts.Need-same-length-3 (operand-forms-calls t) (operand-forms-at t) operand-forms.Post operand-forms-Inv-loop operand-forms-μ-loop
+operand-forms-same-length-3 t c =
+    let at-tags = c .before .before .before .before .before in
+    let at-loop = at-tags .before .before .before .before .before .before .before .before .before .before .before in
+    at-tags .tags .given ∙ at-loop .loop .inv .0 .tags-size
 
-operand-forms-same-length-4 : (t : ℕ) → operand-forms-lts.Need-same-length-4 (operand-forms-calls t) (operand-forms-at t) operand-forms.Post
-operand-forms-same-length-4 t c = search needs
+operand-forms-same-length-4 : (t : ℕ) → operand-forms-lts.Need-same-length-4 (operand-forms-calls t) (operand-forms-at t) operand-forms.Post operand-forms-Inv-loop operand-forms-μ-loop
+operand-forms-same-length-4 t c =
+    let at-values = c .before .before .before in
+    let at-loop = at-values .before .before .before .before .before .before .before .before .before .before .before .before .before in
+    at-values .values .given ∙ at-loop .loop .inv .0 .values-size
 
-operand-forms-returns-2 : (t : ℕ) → operand-forms-lts.Need-returns-2 (operand-forms-calls t) (operand-forms-at t) operand-forms.Post
-operand-forms-returns-2 t c = search (operand-walks, indexings)
-
-operand-forms-add-operand-forms : (t : ℕ) → operand-forms-lts.Need-add-operand-forms (operand-forms-calls t) (operand-forms-at t) operand-forms.Post
-operand-forms-add-operand-forms t c = search needs
-
-operand-forms-operand-forms-requires : (t : ℕ) → operand-forms-lts.Need-operand-forms-requires (operand-forms-calls t) (operand-forms-at t) operand-forms.Post
-operand-forms-operand-forms-requires t c κs =
-    let at-m = c .before .before .before .before .before in
-    let at-prenex-forall = at-m .before .before .before .before .before .before in
+operand-forms-returns-2 : (t : ℕ) → operand-forms-lts.Need-returns-2 (operand-forms-calls t) (operand-forms-at t) operand-forms.Post operand-forms-Inv-loop operand-forms-μ-loop
+operand-forms-returns-2 t c =
+    let at-prenex-forall = c .before .before .before .before .before .before in
     let at-if1 = at-prenex-forall .before .before .before .before .before .before in
     let at-operands = at-if1 .before in
-    let start = at-operands .before .before .before .before .before in
-    let j = at-prenex-forall .prenex-forall .ensures .0 in
-    (omega (arith, run-short _ _ _ _ (start .pre .1 .0 .state) _ (start .pre .1 .1 .0) _ (at-operands .operands .ensures), at-if1 .if1 .left, start .pre .0), (ready-after taken-out _ _ _ _ _ _ _ _ _ (j .formed) _ _ (at-m .m .given .1), (start .pre .1 .1 .0, (before-same _ _ _ _ _ (j .formed .puts .left) _ (start .pre .1 .1 .1 .0), index-at _ _ _ _ _ _ (at-m .m .given .1) (at-prenex-forall .prenex-forall .ensures .1)))))
+    let at-loop = at-operands .before .before .before in
+    (loop-full taken-out _ _ _ _ _ _ _ _ _ _ _ _ (at-loop .loop .inv .0) _ (at-operands .operands .ensures) (at-if1 .if1 .left) _ _ _ _ (at-prenex-forall .prenex-forall .ensures .0) (c .enum-told .given .1), tt)
 
-operand-forms-same-length-5 : (t : ℕ) → operand-forms-lts.Need-same-length-5 (operand-forms-calls t) (operand-forms-at t) operand-forms.Post
-operand-forms-same-length-5 t c = search needs
+operand-forms-add-i : (t : ℕ) → operand-forms-lts.Need-add-i (operand-forms-calls t) (operand-forms-at t) operand-forms.Post operand-forms-Inv-loop operand-forms-μ-loop
+operand-forms-add-i t c =
+    let at-if1 = c .before .before .before .before .before .before .before .before .before .before .before .before .before in
+    let at-operands = at-if1 .before in
+    let at-loop = at-operands .before .before .before in
+    let start = at-loop .before .before .before in
+    let h = run-short _ _ _ _ (at-loop .loop .inv .0 .ready .state) _ (start .pre .1 .1 .0) _ (at-operands .operands .ensures) in
+    omega (arith, at-if1 .if1 .left)
 
-operand-forms-same-length-6 : (t : ℕ) → operand-forms-lts.Need-same-length-6 (operand-forms-calls t) (operand-forms-at t) operand-forms.Post
-operand-forms-same-length-6 t c = search needs
+operand-forms-loop-less : (t : ℕ) → operand-forms-lts.Need-loop-less (operand-forms-calls t) (operand-forms-at t) operand-forms.Post operand-forms-Inv-loop operand-forms-μ-loop
+operand-forms-loop-less t c =
+    let at-if1 = c .before .before .before .before .before .before .before .before .before .before .before .before .before in
+    let at-operands = at-if1 .before in
+    let at-loop = at-operands .before .before .before in
+    let start = at-loop .before .before .before in
+    omega (arith, run-short _ _ _ _ (at-loop .loop .inv .0 .ready .state) _ (start .pre .1 .1 .0) _ (at-operands .operands .ensures), at-if1 .if1 .left)
 
-operand-forms-returns-3 : (t : ℕ) → operand-forms-lts.Need-returns-3 (operand-forms-calls t) (operand-forms-at t) operand-forms.Post
-operand-forms-returns-3 t c =
-    let at-operand-forms = c .before .before .before .before in
-    let at-m = at-operand-forms .before .before .before .before .before .before in
-    let at-prenex-forall = at-m .before .before .before .before .before .before in
+operand-forms-loop-again : (t : ℕ) → operand-forms-lts.Need-loop-again (operand-forms-calls t) (operand-forms-at t) operand-forms.Post operand-forms-Inv-loop operand-forms-μ-loop
+operand-forms-loop-again t c =
+    let at-k = c .before in
+    let at-prenex-forall = at-k .before .before .before .before .before .before in
     let at-if1 = at-prenex-forall .before .before .before .before .before .before in
     let at-operands = at-if1 .before in
-    (operands-next taken-out _ _ _ _ _ _ _ _ _ (at-operands .operands .ensures) (at-if1 .if1 .left) _ refl _ _ _ _ (at-prenex-forall .prenex-forall .ensures .0) _ _ (at-m .m .given .1) _ _ _ _ (at-operand-forms .operand-forms .ensures .0), at-operand-forms .operand-forms .ensures .1)
+    let at-loop = at-operands .before .before .before in
+    (loop-next taken-out _ _ _ _ _ _ _ _ _ _ _ _ (at-loop .loop .inv .0) _ (at-operands .operands .ensures) (at-if1 .if1 .left) _ _ _ _ (at-prenex-forall .prenex-forall .ensures .0) _ _ (at-k .k .given .1), index-at _ _ _ _ _ _ (at-k .k .given .1) (at-prenex-forall .prenex-forall .ensures .1))
 
 prenex-forall-slot-requires : (t : ℕ) → prenex-forall-lts.Need-slot-requires (prenex-forall-calls t) (prenex-forall-at t) prenex-forall.Post
 prenex-forall-slot-requires t c κs = search needs
@@ -193,10 +230,14 @@ prenex-forall-enum-told : (t : ℕ) → prenex-forall-lts.Need-enum-told (prenex
 prenex-forall-enum-told t c = search needs
 
 prenex-forall-same-length : (t : ℕ) → prenex-forall-lts.Need-same-length (prenex-forall-calls t) (prenex-forall-at t) prenex-forall.Post
-prenex-forall-same-length t c = search needs
+prenex-forall-same-length t c =
+    let at-tags = c .before .before .before .before .before in
+    at-tags .tags .given
 
 prenex-forall-same-length-2 : (t : ℕ) → prenex-forall-lts.Need-same-length-2 (prenex-forall-calls t) (prenex-forall-at t) prenex-forall.Post
-prenex-forall-same-length-2 t c = search needs
+prenex-forall-same-length-2 t c =
+    let at-values = c .before .before .before in
+    at-values .values .given
 
 prenex-forall-returns-2 : (t : ℕ) → prenex-forall-lts.Need-returns-2 (prenex-forall-calls t) (prenex-forall-at t) prenex-forall.Post
 prenex-forall-returns-2 t c =
@@ -227,10 +268,14 @@ prenex-forall-element-write-work t c =
     search needs
 
 prenex-forall-same-length-3 : (t : ℕ) → prenex-forall-lts.Need-same-length-3 (prenex-forall-calls t) (prenex-forall-at t) prenex-forall.Post
-prenex-forall-same-length-3 t c = search needs
+prenex-forall-same-length-3 t c =
+    let at-tags = c .before .before .before .before .before .before .before in
+    at-tags .tags .given
 
 prenex-forall-same-length-4 : (t : ℕ) → prenex-forall-lts.Need-same-length-4 (prenex-forall-calls t) (prenex-forall-at t) prenex-forall.Post
-prenex-forall-same-length-4 t c = search needs
+prenex-forall-same-length-4 t c =
+    let at-values = c .before .before .before .before .before in
+    at-values .values .given
 
 prenex-forall-returns-3 : (t : ℕ) → prenex-forall-lts.Need-returns-3 (prenex-forall-calls t) (prenex-forall-at t) prenex-forall.Post
 prenex-forall-returns-3 t c =
@@ -287,10 +332,14 @@ take-out-enum-told-2 : (t : ℕ) → take-out-lts.Need-enum-told-2 (take-out-cal
 take-out-enum-told-2 t c = search needs
 
 take-out-same-length : (t : ℕ) → take-out-lts.Need-same-length (take-out-calls t) (take-out-at t) take-out.Post
-take-out-same-length t c = search needs
+take-out-same-length t c =
+    let at-tags2 = c .before .before .before .before .before in
+    at-tags2 .tags2 .given
 
 take-out-same-length-2 : (t : ℕ) → take-out-lts.Need-same-length-2 (take-out-calls t) (take-out-at t) take-out.Post
-take-out-same-length-2 t c = search needs
+take-out-same-length-2 t c =
+    let at-values2 = c .before .before .before in
+    at-values2 .values2 .given
 
 take-out-returns : (t : ℕ) → take-out-lts.Need-returns (take-out-calls t) (take-out-at t) take-out.Post
 take-out-returns t c =
@@ -317,10 +366,14 @@ take-out-returns-2 : (t : ℕ) → take-out-lts.Need-returns-2 (take-out-calls t
 take-out-returns-2 t c = search (takes, indexings)
 
 take-out-same-length-5 : (t : ℕ) → take-out-lts.Need-same-length-5 (take-out-calls t) (take-out-at t) take-out.Post
-take-out-same-length-5 t c = search needs
+take-out-same-length-5 t c =
+    let at-tags = c .before .before .before in
+    at-tags .tags .given
 
 take-out-same-length-6 : (t : ℕ) → take-out-lts.Need-same-length-6 (take-out-calls t) (take-out-at t) take-out.Post
-take-out-same-length-6 t c = search needs
+take-out-same-length-6 t c =
+    let at-values = c .before in
+    at-values .values .given
 
 take-out-returns-3 : (t : ℕ) → take-out-lts.Need-returns-3 (take-out-calls t) (take-out-at t) take-out.Post
 take-out-returns-3 t c =
@@ -331,10 +384,16 @@ take-out-returns-3 t c =
     (take-forall _ _ _ _ _ (start .pre .1 .0) _ (start .pre .1 .1 .0) _ (at-normal-view .normal-view .ensures) _ (at-view .view .given .1) _ _ _ _ (at-prenex-forall .prenex-forall .ensures .0), at-prenex-forall .prenex-forall .ensures .1)
 
 take-out-same-length-7 : (t : ℕ) → take-out-lts.Need-same-length-7 (take-out-calls t) (take-out-at t) take-out.Post
-take-out-same-length-7 t c = search needs
+take-out-same-length-7 t c =
+    let at-tags3 = c .before .before .before in
+    let at-tags2 = at-tags3 .before .before .before .before .before .before .before .before .before .before .before .before in
+    at-tags3 .tags3 .given ∙ at-tags2 .tags2 .given
 
 take-out-same-length-8 : (t : ℕ) → take-out-lts.Need-same-length-8 (take-out-calls t) (take-out-at t) take-out.Post
-take-out-same-length-8 t c = search needs
+take-out-same-length-8 t c =
+    let at-values3 = c .before in
+    let at-values2 = at-values3 .before .before .before .before .before .before .before .before .before .before .before .before in
+    at-values3 .values3 .given ∙ at-values2 .values2 .given
 
 take-out-returns-4 : (t : ℕ) → take-out-lts.Need-returns-4 (take-out-calls t) (take-out-at t) take-out.Post
 take-out-returns-4 t c =
@@ -351,6 +410,9 @@ pub +operand-forms+prenex-forall+take-out-spec : {M : Type 1} → statement M
     close μ-operand-forms μ-prenex-forall μ-take-out (λ t. operand-forms-lts.spec (operand-forms-calls t)
     (operand-forms-at t)
     operand-forms.Post
+    operand-forms-Inv-loop
+    operand-forms-μ-loop
+    (operand-forms-loop-holds t)
     (operand-forms-slice-reshare-prefix-operands t)
     (operand-forms-slice-aggregate-operands t)
     (operand-forms-slice-reshare-prefix-operands-2 t)
@@ -359,19 +421,17 @@ pub +operand-forms+prenex-forall+take-out-spec : {M : Type 1} → statement M
     (operand-forms-same-length t)
     (operand-forms-same-length-2 t)
     (operand-forms-returns t)
-    (operand-forms-mul-t16 t)
-    (operand-forms-shared-slice-read-t20 t)
+    (operand-forms-mul-t17 t)
+    (operand-forms-shared-slice-read-t21 t)
     (operand-forms-prenex-forall-requires t)
-    (operand-forms-enum-known-m t)
+    (operand-forms-enum-known-k t)
     (operand-forms-enum-told t)
     (operand-forms-same-length-3 t)
     (operand-forms-same-length-4 t)
     (operand-forms-returns-2 t)
-    (operand-forms-add-operand-forms t)
-    (operand-forms-operand-forms-requires t)
-    (operand-forms-same-length-5 t)
-    (operand-forms-same-length-6 t)
-    (operand-forms-returns-3 t))
+    (operand-forms-add-i t)
+    (operand-forms-loop-less t)
+    (operand-forms-loop-again t))
     (λ t. prenex-forall-lts.spec (prenex-forall-calls t)
     (prenex-forall-at t)
     prenex-forall.Post
