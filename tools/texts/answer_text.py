@@ -1,6 +1,6 @@
 """The answer to a step in words, with the term or name that it carries written out.
 
-    StepText(pool, rule, t)           `pool` is a Checked one (reference_rules.py); its headers are well formed
+    StepText(pool, rule, t, style)    `pool` is a Checked one (reference_rules.py); its headers are well formed; style as in term_text.py
         .conclusion()                 lines
         .answer(code, first, second)  lines
     pool_answer(tags, values, code, place)      the words for 14, 15 and 16
@@ -12,7 +12,7 @@ from random_inputs.limit_steps import new_cells
 from references import reference
 from references.reference_clauses import MANY, OR, Growing, clause_answer, normal_form, taken_out, totals
 from references.reference_rules import RULES, Refused, without_adjacent
-from texts.term_text import BINDER, MOST, TermText, name
+from texts.term_text import BINDER, MOST, Style, TermText
 
 MEANING = {
     0: 'accepted', 1: 'conclusion not one term', 2: 'wrong form', 3: 'no quantifier', 4: 'other quantifier', 5: 'terms differ',
@@ -30,9 +30,9 @@ SHOWN = 4  # clauses
 
 
 class StepText:
-    def __init__(self, pool, rule, t):
-        self.pool, self.rule, self.t = pool, rule, t
-        self.text = TermText(pool, t) if self.is_term(t) else None
+    def __init__(self, pool, rule, t, style=Style()):
+        self.pool, self.rule, self.t, self.style = pool, rule, t, style
+        self.text = TermText(pool, t, style) if self.is_term(t) else None
 
     def is_term(self, p):
         return self.pool.tag.get(p, 0) >= 16
@@ -54,26 +54,30 @@ class StepText:
     def term(self, p):
         if not self.is_term(p):
             raise ValueError(p)
-        return (self.text if self.text and p in self.text.pieces else TermText(self.pool, p)).short(p)
+        return (self.text if self.text and p in self.text.pieces else TermText(self.pool, p, self.style)).short(p)
+
+    def at(self, p):
+        """A term by its place, if there are places."""
+        return '@%d' % p if self.style.places else self.term(p)
 
     def sort(self, p):
-        return TermText(self.pool, p).lines()[0]
+        return TermText(self.pool, p, self.style).lines()[0]
 
     def named(self, k):
         """A name, and its sorts if it stands under several."""
         if self.text is None:
             raise ValueError(self.t)
         sorts = self.text.sorts_of.get(k, {})
-        return name(k) + ' (under the sorts %s)' % ' and '.join(map(self.sort, sorts)) * (len(sorts) > 1)
+        return self.style.names.name(k) + ' (under the sorts %s)' % ' and '.join(map(self.sort, sorts)) * (len(sorts) > 1)
 
-    def two_lists(self, sentence, first, second):
+    def two_lists(self, before, between, first, second):
         """A sentence with two lists, and where they part."""
         texts = []
         for pairs in (first, second):
-            shown = ['(%s %s)' % (name(k), self.sort(sort)) for k, sort in pairs[:MOST]]
+            shown = ['(%s %s)' % (self.style.names.name(k), self.sort(sort)) for k, sort in pairs[:MOST]]
             texts.append('(%s)' % ' '.join(shown + ['.. %d more' % (len(pairs) - MOST)] * (len(pairs) > MOST)))
         alike = next((i for i, (a, b) in enumerate(zip(first, second)) if a != b), min(len(first), len(second)))
-        return sentence % tuple(texts) + '; they part at pair %d' % (alike + 1)
+        return before + texts[0] + between + texts[1] + '; they part at pair %d' % (alike + 1)
 
     def left_body(self):
         """Of rule 3."""
@@ -99,12 +103,12 @@ class StepText:
 
     def lists_differ(self, first, second):
         lists = [self.pool.quantifier(p).pairs for p in (first, second)]
-        yield self.two_lists('@%d has %%s, and @%d has %%s' % (first, second), *lists)
+        yield self.two_lists(self.at(first) + ' has ', ', and %s has ' % self.at(second), *lists)
 
     def join(self, left, right):
         outer = self.pool.quantifier(left)
         joined = without_adjacent(outer.pairs + self.pool.quantifier(outer.body).pairs)
-        yield self.two_lists('the lists of @%d join to %%s, and @%d has %%s' % (left, right), joined,
+        yield self.two_lists('the lists of %s join to ' % self.at(left), ', and %s has ' % self.at(right), joined,
                              self.pool.quantifier(right).pairs)
 
     def new_variable(self, k, _):
@@ -116,12 +120,12 @@ class StepText:
         yield '%s is of %s, but not bound on the right' % (self.named(k), whose)
 
     def clause_absent(self, p, _):
-        yield '%s is none of the clauses of the left body @%d' % (self.term(p), self.left_body())
+        yield '%s is none of the clauses of the left body %s' % (self.term(p), self.at(self.left_body()))
         pool = Growing(*self.pool.arrays)
         answer, found = clause_answer(pool, self.left_body(), self.pool.room)
         yield 'it has %d clauses' % len(found) if answer[0] == 0 else 'its clauses are refused with %d' % answer[0]
         for clause in found[:SHOWN]:
-            text = TermText(pool, clause[0] if len(clause) == 1 else pool.add(OR, clause))
+            text = TermText(pool, clause[0] if len(clause) == 1 else pool.add(OR, clause), self.style)
             yield 'a clause: ' + text.lines()[0]
 
     def counts_differ(self, wanted, found):
@@ -131,7 +135,7 @@ class StepText:
         yield '%s in %s' % (self.named(k), self.term(p))
 
     def empty_or(self, *_):
-        yield 'in the normal form of the left body @%d, so that a clause would be empty' % self.left_body()
+        yield 'in the normal form of the left body %s, so that a clause would be empty' % self.at(self.left_body())
 
     def no_term(self, p, _):
         n = self.pool.arrays[2]
@@ -150,7 +154,7 @@ class StepText:
         pool = Growing(*self.pool.arrays)
         form = taken_out(pool, normal_form(pool, self.left_body(), True))
         count, length = ('over 2^40' if k >= MANY else str(k) for k in totals(pool, form)[form])
-        yield 'the left body @%d has %s clauses and %s literals' % (self.left_body(), count, length)
+        yield 'the left body %s has %s clauses and %s literals' % (self.at(self.left_body()), count, length)
 
     def not_one(self, count, _):
         yield 'it has %d' % count

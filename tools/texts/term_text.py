@@ -1,16 +1,18 @@
 """Terms and sorts of a pool as SMT-LIB text that stays short however terms are shared.
 
     text = TermText(pool, p)      `pool` gives tag and cells by place (reference_clauses.Growing)
+    TermText(pool, p, style)      with other names (name_text.py), or without places
     text.lines()                  the term at p, and a line `where @12 = ..` for each term that it cuts, up to WHERE
     text.short(p)                 one line: the place and the term at it, of those that p holds
 
-Names are v and their number, v1; a variable whose name stands under several sorts is written (as v1 Int). Sorts: s5 an Atom, ?5 a
-Var. Constants other than integers are written by their serials: real5, string5, reglan5, (_ bits5 8) of width 8. A term that
-stands twice and is long, or that is too deep or too long where it stands, is cut to its place: @12.
+Names are v and their number, v1, and the names of sorts and constants likewise, unless a table gives others; a variable whose name
+stands under several sorts is written (as v1 Int). A term that stands twice and is long, or that is too deep or too long where it
+stands, is cut to its place, @12, or to `..` without places.
 """
-from collections import Counter, defaultdict
+from collections import Counter, defaultdict, namedtuple
 
 from references.reference import OPERATORS
+from texts.name_text import NUMBERED
 
 SYMBOLS = """true false not => and or xor = distinct ite + - * div / mod abs < > <= >= to_real to_int is_int int.pow2 int.ispow2
 int.log2 real.pi sqrt exp sin cos tan csc sec cot arcsin arccos arctan arccsc arcsec arccot select store str.++ str.len str.<
@@ -24,7 +26,7 @@ tuple tuple.unit rel.transpose rel.tclosure rel.join rel.product""".split()
 SYMBOL = dict(zip(range(32, 32 + len(OPERATORS)), SYMBOLS, strict=True))
 BARE = {'true', 'false', 'real.pi', 're.none', 're.all', 're.allchar', 'tuple.unit'}  # constants: no brackets without operands
 BINDER = {23: 'forall', 24: 'exists', 25: 'choice', 26: 'lambda', 27: 'let'}
-CONSTANT = {16: '%d', 17: 'real%d', 18: 'string%d', 19: 'reglan%d'}
+CONSTANT = {17: 'real', 18: 'string', 19: 'reglan'}
 SORT = {1: 'Bool', 2: 'Int', 3: 'Real', 4: 'String', 5: 'RegLan', 6: 'ParamBitVec'}
 SORT_HEAD = {10: '->', 11: 'Array', 12: 'Set', 13: 'Tuple'}
 
@@ -35,10 +37,7 @@ DEEP = 12  # levels
 MOST = 10  # operands or pairs
 WHERE = 8  # lines for cut terms
 CAP = 1 << 40  # lengths stop here
-
-
-def name(k):
-    return 'v%d' % k
+Style = namedtuple('Style', 'names places', defaults=(NUMBERED, True))
 
 
 def spaced(groups):
@@ -61,8 +60,9 @@ def shares(room, needs):
 class TermText:
     """A term's pieces are strings and the places of what stands between them."""
 
-    def __init__(self, pool, root):
+    def __init__(self, pool, root, style=Style()):
         self.pool, self.root, self.labels = pool, root, {}
+        self.names, self.places = style
         self.sorts_of = defaultdict(dict)  # by name the sorts under which it stands; dicts, for their order
         self.reach()
         self.reach()  # with the sorts of names that stand under several
@@ -98,12 +98,13 @@ class TermText:
         if tag in BINDER:
             return self.binder_pieces(tag, cells)
         if tag == 20:
-            return ['(_ bits%d %d)' % (cells[2], cells[1])]
+            return [self.names.bits(cells[2], cells[1])]
         if tag == 21:
             self.sorts_of[cells[1]][cells[0]] = True
-            return [name(cells[1])] if len(self.sorts_of[cells[1]]) == 1 else ['(as %s ' % name(cells[1]), cells[0], ')']
+            text = self.names.name(cells[1])
+            return [text] if len(self.sorts_of[cells[1]]) == 1 else ['(as %s ' % text, cells[0], ')']
         if tag < 21:
-            return [CONSTANT[tag] % cells[1]]
+            return [self.names.constant(CONSTANT[tag], cells[1]) if tag in CONSTANT else str(cells[1])]
         if tag == 22:
             return ['(', *spaced([[c] for c in cells[1:]])[1:], ')']
         symbol = SYMBOL[tag]
@@ -117,7 +118,7 @@ class TermText:
         if tag == 8:
             return ['?%s' % (cells[0] or '')]
         if tag == 9:
-            atom = 's%d' % cells[0]
+            atom = self.names.sort(cells[0])
             return ['(' + atom, *spaced([[c] for c in cells[1:]]), ')'] if len(cells) > 1 else [atom]
         return ['(' + SORT_HEAD[tag], *spaced([[c] for c in cells]), ')']
 
@@ -125,7 +126,7 @@ class TermText:
         """A let's pairs are of a name and a value, the others' of a name and a sort."""
         for k, other in zip(cells[2::2], cells[3::2]):
             self.sorts_of[k][self.pool.cells[other][0] if tag == 27 else other] = True
-        pairs = [['(%s ' % name(k), other, ')'] for k, other in zip(cells[2::2], cells[3::2])]
+        pairs = [['(%s ' % self.names.name(k), other, ')'] for k, other in zip(cells[2::2], cells[3::2])]
         return ['(' + BINDER[tag] + ' (', *spaced(pairs)[1:], ') ', cells[1], ')']
 
     # ---- text
@@ -138,7 +139,7 @@ class TermText:
     def part(self, p, room, depth):
         if self.full[p] > LONG and (self.shown[p] == 0 or depth == 0 or room < min(LONG, self.shown[p])):
             self.labels[p] = True
-            return '@%d' % p
+            return '@%d' % p if self.places else '..'
         return self.write(self.pieces[p], max(room, LONG), depth - 1)
 
     def lines(self):
@@ -151,4 +152,4 @@ class TermText:
         return found + ['not written out: ' + ' '.join(left[:WHERE] + ['..'] * (len(left) > WHERE))] * (left != [])
 
     def short(self, p):
-        return '@%d %s' % (p, self.write(self.pieces[p], NARROW, DEEP))
+        return '@%d ' % p * self.places + self.write(self.pieces[p], NARROW, DEEP)

@@ -1,0 +1,133 @@
+"""The steps of a proof that the rules are for, from their terms to a verdict each.
+
+    case = taken(terms, step, holes)     a Case, or None for a step of another rule
+    files = pack(terms.pool, cases)      the step files of all cases
+    answer(cases, files, program, ..)    the verdicts, by the program `steps`; raises ProgramError
+
+A case has its step, the chain of (rule code, conclusion) that shows it, the spot of each in the step files, and its verdict.
+"""
+import subprocess
+import sys
+from collections import namedtuple
+
+from alethe.shapes import CODES, INSTANCE, RULE, links, rule_of_shape
+from alethe.sorts import TermError
+from alethe.step_files import fits, packed
+from read_steps import numbers
+from references.reference import LIMIT
+from references.reference_rules import Checked
+from texts.answer_text import MEANING, StepText
+
+ACCEPTED, REFUSED, UNCHECKED, UNWRITTEN = 'accepted', 'refused', 'not checked', 'not written'
+UNNAMED, HOLE = '?', 'hole'
+OF_A_STEP = set(range(2, 14)) | {31, 32}  # the refusals that a well-made step file can get
+Verdict = namedtuple('Verdict', 'kind words', defaults=('',))
+
+
+class ProgramError(Exception):
+    """`steps` could not be run, or wrote something else than answers to the file."""
+
+
+class Case:
+    def __init__(self, step):
+        self.step, self.chain, self.spots, self.verdict, self.arguments = step, [], [], None, []
+
+    def by_shape(self):
+        return self.step.rule not in CODES
+
+    def text(self):
+        kind, words = self.verdict
+        return kind + (' ' if kind in (ACCEPTED, REFUSED) else ': ') * bool(words) + words
+
+
+# ---- from a step to its chain
+def taken(terms, step, holes=False):
+    if step.rule not in CODES and step.rule not in (INSTANCE, UNNAMED) and not (holes and step.rule == HOLE):
+        return None
+    case = Case(step)
+    try:
+        literals = terms.clause(step.clause, step.scope)
+        case.arguments = [(name, terms.read(part, step.scope)) for name, part in step.arguments if step.rule == INSTANCE]
+    except TermError as error:
+        case.verdict = Verdict(UNWRITTEN, str(error))
+        return case
+    if step.rule == INSTANCE:
+        case.verdict = Verdict(UNCHECKED, 'rule 7 is not among the rules of steps yet')
+    elif step.rule in CODES and len(literals) != 1:
+        case.verdict = Verdict(REFUSED, '1 %s: it has %d' % (MEANING[1], len(literals)))
+    else:
+        find_chain(terms.pool, case, literals)
+    return case
+
+
+def find_chain(pool, case, literals):
+    rule = CODES.get(case.step.rule) or len(literals) == 1 and rule_of_shape(pool, literals[0])
+    if rule:
+        case.chain = [(rule, literals[0])]
+    else:
+        case.verdict = Verdict(UNCHECKED, 'its conclusion has the shape of none of the rules')
+
+
+# ---- step files
+def pack(pool, cases):
+    """The files of all cases. A join that does not fit into one is not taken apart: its links would be as large."""
+    wanted = []
+    for case in cases:
+        if case.chain and fits(pool, case.chain[0][1]):
+            case.chain = links(pool, *case.chain[0])
+        wanted += [(case, rule, place) for rule, place in case.chain]
+    files, spots = packed(pool, [(rule, place) for _, rule, place in wanted])
+    for (case, _, _), spot in zip(wanted, spots):
+        case.spots.append(spot)
+        if spot is None:
+            case.verdict = Verdict(UNWRITTEN, 'its terms%s take over %d cells' % (' and links' * (len(case.chain) > 1), LIMIT))
+    return files
+
+
+def ask(program, file):
+    command = [sys.executable, program] if program.endswith('.py') else [program]
+    try:
+        done = subprocess.run(command, input=file.bytes(), capture_output=True)
+    except (OSError, ValueError) as error:
+        raise ProgramError('%s cannot be run: %s' % (program, error)) from None
+    lines = done.stdout.decode('ascii', 'replace').splitlines()
+    found = [numbers(line) for line in lines]
+    if len(found) != len(file.steps) or None in found or not {code for code, _, _ in found} <= OF_A_STEP | {0}:
+        what = lines[0][:80] if lines else done.stderr.decode('utf-8', 'replace')[:80] or 'nothing'
+        raise ProgramError('%s does not answer as steps does: it wrote %s' % (program, what))
+    return found
+
+
+# ---- verdicts
+def answer(cases, files, program, style, tell):
+    """The verdicts of all cases that have none yet; `tell` hears the number of files that are answered."""
+    found = []
+    for number, file in enumerate(files):
+        tell(number)
+        found.append(ask(program, file))
+    for case in cases:
+        bad = [(link, spot) for link, spot in enumerate(case.spots, 1) if spot and found[spot[0]][spot[1] - 1][0]]
+        if case.verdict is None and bad:
+            link, (index, number) = bad[0]
+            case.verdict = refusal(case, link, refused_words(files[index], number, found[index][number - 1], style))
+        elif case.verdict is None:
+            case.verdict = acceptance(case)
+
+
+def acceptance(case):
+    words = ['as ' + RULE[case.chain[0][0]]] * case.by_shape() + ['by %d links' % len(case.chain)] * (len(case.chain) > 1)
+    return Verdict(ACCEPTED, ' '.join(words))
+
+
+def refusal(case, link, words):
+    notes = ['link %d of %d' % (link, len(case.chain))] * (len(case.chain) > 1)
+    if case.step.rule == HOLE:
+        return Verdict(UNCHECKED, 'a hole, and %s refuses it with %s' % (RULE[case.chain[0][0]], words))
+    notes += ['as ' + RULE[case.chain[0][0]]] * case.by_shape()
+    return Verdict(REFUSED, words + ' (%s)' % ', '.join(notes) * bool(notes))
+
+
+def refused_words(file, number, found, style):
+    room = [0] * (LIMIT - len(file.tags))
+    pool = Checked(file.tags + room, file.values + room, len(file.tags))
+    return StepText(pool, *file.steps[number - 1], style).answer(*found)[0]
