@@ -13,7 +13,7 @@ import sys
 from collections import Counter
 
 from alethe import proofs
-from alethe.checking import ACCEPTED, HOLE, REFUSED, UNCHECKED, UNWRITTEN, ProgramError, answer, pack, taken
+from alethe.checking import ACCEPTED, HOLE, REFUSED, UNCHECKED, UNWRITTEN, ProgramError, answer, ask, pack, taken
 from alethe.expressions import Unreadable, one_line
 from alethe.shapes import RULE
 from alethe.terms import Terms
@@ -89,7 +89,11 @@ class Check:
         if self.options.keep:
             self.keep(files)
         style = Style(Table(self.terms.names.table()), places=False)
-        answer(self.cases, files, self.options.steps, style, lambda number: self.progress.tell('step files answered:', number))
+        found = []
+        for file in files:
+            self.progress.tell('step files answered:', len(found))
+            found.append(ask(self.options.steps, file))
+        answer(self.terms.pool, self.cases, found, files, style)
         self.progress.end()
 
     def keep(self, files):
@@ -120,7 +124,7 @@ class Check:
     def totals(self):
         kinds = Counter(case.verdict.kind for case in self.cases)
         links = sum(case.verdict.kind == ACCEPTED and len(case.chain) > 1 for case in self.cases)
-        text = '%s: %d steps, %d of the rules: %d accepted (%d by links), %d refused, %d not checked, %d not written; %d holes' % (
+        text = '%s: %d steps, %d of the rules: %d accepted (%d by links), %d refused, %d not checked, %d not written; holes: %d' % (
             self.options.proof, self.count['steps'], len(self.cases), kinds[ACCEPTED], links, kinds[REFUSED], kinds[UNCHECKED],
             kinds[UNWRITTEN], self.count['holes'])
         return text + ' (%s)' % DEFAULT_GRANULARITY * (self.count['holes'] > 0 and not self.cases)
@@ -141,26 +145,33 @@ def arguments():
     return parser.parse_args()
 
 
-def main():
-    sys.stdout.reconfigure(errors='backslashreplace')
-    sys.stderr.reconfigure(errors='backslashreplace')
-    check = Check(arguments())
+def outcome(options):
+    """The exit code, the lines for standard output and what to say of input that cannot be read."""
+    check = Check(options)
     try:
         check.read()
         check.check()
     except (BadInput, ProgramError) as error:
         check.progress.end()
-        sys.stderr.write('%s\n' % error)
-        return 3
-    for line in check.lines():
+        return 3, [], str(error)
+    return check.exit_code(), list(check.lines()), ''
+
+
+def main():
+    for stream in (sys.stdout, sys.stderr):
+        stream.reconfigure(errors='backslashreplace')
+    code, lines, trouble = outcome(arguments())
+    if trouble:
+        sys.stderr.write(trouble + '\n')
+    for line in lines:
         print(line)
-    return check.exit_code()
+    sys.stdout.flush()
+    return code
 
 
 if __name__ == '__main__':
     try:
         code = main()
-        sys.stdout.flush()
     except BrokenPipeError:  # the reader has left
         os.dup2(os.open(os.devnull, os.O_WRONLY), sys.stdout.fileno())
         code = 3

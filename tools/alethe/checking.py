@@ -2,7 +2,8 @@
 
     case = taken(terms, step, holes)     a Case, or None for a step of another rule
     files = pack(terms.pool, cases)      the step files of all cases
-    answer(cases, files, program, ..)    the verdicts, by the program `steps`; raises ProgramError
+    ask(program, file)                   what the program `steps` answers to a file; raises ProgramError
+    answer(pool, cases, found, files, style)        the verdicts, from the answers to the files; style as in term_text.py
 
 A case has its step, the chain of (rule code, conclusion) that shows it, the spot of each in the step files, and its verdict.
 """
@@ -12,10 +13,11 @@ from collections import namedtuple
 
 from alethe.shapes import CODES, INSTANCE, RULE, links, rule_of_shape
 from alethe.sorts import TermError
-from alethe.step_files import fits, packed
+from alethe.step_files import alone, fits, packed, reached
 from read_steps import numbers
 from references.reference import LIMIT
-from references.reference_rules import Checked
+from references.reference_clauses import normal_form, taken_variables
+from references.reference_rules import Checked, clausification
 from texts.answer_text import MEANING, StepText
 
 ACCEPTED, REFUSED, UNCHECKED, UNWRITTEN = 'accepted', 'refused', 'not checked', 'not written'
@@ -99,24 +101,34 @@ def ask(program, file):
 
 
 # ---- verdicts
-def answer(cases, files, program, style, tell):
-    """The verdicts of all cases that have none yet; `tell` hears the number of files that are answered."""
-    found = []
-    for number, file in enumerate(files):
-        tell(number)
-        found.append(ask(program, file))
+def answer(pool, cases, found, files, style):
+    """The verdicts of all cases that have none yet; `found` has the answers to each file."""
     for case in cases:
         bad = [(link, spot) for link, spot in enumerate(case.spots, 1) if spot and found[spot[0]][spot[1] - 1][0]]
         if case.verdict is None and bad:
             link, (index, number) = bad[0]
             case.verdict = refusal(case, link, refused_words(files[index], number, found[index][number - 1], style))
         elif case.verdict is None:
-            case.verdict = acceptance(case)
+            case.verdict = acceptance(case, pool, style)
 
 
-def acceptance(case):
+def acceptance(case, pool, style):
+    """Rule 3 may accept what does not follow, if it takes a variable out that is free on the left (docs/PROMISES.md)."""
+    rule, place = case.chain[0]
+    captured = captured_name(pool, place) if rule == CODES['qnt_cnf'] else None
+    if captured:
+        return Verdict(UNCHECKED, 'accepted, but %s is free in the left side and taken out of a forall in it, which the guarantee '
+                       'leaves out' % style.names.name(captured))
     words = ['as ' + RULE[case.chain[0][0]]] * case.by_shape() + ['by %d links' % len(case.chain)] * (len(case.chain) > 1)
     return Verdict(ACCEPTED, ' '.join(words))
+
+
+def captured_name(pool, place):
+    file = alone(pool, reached(pool, place), CODES['qnt_cnf'], place)
+    own = Checked(file.tags, file.values, len(file.tags))
+    left, _ = clausification(own, file.places[place])
+    taken_out = taken_variables(own, normal_form(own, left.body, True))
+    return next((name for name, sort in taken_out if own.is_free((name, sort), left.place)), None)
 
 
 def refusal(case, link, words):

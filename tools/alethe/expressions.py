@@ -22,12 +22,14 @@ class Unreadable(Exception):
 
 
 class Form(list):
-    __slots__ = ('line', 'named')  # `named` of a command alone: each (! .. :named ..) in it, with the SCOPES around it
+    """`named`, of a command: each (! .. :named ..) in it, with the innermost of the SCOPES in whose body it stands, or None.
+    `outer`, of a form that is one of the SCOPES: the next one out."""
+    __slots__ = ('line', 'named', 'outer')
 
 
 def read(text):
     """Forms are put into what holds them when they open: in a let, the body is its third part as soon as it begins."""
-    forms, stack, line, at = [], [], 1, 0
+    forms, stack, scopes, line, at = [], [], [], 1, 0
     while at < len(text):
         token = TOKEN.match(text, at)
         if token is None:
@@ -41,28 +43,34 @@ def read(text):
         elif kind == 'close':
             if not stack:
                 raise Unreadable(line, 'a ) without its (')
-            stack.pop()
+            closed = stack.pop()
+            if scopes and scopes[-1] is closed:
+                scopes.pop()
         elif kind != 'space':
             (stack[-1] if stack else forms).append(simple(word) if kind == 'quoted' else word)
             if word == ':named':
-                note_name(stack)
+                note_name(stack, innermost(scopes))
+            elif word in SCOPES and stack and len(stack[-1]) == 1:
+                stack[-1].outer = innermost(scopes)
+                scopes.append(stack[-1])
         line += word.count('\n') if kind not in ('open', 'close', 'atom') else 0
     if stack:
         raise Unreadable(line, 'the text ends where a ) is expected, for the ( of line %d' % stack[-1].line)
     return forms
 
 
-def note_name(stack):
+def innermost(scopes):
+    """The scope in whose body a text stands now: it may still be among the bindings of the last one."""
+    return scopes[-1] if scopes and len(scopes[-1]) > 2 else scopes[-1].outer if scopes else None
+
+
+def note_name(stack, scope):
     """The commands of a proof may stand in one pair of brackets."""
     if len(stack) > 1:
         command = stack[0] if isinstance(stack[0][0], str) else stack[1]
         if not hasattr(command, 'named'):
             command.named = []
-        command.named.append((stack[-1], [form for form in stack if len(form) > 2 and is_scope(form)]))
-
-
-def is_scope(form):
-    return isinstance(form[0], str) and form[0] in SCOPES
+        command.named.append((stack[-1], scope))
 
 
 def is_symbol(expression):

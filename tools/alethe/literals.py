@@ -2,8 +2,8 @@
 
     literal(pool, names, expression)       the place, or None for any other expression
 
-A numeral outside u32 and a negative number become constants of no known meaning, of their sort. Equal numbers in other spellings
-(1.0 and 1.00, #b0001 and #x1) are one constant as far as that is plain to see; where they are two, less is accepted.
+A numeral outside u32 and a negative number become constants of no known meaning, of their sort. Of equal numbers in other spellings
+1.0 and 1.00, #b0001 and #x1 and (_ bv1 4) are one constant; others are two, 1.5 and 3/2, so that less is accepted.
 """
 import re
 
@@ -23,8 +23,7 @@ def literal(pool, names, expression):
     if INTEGER.fullmatch(expression):
         return pool.var(names.number('operator', expression), pool.sort('Int'))
     if REAL.fullmatch(expression):
-        text = re.sub(r'\.?0+$', '', expression) if '.' in expression else re.sub('/1$', '', expression)
-        return pool.constant('real', names.number('real', text))
+        return pool.constant('real', names.number('real', re.sub(r'(\.[0-9]+?)0+$', r'\1', expression)))
     if expression[0] == '"':
         return pool.constant('string', names.number('string', expression))
     if BITS.fullmatch(expression):

@@ -55,10 +55,15 @@ def reached(pool, place):
     return sorted(found)
 
 
+def alone(pool, parts, rule, place):
+    file = StepFile()
+    file.add(pool, parts, rule, place, 0)
+    return file
+
+
 def room_for(pool, parts, place):
     """The cells that rule 3 builds for a step alone."""
-    file = StepFile()
-    file.take(pool, parts)
+    file = alone(pool, parts, QNT_CNF, place)
     return new_cells(file.tags, file.values, file.places[place])
 
 

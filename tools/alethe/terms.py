@@ -2,7 +2,7 @@
 
     terms = Terms()
     terms.declarations.command(form)
-    terms.name(named, scope)            what (! .. :named NAME) stands for, from here on
+    terms.name(named, around, scope)    what (! .. :named NAME) stands for, from here on
     terms.read(expression, scope)       the place of a term; raises TermError
     terms.clause(expression, scope)     the places of the literals of (cl ..), lets around it expanded
     terms.free(place)                   its free variables that some binder or anchor gives: pairs of name and sort
@@ -49,7 +49,7 @@ class Terms:
         return run(self.literals(expression, scope))
 
     def name(self, named, around, scope):
-        """`named` is (! .. :named NAME), `around` are the binders and lets in which it stands."""
+        """`named` is (! .. :named NAME), `around` the innermost binder or let in which it stands."""
         at = named.index(':named')
         if named[0] == '!' and at > 1 and at + 1 < len(named) and is_symbol(named[at + 1]):
             self.named.setdefault(named[at + 1], Named()).readings.append((named[1], around, scope))
@@ -132,9 +132,8 @@ class Terms:
             raise TermError('%s stands in its own term' % written(name))
         entry.open = True
         try:
-            for expression, around, inner in entry.readings:
-                for form in around:
-                    inner = yield self.inside(form, inner)
+            for expression, around, scope_around in entry.readings:
+                inner = yield self.inside_all(around, scope_around)
                 place = yield self.term(expression, inner)
                 if entry.place not in (None, place):
                     raise TermError('%s names two terms' % written(name))
@@ -186,6 +185,15 @@ class Terms:
         for pair in expression[1]:
             values[self.bound_name(pair)] = Value((yield self.term(pair[1], scope)), scope)
         return scope.with_values(values)
+
+    def inside_all(self, innermost, scope):
+        forms = []
+        while innermost is not None:
+            forms.append(innermost)
+            innermost = innermost.outer
+        for form in reversed(forms):
+            scope = yield self.inside(form, scope)
+        return scope
 
     def pairs(self, expression):
         """The names that a quantifier binds, with their sorts."""
@@ -239,7 +247,7 @@ class Terms:
 
     def check_closed(self, head, scope):
         """No part of what stands for itself may be a variable."""
-        for part in head:
+        for part in head[:2] if head[0] == 'as' else head:
             if not isinstance(part, str) or scope.meaning(part):
                 raise TermError('%s is not read' % written(head))
 
@@ -255,7 +263,7 @@ class Terms:
 
     def result(self, head, scope):
         """The sort that an indexed or qualified function gives: (as const S), and the testers of datatypes."""
-        self.check_closed(head[:2] if head[0] == 'as' else head, scope)
+        self.check_closed(head, scope)
         if head[0] == 'as' and len(head) == 3:
             return (yield self.declarations.sorts.sort(head[2], {}))
         return BOOL if len(head) == 3 and head[1] == 'is' else self.own_sort(head)

@@ -1,0 +1,61 @@
+"""Truth of an expanded formula in small random readings, straight from its text: an independent look at what is accepted.
+
+    false_reading(formula, seeds)     a seed whose reading makes it false, or None; None too where it has too many variables
+
+A sort has one value or two. Functions, operators that are no connectives, and free names get values at random, once for each tuple
+of argument values.
+"""
+import random
+
+from alethe.expressions import Form, whole
+
+MOST_BOUND = 9
+TRUTH = {
+    'not': lambda a: 1 - a[0], 'and': min, 'or': max, '=>': lambda a: max(a[-1], *(1 - v for v in a[:-1])),
+    'ite': lambda a: a[1] if a[0] else a[2], '=': lambda a: int(len(set(a)) == 1), 'xor': lambda a: sum(a) % 2,
+    'distinct': lambda a: int(len(set(a)) == len(a))}
+
+
+class Reading:
+    def __init__(self, seed):
+        self.rng, self.known = random.Random(seed), {}
+
+    def chosen(self, *key):
+        if key not in self.known:
+            self.known[key] = self.rng.randrange(2)
+        return self.known[key]
+
+    def values(self, sort):
+        return range(2 if sort == 'Bool' else 1 + self.chosen('size', whole(sort)))
+
+    def value(self, term, bound):
+        if isinstance(term, str):
+            return {'true': 1, 'false': 0}[term] if term in ('true', 'false') else bound.get(term, self.chosen(term))
+        if term[0] in ('forall', 'exists'):
+            return (min if term[0] == 'forall' else max)(self.instances(term[1], term[2], bound))
+        arguments = [self.value(part, bound) for part in term[1:]]
+        if isinstance(term[0], str) and term[0] in TRUTH and arguments:
+            return TRUTH[term[0]](arguments)
+        return self.chosen(whole(term[0]), *arguments)
+
+    def instances(self, pairs, body, bound):
+        """The last of equal names binds."""
+        if not pairs:
+            return [self.value(body, bound)]
+        (name, sort), *rest = pairs
+        return [value for chosen in self.values(sort) for value in self.instances(rest, body, {**bound, name: chosen})]
+
+
+def parts(term):
+    stack = [term]
+    while stack:
+        part = stack.pop()
+        yield part
+        stack += part if isinstance(part, Form) else []
+
+
+def false_reading(formula, seeds):
+    binders = [part for part in parts(formula) if isinstance(part, Form) and part and part[0] in ('forall', 'exists')]
+    if sum(len(binder[1]) for binder in binders) > MOST_BOUND or {'choice', 'lambda'} & {p for p in parts(formula) if isinstance(p, str)}:
+        return None
+    return next((seed for seed in seeds if not Reading(seed).value(formula, {})), None)
