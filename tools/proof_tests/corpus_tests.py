@@ -5,7 +5,7 @@ import unittest
 from collections import Counter
 
 from alethe.checking import pack, refused_words
-from alethe.shapes import INSTANCE
+from alethe.shapes import CODES, INSTANCE, operands
 from alethe.step_files import alone, packed, reached
 from proof_tests.inputs import REAL, TOOLS, answers, corpus, corpus_lines, read_cases, text_of
 from texts.name_text import Table
@@ -34,6 +34,27 @@ class Corpus(unittest.TestCase):
                     (code, *_), = answers(alone(terms.pool, reached(terms.pool, place), rule, place))
                 found.append((proof, case.step.name, str(rule), str(code)))
         self.assertEqual(sorted(found), sorted(wanted))
+
+    def test_links_lead_from_left_to_right(self):
+        """Each link starts where the one before ends; the last ends at the right side, or begins there and is read backwards."""
+        kinds = Counter()
+        for problem, proof in corpus():
+            terms, cases = read_cases(text_of(problem), text_of(proof))
+            wholes = [case.chain[0][1] for case in cases if case.chain]
+            pack(terms.pool, cases)
+            for case, whole in zip((case for case in cases if case.chain), wholes):
+                if len(case.chain) > 1:
+                    at, right = operands(terms.pool, whole)
+                    rules = [rule for rule, _ in case.chain]
+                    ends = [operands(terms.pool, place) for _, place in case.chain]
+                    backwards = [ends.pop()[::-1]] if rules[-1] == CODES['qnt_rm_unused'] else []
+                    for start, end in ends + backwards:
+                        self.assertEqual(start, at)
+                        at = end
+                    self.assertEqual(at, right)
+                    self.assertEqual(set(rules[:len(ends)]), {CODES['qnt_join']})
+                    kinds[bool(backwards)] += 1
+        self.assertEqual(kinds, {False: 10, True: 2})
 
     def test_figures_of_the_readme(self):
         figures = Counter()

@@ -147,6 +147,14 @@ class Steps(unittest.TestCase):
         code, lines, _ = outcome_of_texts(PROBLEM + '(declare-const x T)', step)
         self.assertEqual((code, lines[0].split(': ')[2]), (1, 'refused 10 clause absent'))
 
+    def test_anchors_end(self):
+        step = '(step %s (cl (= (forall ((x T)) (p %s)) (p %s))) :rule qnt_rm_unused)'
+        proof = '(anchor :step t :args ((v T) (w U)))' + step % ('t.1', 'v', 'v') + step % ('t.2', 'w', 'w') + step % ('t', 'a', 'a') + step % (
+            'u', 'v', 'v')
+        self.assertEqual([line.split(': ', 1)[1] for line in outcome_of_texts(PROBLEM, proof)[1][:-1]], [
+            't.1 qnt_rm_unused: accepted', 't.2 qnt_rm_unused: not written: the sort U is not declared', 't qnt_rm_unused: accepted',
+            'u qnt_rm_unused: not written: v is not declared'])
+
     def test_quiet_and_arguments(self):
         proof = GOOD + '(step f (cl (or (not (forall ((x T)) (p x))) (p a))) :rule forall_inst :args (%s))'
         for arguments in ('a', '(:= x a)', '(:= (x T) a)'):

@@ -1,9 +1,9 @@
-"""Truth of an expanded formula in small random readings, straight from its text: an independent look at what is accepted.
+"""Truth of a formula in small random readings, straight from its text: an independent look at what is accepted.
 
-    false_reading(formula, seeds)     a seed whose reading makes it false, or None; None too where it has too many variables
+    false_reading(formula, seeds, definitions)     a seed whose reading makes it false, or None; None too where it has too many variables
 
 A sort has one value or two. Functions, operators that are no connectives, and free names get values at random, once for each tuple
-of argument values.
+of argument values. `definitions` gives the parameters and the body of a name; they mean what they mean outside every binder.
 """
 import random
 
@@ -17,8 +17,8 @@ TRUTH = {
 
 
 class Reading:
-    def __init__(self, seed):
-        self.rng, self.known = random.Random(seed), {}
+    def __init__(self, seed, definitions):
+        self.rng, self.known, self.definitions = random.Random(seed), {}, definitions
 
     def chosen(self, *key):
         if key not in self.known:
@@ -30,13 +30,23 @@ class Reading:
 
     def value(self, term, bound):
         if isinstance(term, str):
-            return {'true': 1, 'false': 0}[term] if term in ('true', 'false') else bound.get(term, self.chosen(term))
+            return bound[term] if term in bound else self.constant(term)
         if term[0] in ('forall', 'exists'):
             return (min if term[0] == 'forall' else max)(self.instances(term[1], term[2], bound))
+        if term[0] == 'let':
+            return self.value(term[2], {**bound, **{name: self.value(value, bound) for name, value in term[1]}})
         arguments = [self.value(part, bound) for part in term[1:]]
+        if isinstance(term[0], str) and term[0] in self.definitions:
+            parameters, body = self.definitions[term[0]]
+            return self.value(body, dict(zip(parameters, arguments)))
         if isinstance(term[0], str) and term[0] in TRUTH and arguments:
             return TRUTH[term[0]](arguments)
         return self.chosen(whole(term[0]), *arguments)
+
+    def constant(self, name):
+        if name in self.definitions:
+            return self.value(self.definitions[name][1], {})
+        return {'true': 1, 'false': 0}[name] if name in ('true', 'false') else self.chosen(name)
 
     def instances(self, pairs, body, bound):
         """The last of equal names binds."""
@@ -54,8 +64,9 @@ def parts(term):
         stack += part if isinstance(part, Form) else []
 
 
-def false_reading(formula, seeds):
+def false_reading(formula, seeds, definitions=()):
     binders = [part for part in parts(formula) if isinstance(part, Form) and part and part[0] in ('forall', 'exists')]
-    if sum(len(binder[1]) for binder in binders) > MOST_BOUND or {'choice', 'lambda'} & {p for p in parts(formula) if isinstance(p, str)}:
+    atoms = {part for part in parts(formula) if isinstance(part, str)}
+    if sum(len(binder[1]) for binder in binders) > MOST_BOUND or atoms & {'choice', 'lambda'}:
         return None
-    return next((seed for seed in seeds if not Reading(seed).value(formula, {})), None)
+    return next((seed for seed in seeds if not Reading(seed, dict(definitions)).value(formula, {})), None)

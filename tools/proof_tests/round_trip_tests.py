@@ -22,7 +22,7 @@ PROBLEM = '''
 BODIES = [
     ('(both x a)', '(and (p x) (p a))'), ('(twice x)', '(and (p x) (p x))'), ('(or pa (p x))', '(or (p a) (p x))'),
     ('(let ((y x) (z (p a))) (let ((y (p y)) (w z)) (and y z w)))', '(and (p x) (p a) (p a))'),
-    ('(p (! x :named n1))', '(p x)'), ('(! (p x) :pattern ((p x)) :named n2)', '(p x)'),
+    ('(let ((y a)) (let ((y x) (z (p y))) (and (p y) z)))', '(and (p x) (p a))'), ('(p (! x :named n1))', '(p x)'), ('(! (p x) :pattern ((p x)) :named n2)', '(p x)'),
     ('(forall ((y (|a sort| T))) (|q 1| y 7))', '(forall ((y (|a sort| T))) (|q 1| y 7))'),
     ('(exists ((|y| T) (|y 2| T)) (= |x| y |y 2|))', '(exists ((y T) (|y 2| T)) (= x y |y 2|))'),
     ('(big 4294967296 2.50)', '(big 4294967296 2.5)'), ('(big 4294967295 (- 3/2))', '(big 4294967295 (- 3/2))'),
