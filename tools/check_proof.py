@@ -15,14 +15,14 @@ from collections import Counter
 from alethe import proofs
 from alethe.checking import ACCEPTED, HOLE, REFUSED, UNCHECKED, UNWRITTEN, ProgramError, answer, ask, pack, taken
 from alethe.expressions import Unreadable, one_line
-from alethe.shapes import RULE
+from alethe.shapes import INSTANCE, RULE
 from alethe.terms import Terms
 from texts.name_text import Table
 from texts.term_text import Style
 
 PROJECT = pathlib.Path(__file__).resolve().parents[1]
 OFTEN = 500  # steps or files between two progress lines
-DEFAULT_GRANULARITY = 'run cvc5 with --proof-granularity=dsl-rewrite for fewer holes'
+HINT = 'cvc5 --proof-granularity=dsl-rewrite may write steps of the rules for them'
 
 
 class BadInput(Exception):
@@ -32,7 +32,7 @@ class BadInput(Exception):
 def read_text(path):
     """Bytes that are no UTF-8 are not replaced: two names could become one."""
     try:
-        return pathlib.Path(path).read_bytes().decode('utf-8')
+        return pathlib.Path(path).read_bytes().decode('utf-8-sig')
     except UnicodeDecodeError as error:
         raise BadInput('%s: UTF-8 text is expected, and byte %d is none' % (path, error.start)) from None
     except (OSError, ValueError) as error:
@@ -127,7 +127,8 @@ class Check:
         text = '%s: %d steps, %d of the rules: %d accepted (%d by links), %d refused, %d not checked, %d not written; holes: %d' % (
             self.options.proof, self.count['steps'], len(self.cases), kinds[ACCEPTED], links, kinds[REFUSED], kinds[UNCHECKED],
             kinds[UNWRITTEN], self.count['holes'])
-        return text + ' (%s)' % DEFAULT_GRANULARITY * (self.count['holes'] > 0 and not self.cases)
+        found = any(case.step.rule != INSTANCE for case in self.cases)
+        return text + ' (%s)' % HINT * (self.count['holes'] > 0 and not found)
 
     def exit_code(self):
         kinds = {case.verdict.kind for case in self.cases}

@@ -10,6 +10,7 @@ A case has its step, the chain of (rule code, conclusion) that shows it, the spo
 import subprocess
 import sys
 from collections import namedtuple
+from functools import lru_cache
 
 from alethe.shapes import CODES, INSTANCE, RULE, links, rule_of_shape
 from alethe.sorts import TermError
@@ -139,7 +140,11 @@ def refusal(case, link, words):
     return Verdict(REFUSED, words + ' (%s)' % ', '.join(notes) * bool(notes))
 
 
-def refused_words(file, number, found, style):
+@lru_cache(maxsize=1)  # refusals come file by file
+def checked_pool(file):
     room = [0] * (LIMIT - len(file.tags))
-    pool = Checked(file.tags + room, file.values + room, len(file.tags))
-    return StepText(pool, *file.steps[number - 1], style).answer(*found)[0]
+    return Checked(file.tags + room, file.values + room, len(file.tags))
+
+
+def refused_words(file, number, found, style):
+    return StepText(checked_pool(file), *file.steps[number - 1], style).answer(*found)[0]

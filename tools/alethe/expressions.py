@@ -5,12 +5,14 @@
     written(expression)      its beginning, on one line
     is_symbol(expression)    and no numeral, string, keyword or form
 
-An expression is a str, the token of an atom, or a Form, a list with the line of its bracket. A symbol has one spelling: |x| is x,
-and a quoted symbol that needs its bars keeps them. Nothing here calls itself, so that nesting has no limit.
+An expression is a str, the token of an atom, or a Form, a list with the line of its bracket. Atoms that stand where commands do have
+a line too. A symbol has one spelling: |x| is x, and a quoted symbol that needs its bars keeps them. Nothing here calls itself, so
+that nesting has no limit.
 """
 import re
 
-TOKEN = re.compile(r'(?P<space>\s+|;[^\n]*)|(?P<open>\()|(?P<close>\))|(?P<string>"(?:[^"]|"")*")|(?P<quoted>\|[^|]*\|)|(?P<atom>[^\s();"|]+)')
+TOKEN = re.compile(r'(?P<space>\s+|;[^\n]*)|(?P<open>\()|(?P<close>\))|(?P<string>"(?:[^"]|"")*")|(?P<quoted>\|[^|]*\|)|'
+                   r'(?P<atom>[^\s();"|]+)')
 SIMPLE = re.compile(r'[A-Za-z~!@$%^&*_+=<>.?/-][0-9A-Za-z~!@$%^&*_+=<>.?/-]*')
 RESERVED = {'!', '_', 'as', 'let', 'forall', 'exists', 'match', 'par'}
 SCOPES = {'let', 'forall', 'exists', 'choice', 'lambda'}
@@ -25,6 +27,10 @@ class Form(list):
     """`named`, of a command: each (! .. :named ..) in it, with the innermost of the SCOPES in whose body it stands, or None.
     `outer`, of a form that is one of the SCOPES: the next one out."""
     __slots__ = ('line', 'named', 'outer')
+
+
+class Atom(str):
+    """With a line, for an atom in the place of a command."""
 
 
 def read(text):
@@ -47,7 +53,7 @@ def read(text):
             if scopes and scopes[-1] is closed:
                 scopes.pop()
         elif kind != 'space':
-            (stack[-1] if stack else forms).append(simple(word) if kind == 'quoted' else word)
+            (stack[-1] if stack else forms).append(atom(kind, word, line, len(stack)))
             if word == ':named':
                 note_name(stack, innermost(scopes))
             elif word in SCOPES and stack and len(stack[-1]) == 1:
@@ -57,6 +63,14 @@ def read(text):
     if stack:
         raise Unreadable(line, 'the text ends where a ) is expected, for the ( of line %d' % stack[-1].line)
     return forms
+
+
+def atom(kind, word, line, depth):
+    word = simple(word) if kind == 'quoted' else word
+    if depth < 2:
+        word = Atom(word)
+        word.line = line
+    return word
 
 
 def innermost(scopes):

@@ -2,7 +2,8 @@
 
 A nested function is a generator: `result = yield call` makes the call of another one, `return` gives its result.
 
-    run(call)       the result of a call
+    run(call)                          the result of a call
+    once(known, key, call, circular)   a call whose result is kept under a key; inside itself it raises `circular`
 """
 
 
@@ -22,3 +23,17 @@ def run(call):
         while stack:
             stack.pop().close()
     return result
+
+
+def once(known, key, call, circular):
+    """The entry of a key is None while its call is made."""
+    if key not in known:
+        known[key] = None
+        try:
+            known[key] = yield call
+        finally:
+            if known[key] is None:
+                del known[key]
+    if known[key] is None:
+        raise circular
+    return known[key]

@@ -9,7 +9,6 @@
 from collections import namedtuple
 
 from alethe.expressions import Form, Unreadable, is_symbol, named_in, read, whole, written
-from alethe.nested_calls import run
 from alethe.scopes import EMPTY, Broken, Variable
 from alethe.sorts import TermError
 
@@ -20,19 +19,11 @@ ANSWERS = {'sat', 'unknown', 'timeout', 'unsupported'}
 def commands(forms, what):
     """Each form must begin with a symbol."""
     for form in forms:
-        if isinstance(form, str):
-            raise Unreadable(form_line(forms, form), '%s is expected, and there is %s' % (what, written(form)))
-        if not form or not is_symbol(form[0]):
+        if isinstance(form, str) or not form or not is_symbol(form[0]):
             raise Unreadable(form.line, '%s is expected, and there is %s' % (what, written(form)))
         if form[0] == 'error':
             raise Unreadable(form.line, '%s is expected, and the solver wrote %s' % (what, written(form)))
         yield form
-
-
-def form_line(forms, atom):
-    """About: an atom has no line of its own, so that of the form before it is given."""
-    lines = [form.line for form in forms[:forms.index(atom)] if isinstance(form, Form)]
-    return lines[-1] if lines else 1
 
 
 def problem(terms, text):
@@ -51,7 +42,7 @@ def proof_forms(text):
     forms = read(text)
     while forms and isinstance(forms[0], str):
         if forms[0] in ANSWERS:
-            raise Unreadable(1, 'a proof is expected, and the solver answered %s' % forms[0])
+            raise Unreadable(forms[0].line, 'a proof is expected, and the solver answered %s' % forms[0])
         if forms[0] != 'unsat':
             break
         forms = forms[1:]

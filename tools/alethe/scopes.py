@@ -18,7 +18,7 @@ class Variable:
 
 
 Value = namedtuple('Value', 'place scope')  # of a let or an argument, and where the value was read
-Broken = namedtuple('Broken', 'why')  # a name that an anchor gives without a sort that could be read
+Broken = namedtuple('Broken', 'why sort', defaults=(None,))  # a name that an anchor gives without a sort that could be read
 
 
 class Chain:

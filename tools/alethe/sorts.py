@@ -8,7 +8,7 @@
 A sort that the pool does not have, such as (Seq Int) or an indexed one, is an uninterpreted one.
 """
 from alethe.expressions import whole, written
-from alethe.nested_calls import run
+from alethe.nested_calls import once, run
 
 PLAIN = {'Bool', 'Int', 'Real', 'String', 'RegLan'}
 HEADS = {'Array': 2, 'Set': 1, 'Tuple': None, '->': None}  # numbers of parts, None for any
@@ -17,6 +17,11 @@ MOST = 0xffffffff
 
 class TermError(Exception):
     """Why a sort or term cannot be written into a pool."""
+
+
+def check_count(what, wanted, found):
+    if wanted != found:
+        raise TermError('%s: %d are expected, and there are %d' % (what, wanted, found))
 
 
 def numeral(token):
@@ -65,25 +70,14 @@ class Sorts:
         raise TermError('the sort %s is not declared' % written(name))
 
     def atom(self, name, parts):
-        if self.declared[name] != len(parts):
-            raise TermError('the sort %s has %d parameters, and there are %d' % (written(name), self.declared[name], len(parts)))
+        check_count('parameters of the sort %s' % written(name), self.declared[name], len(parts))
         return self.pool.sort('Atom', self.names.number('sort', name), *parts)
 
     def inlined(self, name, parts):
-        """A sort that stands in its own definition would have no end: its entry is None while it is read."""
         parameters, body = self.defined[name]
-        if len(parameters) != len(parts):
-            raise TermError('the sort %s has %d parameters, and there are %d' % (written(name), len(parameters), len(parts)))
-        if (name, parts) not in self.known:
-            self.known[name, parts] = None
-            try:
-                self.known[name, parts] = yield self.sort(body, dict(zip(parameters, parts)))
-            finally:
-                if self.known[name, parts] is None:
-                    del self.known[name, parts]
-        if self.known[name, parts] is None:
-            raise TermError('the sort %s stands in its own definition' % written(name))
-        return self.known[name, parts]
+        check_count('parameters of the sort %s' % written(name), len(parameters), len(parts))
+        circular = TermError('the sort %s stands in its own definition' % written(name))
+        return once(self.known, (name, parts), self.sort(body, dict(zip(parameters, parts))), circular)
 
     def indexed(self, expression):
         if len(expression) == 3 and expression[1] == 'BitVec' and numeral(expression[2]):

@@ -16,9 +16,9 @@ from alethe.expressions import Form, is_symbol, whole, written
 from alethe.free_names import FreeNames
 from alethe.literals import literal
 from alethe.names import Names
-from alethe.nested_calls import run
+from alethe.nested_calls import once, run
 from alethe.scopes import EMPTY, Broken, Value, Variable
-from alethe.sorts import TermError
+from alethe.sorts import TermError, check_count
 from pools.packed_pool import BINDER_TAG, Pool
 from references.reference import NoAnswer, OPERATORS
 from texts.term_text import BARE, SYMBOLS
@@ -40,7 +40,7 @@ class Terms:
         self.pool, self.names, self.named = Pool(), Names(), {}
         self.declarations = Declarations(self.pool, self.names)
         self.free = FreeNames(self.pool, self.names).of
-        self.calls = {}  # of defined functions: name and arguments to the place, None while it is read
+        self.calls = {}  # of defined functions: the place by name and arguments
 
     def read(self, expression, scope=EMPTY):
         return run(self.term(expression, scope))
@@ -149,22 +149,10 @@ class Terms:
     def defined(self, name, arguments):
         """The body with the arguments. They are values of no binder: none of the body may bind their variables."""
         parameters, body = self.declarations.definitions[name]
-        self.count(name, len(parameters), len(arguments))
-        if (name, arguments) not in self.calls:
-            self.calls[name, arguments] = None
-            values = {parameter: Value(place, EMPTY) for (parameter, _), place in zip(parameters, arguments)}
-            try:
-                self.calls[name, arguments] = yield self.term(body, EMPTY.with_values(values))
-            finally:
-                if self.calls[name, arguments] is None:
-                    del self.calls[name, arguments]
-        if self.calls[name, arguments] is None:
-            raise TermError('%s stands in its own definition' % written(name))
-        return self.calls[name, arguments]
-
-    def count(self, name, wanted, found):
-        if wanted != found:
-            raise TermError('%s has %d arguments, and there are %d' % (written(name), wanted, found))
+        check_count('arguments of %s' % written(name), len(parameters), len(arguments))
+        values = {parameter: Value(place, EMPTY) for (parameter, _), place in zip(parameters, arguments)}
+        circular = TermError('%s stands in its own definition' % written(name))
+        return once(self.calls, (name, arguments), self.term(body, EMPTY.with_values(values)), circular)
 
     # ---- binders
     def binder(self, expression, scope):
@@ -183,7 +171,8 @@ class Terms:
             return scope.with_variables({name: Variable(sort) for name, sort in (yield self.pairs(expression))})
         values = {}
         for pair in expression[1]:
-            values[self.bound_name(pair)] = Value((yield self.term(pair[1], scope)), scope)
+            name = self.bound_name(pair)
+            values[name] = Value((yield self.term(pair[1], scope)), scope)
         return scope.with_values(values)
 
     def inside_all(self, innermost, scope):
@@ -219,7 +208,7 @@ class Terms:
                 return (yield self.defined(head, tuple(arguments)))
             if not self.declared(head):
                 return self.operator(head, arguments)
-            self.count(head, len(self.declarations.functions[head].arguments), len(arguments))
+            check_count('arguments of %s' % written(head), len(self.declarations.functions[head].arguments), len(arguments))
         if not arguments:
             raise TermError('a term without arguments is applied: %s' % written(expression))
         return self.computed(APPLICATION, (yield self.term(head, scope)), *arguments)

@@ -11,9 +11,10 @@ from proof_tests.inputs import REAL, TOOLS, answers, corpus, corpus_lines, read_
 from texts.name_text import Table
 from texts.term_text import Style
 
-TOTALS = re.compile(r'(\d+) steps, (\d+) of the rules: (\d+) accepted \((\d+) by links\), (\d+) refused, (\d+) not checked, (\d+) not')
-FIGURES = re.compile(r'(\d+) steps in (\d+) proofs, (\d+) of the rules: (\d+) accepted, (\d+) of them by links, (\d+) refused, '
+TOTALS = re.compile(r'(\d+) steps, (\d+) of the rules: (\d+) accepted \((\d+) by links\), (\d+) refused, (\d+) not checked')
+FIGURES = re.compile(r'(\d+) proofs with (\d+) steps, (\d+) of the rules: (\d+) accepted, (\d+) of them by links, (\d+) refused, '
                      r'(\d+) `forall_inst` not checked')
+KEYS = 'proofs steps rules accepted links refused unchecked'.split()
 
 
 class Corpus(unittest.TestCase):
@@ -60,12 +61,10 @@ class Corpus(unittest.TestCase):
         figures = Counter()
         for line in text_of('expected.txt').splitlines():
             if line.startswith('proofs/cvc5-1.3.2/') and TOTALS.search(line):
-                steps, rules, accepted, links, refused, unchecked, unwritten = map(int, TOTALS.search(line).groups())
-                self.assertEqual(rules, accepted + refused + unchecked)
-                figures.update(steps=steps, proofs=1, rules=rules, accepted=accepted, links=links, refused=refused, unchecked=unchecked)
-        readme = (TOOLS.parent / 'README.md').read_text(encoding='utf-8')
-        self.assertEqual(tuple(map(int, FIGURES.search(' '.join(readme.split())).groups())), tuple(
-            figures[key] for key in 'steps proofs rules accepted links refused unchecked'.split()))
+                figures.update(dict(zip(KEYS, (1, *map(int, TOTALS.search(line).groups())))))
+        self.assertEqual(figures['rules'], figures['accepted'] + figures['refused'] + figures['unchecked'])
+        readme = ' '.join((TOOLS.parent / 'README.md').read_text(encoding='utf-8').split())
+        self.assertEqual(list(map(int, FIGURES.search(readme).groups())), [figures[key] for key in KEYS])
 
     def test_every_file_is_there(self):
         """Every problem of a proof, and no data that no test reads."""

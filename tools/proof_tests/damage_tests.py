@@ -10,7 +10,7 @@ from collections import Counter
 
 from alethe.checking import ACCEPTED, REFUSED, answer, pack, taken
 from alethe.expressions import Form, read, whole
-from alethe.shapes import RULE, operands, quantifier, sides
+from alethe.shapes import RULE, quantifier, sides
 from alethe.step_files import packed
 from proof_tests.inputs import PROGRAMS, answers, corpus, read_cases, text_of
 from proof_tests.readings import false_reading, parts
@@ -78,8 +78,8 @@ def repeats_at_a_distance(pool, rule, place):
 def judged(file):
     if not PROGRAMS.oracle:
         return reference_answers(file.tags, file.values, file.steps)
-    lines = subprocess.run([PROGRAMS.oracle, 'steps'], input=file.bytes(), capture_output=True, check=True).stdout.decode().splitlines()
-    return [tuple(map(int, line.split()[1:])) for line in lines]
+    done = subprocess.run([PROGRAMS.oracle, 'steps'], input=file.bytes(), capture_output=True, check=True)
+    return [tuple(map(int, line.split()[1:])) for line in done.stdout.decode().splitlines()]
 
 
 class Damage(unittest.TestCase):

@@ -15,10 +15,12 @@ PROOFS = [
     (GOOD + '(step t (cl (= (forall ((x T', '2: the text ends where a ) is expected, for the ( of line 2'),
     (GOOD + '\n)', '3: a ) without its ('), (GOOD + '(step t (cl "abc', '2: a string has no end'),
     (GOOD + '(step t (cl |abc', '2: a quoted symbol has no end'),
-    ('sat\n', '1: a proof is expected, and the solver answered sat'), ('unknown', '1: a proof is expected, and the solver answered unknown'),
+    ('\nsat\n', '2: a proof is expected, and the solver answered sat'),
+    ('unsat\n(%s\njunk)' % GOOD, '4: assume, step or anchor is expected, and there is junk'),
+    ('unknown', '1: a proof is expected, and the solver answered unknown'),
     ('(error "cannot get proof")', '1: assume, step or anchor is expected, and the solver wrote (error "cannot get proof")'),
     (GOOD + '(lemma x)', '2: assume, step or anchor is expected, and there is (lemma x)'),
-    (GOOD + 'junk', '1: assume, step or anchor is expected, and there is junk'),
+    (GOOD + 'junk', '2: assume, step or anchor is expected, and there is junk'),
     (GOOD + '()', '2: assume, step or anchor is expected, and there is ()'),
     ('(step)', '1: (step NAME (cl ..) :rule NAME ..) is expected, and there is (step)'),
     ('(step s (cl c))', '1: :rule NAME is expected in (step s (cl c))'),
@@ -35,9 +37,10 @@ PROBLEMS = [
     ('(declare-const a Int)\n(declare-const a Real)', '2: declare-const: a is declared before, in another way'),
     ('(declare-sort T 0)\n(declare-sort T 1)', '2: declare-sort: T is declared before, in another way'),
     ('(declare-sort T x)', '1: expected (declare-sort NAME NUMERAL), and there is (declare-sort T x)'),
-    ('(declare-sort L 1)(declare-const a (L Int Int))', '1: declare-const: the sort L has 1 parameters, and there are 2'),
+    ('(declare-sort L 1)(declare-const a (L Int Int))', '1: declare-const: parameters of the sort L: 1 are expected, and there are 2'),
     ('(define-sort A () (Array A A))(declare-const a A)', '1: declare-const: the sort A stands in its own definition'),
-    ('(define-fun f ((x)) Bool true)', '1: expected (define-fun NAME ((NAME SORT) ..) SORT TERM), and there is (define-fun f ((x)) Bool true)'),
+    ('(define-fun f ((x)) Bool c)',
+     '1: expected (define-fun NAME ((NAME SORT) ..) SORT TERM), and there is (define-fun f ((x)) Bool c)'),
     ('(declare-datatypes ((L 0)) ())', '1: expected (declare-datatypes ((NAME NUMERAL) ..) (((NAME (NAME SORT) ..) ..) ..)), '
      'and there is (declare-datatypes ((L 0)) ())'),
     ('hello', '1: an SMT-LIB command is expected, and there is hello')]
@@ -57,15 +60,18 @@ STEPS = [
     ('(cl (and (! (p a) :named n) (! (not n) :named n)))', 2, 'not written: n stands in its own term'),
     ('(cl (and (! (p a) :named n) (! (r a a) :named n) n))', 2, 'not written: n names two terms'),
     ('(cl (circle a))', 2, 'not written: circle stands in its own definition'),
-    ('(cl (p a a))', 2, 'not written: p has 1 arguments, and there are 2'), ('(cl (swapped))', 2, 'not written: swapped has 1 arguments, and there are 0'),
-    ('(cl (a a))', 2, 'not written: a has 0 arguments, and there are 1'), ('(cl ((p a) a))', 2, 'not written: a term that is no function is applied'),
+    ('(cl (p a a))', 2, 'not written: arguments of p: 1 are expected, and there are 2'),
+    ('(cl (swapped))', 2, 'not written: arguments of swapped: 1 are expected, and there are 0'),
+    ('(cl (a a))', 2, 'not written: arguments of a: 0 are expected, and there are 1'),
+    ('(cl ((p a) a))', 2, 'not written: a term that is no function is applied'),
     ('(cl ())', 2, 'not written: a term is expected, and there is ()'), ('(cl (forall c))', 2,
      'not written: (forall ((NAME ..) ..) TERM) is expected, and there is (forall c)'),
+    ('(cl (let ((y)) c))', 2, 'not written: a name with its sort or value is expected, and there is (y)'),
     ('(cl (forall ((x)) c))', 2, 'not written: a name with its sort or value is expected, and there is (x)'),
     ('(cl (choice () c))', 2, 'not written: a choice of nothing'), ('(cl (match a ((a c))))', 2, 'not written: match is not read'),
     ('(cl (forall ((x T)) ((_ map x) a)))', 2, 'not written: (_ map x) is not read'),
     ('(cl (as a Int))', 2, 'not written: (as a Int) has another sort'),
-    ('(cl (= (forall ((x T)) (and %s)) c))' % ' '.join('(p x)' for _ in range(8192)), 2, 'not written: its terms take over 8192 cells')]
+    ('(cl (= (forall ((x T)) (and%s)) c))' % (8192 * ' (p x)'), 2, 'not written: its terms take over 8192 cells')]
 DEFINED = '(define-fun swapped ((y T)) Bool (exists ((x T)) (r x y)))\n(define-fun circle ((y T)) Bool (circle y))\n'
 
 
@@ -79,6 +85,7 @@ class Unreadable(unittest.TestCase):
             self.assertEqual(outcome_of_texts(problem, GOOD), (3, [], 'P.smt2:' + trouble))
 
     def test_files(self):
+        self.assertEqual(outcome_of_texts(PROBLEM, ('\ufeff' + GOOD).replace('\n', '\r\n'))[0], 0)
         self.assertEqual(outcome_of('none.smt2', 'none.alethe'), (3, [], 'none.smt2: No such file or directory'))
         self.assertEqual(outcome_of_texts(PROBLEM, b'(step \xff)'), (3, [], 'P.alethe: UTF-8 text is expected, and byte 6 is none'))
 
@@ -123,15 +130,15 @@ class Steps(unittest.TestCase):
         code, lines, _ = outcome_of_texts(PROBLEM, both % ('c', 'hole'))
         self.assertEqual((code, lines), (0, [
             'P.alethe: 1 steps, 0 of the rules: 0 accepted (0 by links), 0 refused, 0 not checked, 0 not written; holes: 1 '
-            '(run cvc5 with --proof-granularity=dsl-rewrite for fewer holes)']))
+            '(cvc5 --proof-granularity=dsl-rewrite may write steps of the rules for them)']))
 
     def test_links(self):
         """Which right lists links show, of a join of x y, x and z."""
         join = '(step s (cl (= (forall ((x T) (y T)) (forall ((x T)) (forall ((z T)) c))) (forall (%s) c))) :rule qnt_join)'
         for right, verdict in [
                 ('x y x z', 'accepted by 2 links'), ('x y z', 'accepted by 3 links'), ('y x z', 'accepted by 3 links'),
-                ('x x y z', 'refused 7'), ('x y x', 'refused 7'), ('y x z y', 'refused 7'), ('x z', 'refused 7'), ('x y x z z', 'refused 7'),
-                ('x y x z u', 'refused 7')]:
+                ('x x y z', 'refused 7'), ('x y x', 'refused 7'), ('y x z y', 'refused 7'), ('x z', 'refused 7'),
+                ('x y x z z', 'refused 7'), ('x y x z u', 'refused 7')]:
             proof = join % ' '.join('(%s T)' % name for name in right.split())
             line = outcome_of_texts(PROBLEM, proof)[1][0]
             self.assertTrue(line.split(': ', 2)[2].startswith(verdict), line)
@@ -149,11 +156,12 @@ class Steps(unittest.TestCase):
 
     def test_anchors_end(self):
         step = '(step %s (cl (= (forall ((x T)) (p %s)) (p %s))) :rule qnt_rm_unused)'
-        proof = '(anchor :step t :args ((v T) (w U)))' + step % ('t.1', 'v', 'v') + step % ('t.2', 'w', 'w') + step % ('t', 'a', 'a') + step % (
-            'u', 'v', 'v')
+        proof = '(anchor :step t :args ((v T) (w U)))' + ''.join(
+            step % (name, term, term) for name, term in (('t.1', 'v'), ('t.2', 'w'), ('t', 'a'), ('u', 'v')))
+        proof += '(anchor :step e :args ((v U)))(step n (cl (exists ((v T)) (p (! v :named nv)))) :rule refl)' + step % ('x', 'nv', 'nv')
         self.assertEqual([line.split(': ', 1)[1] for line in outcome_of_texts(PROBLEM, proof)[1][:-1]], [
             't.1 qnt_rm_unused: accepted', 't.2 qnt_rm_unused: not written: the sort U is not declared', 't qnt_rm_unused: accepted',
-            'u qnt_rm_unused: not written: v is not declared'])
+            'u qnt_rm_unused: not written: v is not declared', 'x qnt_rm_unused: not written: the variable v in the term of nv is captured'])
 
     def test_quiet_and_arguments(self):
         proof = GOOD + '(step f (cl (or (not (forall ((x T)) (p x))) (p a))) :rule forall_inst :args (%s))'

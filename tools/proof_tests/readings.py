@@ -1,6 +1,6 @@
 """Truth of a formula in small random readings, straight from its text: an independent look at what is accepted.
 
-    false_reading(formula, seeds, definitions)     a seed whose reading makes it false, or None; None too where it has too many variables
+    false_reading(formula, seeds, definitions)     a seed whose reading makes it false, or None; None too for too many variables
 
 A sort has one value or two. Functions, operators that are no connectives, and free names get values at random, once for each tuple
 of argument values. `definitions` gives the parameters and the body of a name; they mean what they mean outside every binder.

@@ -18,18 +18,21 @@ PROBLEM = '''
 (define-fun both ((x T) (y T)) Bool (and (p x) (p y))) (define-fun twice ((x T)) Bool (both x x)) (define-const pa Bool (p a))
 (define-fun-rec loop ((x T)) T (loop x))
 '''
+WHOLE_STEP = '(step s (cl (= (forall ((x T)) %s\n) (p a))) :rule qnt_rm_unused)\n'
 # the body of a quantifier over x, as written and expanded
 BODIES = [
     ('(both x a)', '(and (p x) (p a))'), ('(twice x)', '(and (p x) (p x))'), ('(or pa (p x))', '(or (p a) (p x))'),
     ('(let ((y x) (z (p a))) (let ((y (p y)) (w z)) (and y z w)))', '(and (p x) (p a) (p a))'),
-    ('(let ((y a)) (let ((y x) (z (p y))) (and (p y) z)))', '(and (p x) (p a))'), ('(p (! x :named n1))', '(p x)'), ('(! (p x) :pattern ((p x)) :named n2)', '(p x)'),
+    ('(let ((y a)) (let ((y x) (z (p y))) (and (p y) z)))', '(and (p x) (p a))'), ('(p (! x :named n1))', '(p x)'),
+    ('(! (p x) :pattern ((p x)) :named n2)', '(p x)'),
     ('(forall ((y (|a sort| T))) (|q 1| y 7))', '(forall ((y (|a sort| T))) (|q 1| y 7))'),
     ('(exists ((|y| T) (|y 2| T)) (= |x| y |y 2|))', '(exists ((y T) (|y 2| T)) (= x y |y 2|))'),
     ('(big 4294967296 2.50)', '(big 4294967296 2.5)'), ('(big 4294967295 (- 3/2))', '(big 4294967295 (- 3/2))'),
     ('(select (select m x) (choice ((y T)) (p y)))', '(select (select m x) (choice ((y T)) (p y)))'),
     ('(is_one #x1)', '(is_one #x1:4)'), ('(= #b0001 (_ bv1 4))', '(= #x1:4 #x1:4)'),
     ('(= ((_ extract 1 0) #b0001) ((_ extract 1 0) #x1))', '(= ((_ extract 1 0) #x1:4) ((_ extract 1 0) #x1:4))'),
-    ('((_ is cons) (cons x nil))', '((_ is cons) (cons x nil))'), ('(p (head (tail (cons x nil))))', '(p (head (tail (cons x nil))))'),
+    ('((_ is cons) (cons x nil))', '((_ is cons) (cons x nil))'),
+    ('(p (head (tail (cons x nil))))', '(p (head (tail (cons x nil))))'),
     ('(no.such.op x "a ""string"" |" (as seq.empty (Seq T)))', '(no.such.op x "a ""string"" |" (as seq.empty (Seq T)))'),
     ('(p (loop x)) ; a comment (with brackets', '(p (loop x))'), ('(and true (distinct x a) (xor (p x) false))',) * 2]
 
@@ -106,10 +109,8 @@ class RoundTrip(unittest.TestCase):
 
     def test_every_kind_of_term(self):
         for body, expanded in BODIES:
-            conclusion = '(= (forall ((x T)) %s\n) %s)'
-            proof = '(step s (cl %s) :rule qnt_rm_unused)' % (conclusion % (body, '(p a)'))
-            (_, text), = texts_of(*read_cases(PROBLEM, proof))
-            self.assertEqual(text, (conclusion % (expanded, '(p a)')).replace('\n', ''))
+            (_, text), = texts_of(*read_cases(PROBLEM, WHOLE_STEP % body))
+            self.assertEqual(text, '(= (forall ((x T)) %s) (p a))' % expanded)
 
     def test_anchors(self):
         proof = """(anchor :step e :args ((x T) (:= (y T) x) (:= z a)))

@@ -16,8 +16,9 @@ from texts.term_text import Style
 STEPS = 2000
 SEEDS = range(8)
 NAMES = 'x', 'y', 'z'
-PROBLEM = '''(declare-sort T 0) (declare-const x T) (declare-const y T) (declare-const c Bool) (declare-fun p (T) Bool) (declare-fun r (T T) Bool)
-(define-fun f ((z T)) Bool (exists ((x T)) (r x z))) (define-fun g ((x T) (z T)) Bool (and (p x) (r y z))) (define-const d Bool (p x))
+PROBLEM = '''(declare-sort T 0) (declare-const x T) (declare-const y T) (declare-const c Bool) (declare-fun p (T) Bool)
+(declare-fun r (T T) Bool) (define-fun f ((z T)) Bool (exists ((x T)) (r x z)))
+(define-fun g ((x T) (z T)) Bool (and (p x) (r y z))) (define-const d Bool (p x))
 (define-fun h ((y T)) Bool (let ((x y)) (g x y)))
 '''
 DEFINITIONS = {form[1]: ([pair[0] for pair in form[2]] if form[0] == 'define-fun' else [], form[-1])
@@ -60,7 +61,8 @@ class RandomSteps:
         if self.rng.random() < 0.5:
             return '(%s)' % ' '.join([*body[:1], *(part if isinstance(part, str) else self.again(part) for part in body[1:])])
         name, value = self.rng.choice(NAMES + ('w',)), self.rng.choice(['x', 'y', self.text(body)])
-        return '(let ((%s %s)) %s)' % (name, value, self.text(body).replace(' %s)' % value, ' %s)' % name) if value in NAMES else name)
+        inner = self.text(body).replace(' %s)' % value, ' %s)' % name) if value in NAMES else name
+        return '(let ((%s %s)) %s)' % (name, value, inner)
 
     def step(self, number):
         outer, inner = self.pairs(), self.pairs()
@@ -89,5 +91,6 @@ class Scopes(unittest.TestCase):
         for case in cases:
             if case.verdict.kind == ACCEPTED:
                 self.assertIsNone(false_reading(case.step.clause[1], SEEDS, MEANINGS), case.step)
-        false = sum(false_reading(case.step.clause[1], SEEDS, MEANINGS) is not None for case in cases if case.verdict.kind == UNWRITTEN)
+        unwritten = [case.step.clause[1] for case in cases if case.verdict.kind == UNWRITTEN]
+        false = sum(false_reading(formula, SEEDS, MEANINGS) is not None for formula in unwritten)
         self.assertGreater(min(count[ACCEPTED], count[UNWRITTEN], false), 40)

@@ -1,6 +1,7 @@
 """The answer to a step in words, with the term or name that it carries written out.
 
-    StepText(pool, rule, t, style)    `pool` is a Checked one (reference_rules.py); its headers are well formed; style as in term_text.py
+    StepText(pool, rule, t)           `pool` is a Checked one (reference_rules.py); its headers are well formed
+    StepText(pool, rule, t, style)    with other names, or without places (term_text.py)
         .conclusion()                 lines
         .answer(code, first, second)  lines
     pool_answer(tags, values, code, place)      the words for 14, 15 and 16
