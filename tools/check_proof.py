@@ -135,8 +135,14 @@ class Check:
         return 1 if REFUSED in kinds else 2 if kinds - {ACCEPTED} else 0
 
 
+class Parser(argparse.ArgumentParser):
+    def error(self, message):
+        """Not with argparse's 2, which has a meaning here."""
+        self.exit(3, '%s%s\n' % (self.format_usage(), message))
+
+
 def arguments():
-    parser = argparse.ArgumentParser(description='Checks the quantifier steps of an Alethe proof.')
+    parser = Parser(description='Checks the quantifier steps of an Alethe proof.')
     parser.add_argument('problem', help='the SMT-LIB problem')
     parser.add_argument('proof', help='its Alethe proof')
     parser.add_argument('--steps', default=str(PROJECT / 'target' / 'bin' / 'steps'), help='the program `steps`')

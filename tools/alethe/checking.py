@@ -14,7 +14,7 @@ from functools import lru_cache
 
 from alethe.shapes import CODES, INSTANCE, RULE, links, rule_of_shape
 from alethe.sorts import TermError
-from alethe.step_files import alone, fits, packed, reached
+from alethe.step_files import alone, packed, reached, size
 from read_steps import numbers
 from references.reference import LIMIT
 from references.reference_clauses import normal_form, taken_variables
@@ -73,10 +73,11 @@ def find_chain(pool, case, literals):
 
 # ---- step files
 def pack(pool, cases):
-    """The files of all cases. A join that does not fit into one is not taken apart: its links would be as large."""
+    """The files of all cases. The first link of a join holds the left side and the last one the right: both are within the limit
+    only where the join is within twice the limit."""
     wanted = []
     for case in cases:
-        if case.chain and fits(pool, case.chain[0][1]):
+        if case.chain and size(pool, reached(pool, case.chain[0][1])) <= 2 * LIMIT:
             case.chain = links(pool, *case.chain[0])
         wanted += [(case, rule, place) for rule, place in case.chain]
     files, spots = packed(pool, [(rule, place) for _, rule, place in wanted])

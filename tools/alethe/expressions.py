@@ -127,4 +127,7 @@ def written(expression):
 
 
 def one_line(text):
-    return text.replace('\\', '\\\\').replace('\n', '\\n').replace('\r', '\\r').replace('\t', '\\t')
+    """Line ends, tabs and what else a terminal would not print are escaped."""
+    if text.isprintable() and '\\' not in text:
+        return text
+    return ''.join(c if c.isprintable() and c != '\\' else c.encode('unicode_escape').decode() for c in text)

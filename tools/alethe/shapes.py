@@ -43,14 +43,12 @@ def rule_of_shape(pool, place):
     left, right = sides(pool, place)
     if left is None:
         return None
-    if pool.tags[right] == pool.tags[left.body]:
-        code = MINISCOPE.get((left.tag, pool.tags[right]))
-        if code:
-            return code
     after = quantifier(pool, right)
     if right == left.body or after and after.tag == left.tag and after.body == left.body:
-        return 2
-    return 1 if after and len(levels(pool, left, after.body)) > 1 else None
+        return CODES['qnt_rm_unused']
+    if after and len(levels(pool, left, after.body)) > 1:
+        return CODES['qnt_join']
+    return MINISCOPE.get((left.tag, pool.tags[right])) if pool.tags[right] == pool.tags[left.body] else None
 
 
 def levels(pool, outer, body):

@@ -2,7 +2,7 @@
 
     files, spots = packed(pool, [(rule, place), ..])      a spot is the file's index and the step's number in it, from 1
     file.tags, file.values, file.steps, file.bytes()
-    fits(pool, place)                                     whether a term and its parts take at most 8,192 cells
+    size(pool, reached(pool, place))                      the cells of a term and its parts
 
 Rule 3 builds terms after the count. A file leaves as much room as the largest of its steps takes alone; a step that does not have
 it alone stands alone. So a step is answered as in a file of its own.
@@ -69,10 +69,6 @@ def room_for(pool, parts, place):
 
 def size(pool, parts):
     return sum(1 + pool.values[p] for p in parts)
-
-
-def fits(pool, place):
-    return size(pool, reached(pool, place)) <= LIMIT
 
 
 def packed(pool, steps):

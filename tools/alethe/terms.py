@@ -172,6 +172,8 @@ class Terms:
         values = {}
         for pair in expression[1]:
             name = self.bound_name(pair)
+            if name in values:
+                raise TermError('a let binds %s twice' % written(name))
             values[name] = Value((yield self.term(pair[1], scope)), scope)
         return scope.with_values(values)
 

@@ -121,11 +121,16 @@ class Command(unittest.TestCase):
             done = self.run_with(folder, proof='(')
             self.assertEqual((done.returncode, done.stdout, len(done.stderr.splitlines())), (3, '', 1))
 
+    def test_wrong_use(self):
+        done = subprocess.run([sys.executable, str(TOOLS / 'check_proof.py'), 'P.smt2'], capture_output=True, text=True)
+        self.assertEqual((done.returncode, done.stdout, done.stderr.split()[0]), (3, '', 'usage:'))
+
     def test_names_that_the_terminal_lacks(self):
         with tempfile.TemporaryDirectory() as folder:
-            done = self.run_with(folder, problem='(declare-const |é\n| Bool)', proof='(step |é\n| (cl |é\n|) :rule qnt_join)',
+            done = self.run_with(folder, problem='(declare-const |é\n| Bool)', proof='(step |é\n| (cl |\x1b[2J|) :rule qnt_join)',
                                  env={'PYTHONIOENCODING': 'ascii'})
-        self.assertEqual((done.returncode, len(done.stdout.splitlines()), done.stderr), (1, 2, ''))
+        self.assertEqual((done.returncode, done.stdout.splitlines()[0].split(':', 2)[2], done.stderr), (
+            2, r' |\xe9\n| qnt_join: not written: |\x1b[2J| is not declared', ''))
 
     def test_keep(self):
         proof = ('(step j (cl (= (forall ((x T)) (forall ((|y 1| T)) (forall ((x T)) (r x |y 1|)))) (forall ((x T) (|y 1| T)) c))) '

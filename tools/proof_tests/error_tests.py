@@ -66,6 +66,7 @@ STEPS = [
     ('(cl ((p a) a))', 2, 'not written: a term that is no function is applied'),
     ('(cl ())', 2, 'not written: a term is expected, and there is ()'), ('(cl (forall c))', 2,
      'not written: (forall ((NAME ..) ..) TERM) is expected, and there is (forall c)'),
+    ('(cl (let ((y c) (y c)) y))', 2, 'not written: a let binds y twice'),
     ('(cl (let ((y)) c))', 2, 'not written: a name with its sort or value is expected, and there is (y)'),
     ('(cl (forall ((x)) c))', 2, 'not written: a name with its sort or value is expected, and there is (x)'),
     ('(cl (choice () c))', 2, 'not written: a choice of nothing'), ('(cl (match a ((a c))))', 2, 'not written: match is not read'),
@@ -118,7 +119,9 @@ class Steps(unittest.TestCase):
         """The unnamed rule of cvc5 is found by its shape; a hole is so only where that is asked for."""
         both = '(step s (cl (= (forall ((x T)) (and (p x) %s)) (and (forall ((x T)) (p x)) (forall ((x T)) c)))) :rule %s)'
         other = '(step s (cl (= (p a) c)) :rule %s)'
+        unused = '(step s (cl (= (forall ((x T)) (and c c)) (and c c))) :rule ?)'
         for proof, options, code, verdict in [
+                (unused, {}, 0, 'accepted as qnt_rm_unused'),
                 (both % ('c', '?'), {}, 0, 'accepted as miniscope_distribute'),
                 (both % ('(p a)', '?'), {}, 1, 'refused 5 terms differ: (p a) and c (as miniscope_distribute)'),
                 (other % '?', {}, 2, 'not checked: its conclusion has the shape of none of the rules'),
@@ -158,10 +161,12 @@ class Steps(unittest.TestCase):
         step = '(step %s (cl (= (forall ((x T)) (p %s)) (p %s))) :rule qnt_rm_unused)'
         proof = '(anchor :step t :args ((v T) (w U)))' + ''.join(
             step % (name, term, term) for name, term in (('t.1', 'v'), ('t.2', 'w'), ('t', 'a'), ('u', 'v')))
-        proof += '(anchor :step e :args ((v U)))(step n (cl (exists ((v T)) (p (! v :named nv)))) :rule refl)' + step % ('x', 'nv', 'nv')
+        proof += '(anchor :step e :args ((v U)))(step n (cl (exists ((v T)) (p (! v :named nv)))) :rule refl)'
+        proof += step % ('x', 'nv', 'nv')
         self.assertEqual([line.split(': ', 1)[1] for line in outcome_of_texts(PROBLEM, proof)[1][:-1]], [
             't.1 qnt_rm_unused: accepted', 't.2 qnt_rm_unused: not written: the sort U is not declared', 't qnt_rm_unused: accepted',
-            'u qnt_rm_unused: not written: v is not declared', 'x qnt_rm_unused: not written: the variable v in the term of nv is captured'])
+            'u qnt_rm_unused: not written: v is not declared',
+            'x qnt_rm_unused: not written: the variable v in the term of nv is captured'])
 
     def test_quiet_and_arguments(self):
         proof = GOOD + '(step f (cl (or (not (forall ((x T)) (p x))) (p a))) :rule forall_inst :args (%s))'

@@ -8,7 +8,6 @@
     answers(file)                       the answers to a step file, (code, first, second) each
 """
 import argparse
-import contextlib
 import os
 import pathlib
 import tempfile
@@ -32,9 +31,11 @@ def corpus():
 
 
 def outcome_of(problem, proof, **options):
-    with contextlib.chdir(REAL):
-        return outcome(argparse.Namespace(**{
-            'problem': problem, 'proof': proof, 'steps': PROGRAMS.steps, 'keep': None, 'quiet': False, 'holes': False, **options}))
+    """Paths are below REAL, or anywhere if they are absolute; REAL is left out of what is printed."""
+    code, lines, trouble = outcome(argparse.Namespace(**{
+        'problem': str(REAL / problem), 'proof': str(REAL / proof), 'steps': PROGRAMS.steps, 'keep': None, 'quiet': False,
+        'holes': False, **options}))
+    return code, [line.replace(str(REAL) + os.sep, '') for line in lines], trouble.replace(str(REAL) + os.sep, '')
 
 
 def outcome_of_texts(problem, proof, **options):
