@@ -34,7 +34,8 @@ def read_text(path):
     try:
         return pathlib.Path(path).read_bytes().decode('utf-8-sig')
     except UnicodeDecodeError as error:
-        raise BadInput('%s: UTF-8 text is expected, and byte %d is none' % (path, error.start)) from None
+        line = error.object.count(b'\n', 0, error.start) + 1
+        raise BadInput('%s:%d: UTF-8 text is expected, and a byte is none' % (path, line)) from None
     except (OSError, ValueError) as error:
         raise BadInput('%s: %s' % (path, getattr(error, 'strerror', None) or error)) from None
 

@@ -88,7 +88,7 @@ class Unreadable(unittest.TestCase):
     def test_files(self):
         self.assertEqual(outcome_of_texts(PROBLEM, ('\ufeff' + GOOD).replace('\n', '\r\n'))[0], 0)
         self.assertEqual(outcome_of('none.smt2', 'none.alethe'), (3, [], 'none.smt2: No such file or directory'))
-        self.assertEqual(outcome_of_texts(PROBLEM, b'(step \xff)'), (3, [], 'P.alethe: UTF-8 text is expected, and byte 6 is none'))
+        self.assertEqual(outcome_of_texts(PROBLEM, b'\n(step \xff)'), (3, [], 'P.alethe:2: UTF-8 text is expected, and a byte is none'))
 
     def test_programs(self):
         code, lines, trouble = outcome_of_texts(PROBLEM, GOOD, steps='/no/such/program')

@@ -3,6 +3,9 @@
     NUMBERED            v1 a name, s5 an Atom, ?5 a Var, real5, string5, reglan5 and (_ bits5 8) constants by their serials
     Table(text)         the names of a proof, from the table that check_proof.py --keep writes; what it lacks is as above
 """
+import re
+
+MOST_BITS = 64  # of a bit vector that is written in full
 
 
 class Numbered:
@@ -37,4 +40,10 @@ class Table(Numbered):
         return self.texts.get(serial) or super().constant(kind, serial)
 
     def bits(self, serial, width):
-        return '%s:%d' % (self.texts[serial], width) if serial in self.texts else super().bits(serial, width)
+        """The table has the value, #x5; one of many bits keeps its width apart, #x5:128."""
+        if not re.fullmatch('#x[0-9a-f]+', self.texts.get(serial, '')):  # not there, or the table of another file
+            return super().bits(serial, width)
+        digits = self.texts[serial][2:]
+        if width > MOST_BITS:
+            return '#x%s:%d' % (digits, width)
+        return '#x' + digits.zfill(width // 4) if width % 4 == 0 else '#b' + format(int(digits, 16), 'b').zfill(width)
