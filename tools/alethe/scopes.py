@@ -7,8 +7,6 @@
 """
 from collections import namedtuple
 
-STRIDE = 64
-
 
 class Variable:
     """A bound variable; two of one name and sort under two binders are two."""
@@ -22,12 +20,15 @@ Broken = namedtuple('Broken', 'why sort', defaults=(None,))  # a name that an an
 
 
 class Chain:
-    """A mapping that grows without a copy. Every so many links one has all names, so that a search is short."""
+    """A mapping that grows without a copy. Now and then a link has all names, so that a search is short: after 64 links, and after
+    the more the more names there are, so that such links stay few."""
 
     def __init__(self, names, outer=None):
-        self.names, self.outer, self.length = names, outer, 0 if outer is None else outer.length + 1
-        if self.length == STRIDE:
+        self.names, self.outer = names, outer
+        self.length, self.base = (0, len(names)) if outer is None else (outer.length + 1, outer.base)
+        if self.length ** 2 > 4096 + 32 * self.base:
             self.names, self.outer, self.length = self.all(), None, 0
+            self.base = len(self.names)
 
     def all(self):
         links, found = [self], {}

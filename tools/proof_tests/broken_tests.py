@@ -90,6 +90,10 @@ class Extreme(unittest.TestCase):
         proof = '(assume a (! c :named @p_0))' + names + '(step s (cl (= (forall ((x T)) @p_1500) @p_1500)) :rule qnt_rm_unused)'
         self.assertEqual(outcome_of_texts(PROBLEM, proof)[:1], (0,))
 
+    def test_many_names_in_scope(self):
+        lets = ''.join('(let ((y%d y%d)) ' % (k + 1, k) for k in range(DEEP)) + '(= (forall ((x T)) y%d) y0)' % DEEP + DEEP * ')'
+        self.assertEqual(self.verdict('(let ((y0 c)) %s)' % lets), 'accepted')
+
     def test_thousands_of_steps(self):
         code, lines, _ = outcome_of_texts(PROBLEM, '(\n%s)' % (GOOD * 5000))
         self.assertEqual((code, lines[4999], lines[5000].split(': ', 1)[1]), (
