@@ -160,8 +160,9 @@ class Terms:
         body = yield self.term(expression[2], inner)
         if expression[0] == 'let':
             return body
-        pairs = [(self.names.number('variable', name), inner_sort) for name, inner_sort in (yield self.pairs(expression))]
-        return self.computed(BINDER_TAG[expression[0]], body, *(cell for pair in pairs for cell in pair))
+        pairs = yield self.pairs(expression)
+        cells = [cell for name, sort in pairs for cell in (self.names.number('variable', name), sort)]
+        return self.computed(BINDER_TAG[expression[0]], body, *cells)
 
     def inside(self, expression, scope):
         """The scope of the body of a binder or let."""
@@ -239,7 +240,7 @@ class Terms:
     def check_closed(self, head, scope):
         """No part of what stands for itself may be a variable."""
         for part in head[:2] if head[0] == 'as' else head:
-            if not isinstance(part, str) or scope.meaning(part):
+            if not isinstance(part, str) or scope.meaning(part) or part in self.named:
                 raise TermError('%s is not read' % written(head))
 
     def constant(self, head, scope):
@@ -265,6 +266,7 @@ class Terms:
             raise TermError('(as NAME SORT) is expected, and there is %s' % written(expression))
         sort = yield self.declarations.sorts.sort(expression[2], {})
         if not isinstance(expression[1], str) or not self.means(expression[1], scope):
+            self.check_closed(expression, scope)
             return self.pool.var(self.names.number('operator', whole(expression)), sort)
         place = yield self.term(expression[1], scope)
         if self.pool.sort_of(place) != sort:

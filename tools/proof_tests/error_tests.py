@@ -71,6 +71,10 @@ STEPS = [
     ('(cl (forall ((x)) c))', 2, 'not written: a name with its sort or value is expected, and there is (x)'),
     ('(cl (choice () c))', 2, 'not written: a choice of nothing'), ('(cl (match a ((a c))))', 2, 'not written: match is not read'),
     ('(cl (forall ((x T)) ((_ map x) a)))', 2, 'not written: (_ map x) is not read'),
+    ('(cl (= (forall ((x T)) (p (as (g x) T))) (p a)))', 2, 'not written: (as (g x) T) is not read'),
+    ('(cl (= (forall ((x T)) (p ((as (g x) T) a))) (p a)))', 2, 'not written: (as (g x) T) is not read'),
+    ('(cl (and (forall ((x T)) (p (! x :named n))) ((_ map n) a)))', 2, 'not written: (_ map n) is not read'),
+    ('(cl (witness ((x T)) (p x)))', 2, 'not written: a term without arguments is applied: ((x T))'),
     ('(cl (as a Int))', 2, 'not written: (as a Int) has another sort'),
     ('(cl (= (forall ((x T)) (and%s)) c))' % (8192 * ' (p x)'), 2, 'not written: its terms take over 8192 cells')]
 DEFINED = '(define-fun swapped ((y T)) Bool (exists ((x T)) (r x y)))\n(define-fun circle ((y T)) Bool (circle y))\n'
