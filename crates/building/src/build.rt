@@ -16,11 +16,11 @@ pub enum Built {
 
 // Puts a description into the pool of n cells: where it stands already, nothing changes.
 pub(crate) fn put(
-    tags: &mut [u32],
+    tags: &mut [u8],
     values: &mut [u32],
     index: &mut [u32; INDEX],
     n: usize,
-    tag: u32,
+    tag: u8,
     cells: &[u32],
 ) -> Built
     requires { ⌜ State n n (now tags) (now values) ⌝ }

@@ -98,7 +98,7 @@ fn gather_pairs(run: &[u32], body: TermPlace, work: &mut [u32; WORK]) -> usize
 
 // Puts the connective of the term at t over its operands' forms, which the memo has.
 pub fn put_connective(
-    tags: &mut [u32],
+    tags: &mut [u8],
     values: &mut [u32],
     work: &mut [u32; WORK],
     index: &mut [u32; INDEX],
@@ -125,7 +125,7 @@ pub fn put_connective(
 
 // Puts the quantifier of the term at t over its body's form.
 pub fn put_quantifier(
-    tags: &mut [u32],
+    tags: &mut [u8],
     values: &mut [u32],
     work: &mut [u32; WORK],
     index: &mut [u32; INDEX],
@@ -153,7 +153,7 @@ pub fn put_quantifier(
 
 // Puts a connective of two operands.
 pub fn put_pair(
-    tags: &mut [u32],
+    tags: &mut [u8],
     values: &mut [u32],
     index: &mut [u32; INDEX],
     n: usize,
@@ -172,7 +172,7 @@ pub fn put_pair(
 
 // An opaque term, negated at false polarity.
 pub fn literal(
-    tags: &mut [u32],
+    tags: &mut [u8],
     values: &mut [u32],
     index: &mut [u32; INDEX],
     n: usize,

@@ -1,4 +1,5 @@
--- The layout of a call file, over the list of its bytes: u32 little-endian words, of which the first eight say what follows.
+-- The layout of a call file, over the list of its bytes: u32 little-endian words. The word 102 may stand first: tags are lent as bytes (S-9).
+-- Then eight words say what follows.
 --     call, T, V, N, rule or place, polarity, X, Y; then T tags and V values, and in a call 0 the X places of the conclusion
 -- Rests on step_files' Words and on the struct `Head`.
 use Prim.Native.Nat.{ℕ, _+_, _*_, _≤_}
@@ -9,6 +10,11 @@ use lib.Dec.{leb, eqb}
 use Rattle.step_files.specs.Words.{wordAt}
 use Rattle.calls.specs.declared.call_files.Head.{Head}
 
+-- the file begins with the block that has tags lent as bytes
+unfoldable pub lentInBytes : List ℕ → Bool
+lentInBytes bytes = eqb (wordAt bytes 0) 102
+
+-- of the bytes after the block
 unfoldable pub headOf : List ℕ → Head
 headOf bytes =
     record {

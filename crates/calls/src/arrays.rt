@@ -24,10 +24,17 @@ pub fn sevens() -> [u8; 9000]
 }
 
 // One byte more than the longest call file has: a longer one has a wrong length too.
-pub fn file_bytes() -> [u8; 108033]
-    ensures { λ r. ⌜ 108033 ≡ length r ⌝ }
+pub fn file_bytes() -> [u8; 108037]
+    ensures { λ r. ⌜ 108037 ≡ length r ⌝ }
 {
-    [0; 108033]
+    [0; 108037]
+}
+
+// Tags in bytes.
+pub fn byte_cells() -> [u8; 9000]
+    ensures { λ r. ⌜ 9000 ≡ length r ⌝ }
+{
+    [0; 9000]
 }
 
 // Reads a pool into arrays of the file's lengths.

@@ -1,7 +1,7 @@
-// The layout of a call file: u32 little-endian words, of which the first eight are call, T, V, N, rule or place,
-// polarity, X and Y. T tags and V values follow, and in a call 0 the X places of the conclusion.
+// The layout of a call file: u32 little-endian words. The word 102 may stand first, the block that has tags lent as bytes. Then eight words are
+// call, T, V, N, rule or place, polarity, X and Y. T tags and V values follow, and in a call 0 the X places of the conclusion.
 ghost use mathlib.Core.Path.{_≡_};
-ghost use Rattle.calls.specs.Format.{headOf, conclusionCount, isWhole};
+ghost use Rattle.calls.specs.Format.{lentInBytes, headOf, conclusionCount, isWhole};
 use pool::run::wide;
 use step_files::words::word;
 
@@ -16,6 +16,16 @@ pub struct Head {
     pub polarity: u32,
     pub lent: usize,
     pub ends: usize,
+}
+
+// The block that has tags lent as bytes.
+const BYTE_TAGS: u32 = 102;
+
+// Whether the file begins with that block.
+pub fn lent_in_bytes(bytes: &[u8]) -> bool
+    ensures { λ r. ⌜ r ≡ lentInBytes (now (bytes .entry)) ⌝ }
+{
+    word(bytes, 0) == BYTE_TAGS
 }
 
 pub fn read_head(bytes: &[u8]) -> Head

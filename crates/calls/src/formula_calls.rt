@@ -6,35 +6,40 @@ use crate::arrays::cells;
 use crate::arrays::read_pool;
 use crate::arrays::seven_cells;
 use crate::call_files::Head;
+use crate::layouts;
+use crate::layouts::can_lend;
 use crate::report;
-use normal_form::call::clause_list;
-use normal_form::call::normal_form;
 use pool::TermPlace;
 
 // On arrays of the file's lengths.
-fn normal_in(bytes: &[u8], head: Head, tags: &mut [u32], values: &mut [u32])
+fn normal_in(bytes: &[u8], head: Head, in_bytes: bool, tags: &mut [u32], values: &mut [u32])
     requires { ⌜ length (now tags) ≤ 9000 ⌝ }
 {
     read_pool(bytes, tags, values);
+    if !can_lend(in_bytes, tags) {
+        report::bad_file();
+        return;
+    }
     let polarity = head.polarity != 0;
-    let answer = normal_form(tags, values, head.n, TermPlace(head.place), polarity);
+    let answer = layouts::normal_form(in_bytes, tags, values, head.n, TermPlace(head.place), polarity);
     report::pool_after(answer, 0, tags, values);
 }
 
-pub fn normal(bytes: &[u8], head: Head)
+pub fn normal(bytes: &[u8], head: Head, in_bytes: bool)
     requires { ⌜ Bounded head ⌝ }
 {
     let t = head.tags;
     let v = head.values;
     let mut tags = cells();
     let mut values = cells();
-    normal_in(bytes, head, &mut tags[..t], &mut values[..v]);
+    normal_in(bytes, head, in_bytes, &mut tags[..t], &mut values[..v]);
 }
 
 // On arrays of the file's lengths.
 fn clauses_in(
     bytes: &[u8],
     head: Head,
+    in_bytes: bool,
     tags: &mut [u32],
     values: &mut [u32],
     literals: &mut [u32],
@@ -43,13 +48,17 @@ fn clauses_in(
     requires { ⌜ length (now tags) ≤ 9000 ⌝ }
 {
     read_pool(bytes, tags, values);
-    let listed = clause_list(tags, values, head.n, TermPlace(head.place), literals, ends);
+    if !can_lend(in_bytes, tags) {
+        report::bad_file();
+        return;
+    }
+    let listed = layouts::clause_list(in_bytes, tags, values, head.n, TermPlace(head.place), literals, ends);
     report::pool_after(listed.answer, listed.count, tags, values);
     report::line(b"literals", literals);
     report::line(b"ends", ends);
 }
 
-pub fn clauses(bytes: &[u8], head: Head)
+pub fn clauses(bytes: &[u8], head: Head, in_bytes: bool)
     requires { ⌜ Bounded head ⌝ }
 {
     let t = head.tags;
@@ -71,6 +80,7 @@ pub fn clauses(bytes: &[u8], head: Head)
     clauses_in(
         bytes,
         head,
+        in_bytes,
         &mut tags[..t],
         &mut values[..v],
         &mut literals[..x],

@@ -4,6 +4,7 @@ mod arrays;
 mod call_files;
 mod collections;
 mod formula_calls;
+mod layouts;
 mod one_call;
 mod report;
 mod rule_call;

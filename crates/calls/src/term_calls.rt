@@ -6,39 +6,49 @@ use crate::arrays::cells;
 use crate::arrays::read_pool;
 use crate::arrays::sevens;
 use crate::call_files::Head;
+use crate::layouts;
+use crate::layouts::can_lend;
 use crate::report;
 use pool::TermPlace;
 
 // On arrays of the file's lengths.
-fn sort_in(bytes: &[u8], head: Head, tags: &mut [u32], values: &mut [u32])
+fn sort_in(bytes: &[u8], head: Head, in_bytes: bool, tags: &mut [u32], values: &mut [u32])
     requires { ⌜ length (now tags) ≤ 9000 ⌝ }
 {
     read_pool(bytes, tags, values);
-    let answer = pool::call::sort_of_term(tags, values, head.n, TermPlace(head.place));
+    if !can_lend(in_bytes, tags) {
+        report::bad_file();
+        return;
+    }
+    let answer = layouts::sort_of_term(in_bytes, tags, values, head.n, TermPlace(head.place));
     report::pool_after(answer, 0, tags, values);
 }
 
-pub fn sort(bytes: &[u8], head: Head)
+pub fn sort(bytes: &[u8], head: Head, in_bytes: bool)
     requires { ⌜ Bounded head ⌝ }
 {
     let t = head.tags;
     let v = head.values;
     let mut tags = cells();
     let mut values = cells();
-    sort_in(bytes, head, &mut tags[..t], &mut values[..v]);
+    sort_in(bytes, head, in_bytes, &mut tags[..t], &mut values[..v]);
 }
 
 // On arrays of the file's lengths.
-fn free_vars_in(bytes: &[u8], head: Head, tags: &mut [u32], values: &mut [u32], marks: &mut [u8])
+fn free_vars_in(bytes: &[u8], head: Head, in_bytes: bool, tags: &mut [u32], values: &mut [u32], marks: &mut [u8])
     requires { ⌜ length (now tags) ≤ 9000 ⌝ }
 {
     read_pool(bytes, tags, values);
-    let answer = pool::call::free_vars(tags, values, head.n, TermPlace(head.place), marks);
+    if !can_lend(in_bytes, tags) {
+        report::bad_file();
+        return;
+    }
+    let answer = layouts::free_vars(in_bytes, tags, values, head.n, TermPlace(head.place), marks);
     report::pool_after(answer, 0, tags, values);
     report::byte_line(b"marks", marks);
 }
 
-pub fn free_vars(bytes: &[u8], head: Head)
+pub fn free_vars(bytes: &[u8], head: Head, in_bytes: bool)
     requires { ⌜ Bounded head ⌝ }
 {
     let t = head.tags;
@@ -54,6 +64,7 @@ pub fn free_vars(bytes: &[u8], head: Head)
     free_vars_in(
         bytes,
         head,
+        in_bytes,
         &mut tags[..t],
         &mut values[..v],
         &mut marks[..x],

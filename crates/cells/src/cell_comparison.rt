@@ -1,6 +1,6 @@
 // Comparing runs of cells, and a header with a description.
-use crate::run::cell;
 use crate::run::cells;
+use crate::tags::tag_at;
 ghost use mathlib.Core.Path.{_≡_};
 ghost use Rattle.cells.specs.Cell.{sameCells, isAt};
 
@@ -22,10 +22,10 @@ pub fn same_cells(a: &[u32], b: &[u32]) -> bool
 }
 
 // Whether the header at p has this tag and these cells.
-pub fn is_at(tags: &[u32], values: &[u32], p: usize, tag: u32, cells_there: &[u32]) -> bool
+pub fn is_at(tags: &[u8], values: &[u32], p: usize, tag: u8, cells_there: &[u32]) -> bool
     ensures { λ r. ⌜ r ≡ isAt (now (tags .entry)) (now (values .entry)) p tag (now («cells_there» .entry)) ⌝ }
 {
-    if cell(tags, p) != tag {
+    if tag_at(tags, p) != tag {
         return false;
     }
     same_cells(cells(values, p), cells_there)

@@ -1,4 +1,4 @@
-// Cells of a shared term pool in document 01's packed form: two u32 arrays of one length, tag and value.
+// Cells of a shared term pool in document 01's packed form: two arrays of one length, tags in bytes and values in u32.
 pub mod cell_comparison;
 pub mod limits;
 pub mod marks;

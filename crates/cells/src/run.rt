@@ -2,6 +2,7 @@
 use crate::SortPlace;
 use crate::TermPlace;
 use crate::tags::APPLICATION;
+use crate::tags::tag_at;
 ghost use mathlib.Core.Path.{_≡_};
 ghost use lib.ListN.{getD};
 ghost use Rattle.cells.specs.Cell.{cellsOf, sortOf, operandsOf};
@@ -44,11 +45,11 @@ pub fn sort_of(values: &[u32], t: TermPlace) -> SortPlace
 }
 
 // The operand run of the term at t, as a part of the value array: the cells after its sort.
-pub fn operands<'a>(tags: &[u32], values: &'a [u32], t: TermPlace) -> &'a [u32]
+pub fn operands<'a>(tags: &[u8], values: &'a [u32], t: TermPlace) -> &'a [u32]
     ensures { λ r. ⌜ now r ≡ operandsOf (now (tags .entry)) (now (values .entry)) (t .0) ⌝ }
 {
     let at = t.0 as usize;
-    if cell(tags, at) < APPLICATION {
+    if tag_at(tags, at) < APPLICATION {
         return &values[0..0];
     }
     let run = cells(values, at);

@@ -9,7 +9,7 @@ use formulas::view::NormalView;
 use formulas::view::normal_view;
 use pool::Answer;
 use pool::TermPlace;
-use pool::description::cut_back;
+use pool::description::zero_from;
 use pool::limits::CELLS;
 use pool::limits::MAX_CLAUSES;
 use pool::limits::MAX_LITERALS;
@@ -18,6 +18,7 @@ ghost use mathlib.Core.Path.{_≡_};
 ghost use mathlib.Core.List.{[], _∷_};
 ghost use Prim.Native.Nat.{_≤_};
 ghost use lib.ListN.{length};
+ghost use Rattle.descriptions.specs.Description.{Cut};
 ghost use Rattle.formulas.specs.Clauses.{cnf, cnfAnd};
 ghost use Rattle.clauses.specs.ClauseWalk.{formAt};
 ghost use Rattle.clauses.specs.ClauseList.{runOf, AskMore, AskLists, Adds, Lent, Counted, countAnswer, listAnswer, ListAnswered, ListReady};
@@ -27,7 +28,7 @@ pub struct Filled(pub usize, pub usize);
 
 // Writes the clauses of the term at x, as many as total, one by one.
 fn write_clauses(
-    tags: &[u32],
+    tags: &[u8],
     values: &[u32],
     counts: &[u32],
     x: TermPlace,
@@ -55,7 +56,7 @@ fn write_clauses(
 // Writes the list of the term at x: the term walker. The lists of an `and` follow one another. A list of no clause is passed over:
 // shared terms are then met no more often than there are clauses.
 fn write_list(
-    tags: &[u32],
+    tags: &[u8],
     values: &[u32],
     counts: &[u32],
     x: TermPlace,
@@ -86,7 +87,7 @@ fn write_list(
 
 // Writes the lists of the run's places, which stand before x: the run walker.
 fn write_lists(
-    tags: &[u32],
+    tags: &[u8],
     values: &[u32],
     counts: &[u32],
     x: TermPlace,
@@ -107,7 +108,7 @@ fn write_lists(
 }
 
 // The totals of the clause list of the term at x. The counts are then right of the terms that it reaches.
-fn count_clauses(tags: &[u32], values: &[u32], counts: &mut [u32], x: TermPlace) -> Totals
+fn count_clauses(tags: &[u8], values: &[u32], counts: &mut [u32], x: TermPlace) -> Totals
     requires { ⌜ length (now tags) ≤ cellLimit ⌝ }
     requires { ⌜ length (now counts) ≡ cellLimit ⌝ }
     ensures { λ r. ⌜ Counted (now (tags .entry)) (now (values .entry)) (x .0) (now (counts .exit)) r ⌝ }
@@ -118,7 +119,7 @@ fn count_clauses(tags: &[u32], values: &[u32], counts: &mut [u32], x: TermPlace)
 
 // The answer 32, or the two totals with the list, in arrays of zeroes.
 fn list_counted(
-    tags: &[u32],
+    tags: &[u8],
     values: &[u32],
     x: TermPlace,
     literals: &mut [u32],
@@ -141,9 +142,17 @@ fn list_counted(
     Answer::accepted(clauses, size)
 }
 
+// Writes zeroes to both arrays.
+pub fn clear_list(literals: &mut [u32], ends: &mut [u32])
+    ensures { λ _. ⌜ Cut 0 (now (literals .entry)) (now (ends .entry)) (now (literals .exit)) (now (ends .exit)) ⌝ }
+{
+    zero_from(literals, 0);
+    zero_from(ends, 0);
+}
+
 // The clause list of the term at x: 13, 32, or its two totals, with the list in the arrays; refused, both arrays are zeroes.
 pub fn list_clauses(
-    tags: &[u32],
+    tags: &[u8],
     values: &[u32],
     x: TermPlace,
     literals: &mut [u32],
@@ -152,7 +161,7 @@ pub fn list_clauses(
     requires { ⌜ Lent (length (now tags)) (length (now literals)) (length (now ends)) ⌝ }
     ensures { λ r. ⌜ ListAnswered (listAnswer (formAt (now (tags .entry)) (now (values .entry)) (x .0))) (cnf (formAt (now (tags .entry)) (now (values .entry)) (x .0))) (length (now (literals .entry))) (length (now (ends .entry))) r (now (literals .exit)) (now (ends .exit)) ⌝ }
 {
-    cut_back(literals, ends, 0);
+    clear_list(literals, ends);
     if empty_or(tags, values, x) {
         return Answer::refused(13, 0, 0);
     }

@@ -75,7 +75,7 @@ fn put(out: &mut [u32], at: usize, place: TermPlace) -> usize
 
 // Writes the clause of number i of the term at x, from at on, and gives its end: the term walker.
 pub(crate) fn write_clause(
-    tags: &[u32],
+    tags: &[u8],
     values: &[u32],
     counts: &[u32],
     x: TermPlace,
@@ -104,7 +104,7 @@ pub(crate) fn write_clause(
 
 // Writes the clause of number i of an `or` of the run's places: the run walker.
 fn write_run(
-    tags: &[u32],
+    tags: &[u8],
     values: &[u32],
     counts: &[u32],
     x: TermPlace,

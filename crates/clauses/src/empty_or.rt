@@ -15,7 +15,7 @@ ghost use Rattle.formulas.specs.Built.{normalsOf};
 ghost use Rattle.clauses.specs.ClauseWalk.{formAt, NoneReached, Reached};
 
 // Whether an empty `or` is reached from the term at x: the term walker.
-fn from_term(tags: &[u32], values: &[u32], memo: &mut [u8], x: TermPlace) -> bool
+fn from_term(tags: &[u8], values: &[u32], memo: &mut [u8], x: TermPlace) -> bool
     requires { ⌜ NoneReached (now tags) (now values) (now memo) ⌝ }
     ensures { λ r. ⌜ Reached (now (tags .entry)) (now (values .entry)) (now (memo .exit)) r (emptyOr (formAt (now (tags .entry)) (now (values .entry)) (x .0))) ⌝ }
 {
@@ -38,7 +38,7 @@ fn from_term(tags: &[u32], values: &[u32], memo: &mut [u8], x: TermPlace) -> boo
 }
 
 // The same of the terms of a run, which stand before x: the run walker.
-fn from_run(tags: &[u32], values: &[u32], memo: &mut [u8], x: TermPlace, run: &[u32]) -> bool
+fn from_run(tags: &[u8], values: &[u32], memo: &mut [u8], x: TermPlace, run: &[u32]) -> bool
     requires { ⌜ NoneReached (now tags) (now values) (now memo) × (allBefore (x .0) (now run) ≡ true) ⌝ }
     ensures { λ r. ⌜ Reached (now (tags .entry)) (now (values .entry)) (now (memo .exit)) r (emptyOrs (normalsOf (formAt (now (tags .entry)) (now (values .entry))) (now (run .entry)))) ⌝ }
 {
@@ -52,7 +52,7 @@ fn from_run(tags: &[u32], values: &[u32], memo: &mut [u8], x: TermPlace, run: &[
 }
 
 // Whether an empty `or` is reached from the term at x, through `and` and `or`.
-pub fn empty_or(tags: &[u32], values: &[u32], x: TermPlace) -> bool
+pub fn empty_or(tags: &[u8], values: &[u32], x: TermPlace) -> bool
     ensures { λ r. ⌜ r ≡ emptyOr (formAt (now (tags .entry)) (now (values .entry)) (x .0)) ⌝ }
 {
     let mut memo = [0u8; CELLS];

@@ -130,7 +130,7 @@ fn run_totals(all: bool, counts: &[u32], sizes: &[u32], run: &[u32]) -> Totals
 
 // The totals of the clause list of the term at x, which is then counted: the term walker.
 pub fn list_totals(
-    tags: &[u32],
+    tags: &[u8],
     values: &[u32],
     counts: &mut [u32],
     sizes: &mut [u32],
@@ -158,7 +158,7 @@ pub fn list_totals(
 
 // Counts the terms of a run, which stand before x: the run walker.
 fn count_operands(
-    tags: &[u32],
+    tags: &[u8],
     values: &[u32],
     counts: &mut [u32],
     sizes: &mut [u32],

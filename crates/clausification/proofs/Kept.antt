@@ -2,6 +2,7 @@
 --     operands-kept, pairs-kept     its operands, and a quantifier's list
 --     clause-kept     whether it is a clause
 --     find-kept       where a description stands below n
+--     var-room        a variable's two cells stand below n too
 --     free-kept, binding-kept     whether a variable is free there
 -- Assumes nothing.
 use Prim.Native.Nat.{ℕ, zero, suc, _+_, _≤_, _<_, _%_}
@@ -89,7 +90,7 @@ module _ (n : ℕ) (tags values tags′ values′ : List ℕ) (s : Same n tags v
       rw (sort-kept u (omega arith), lets-kept name sort t (suc (suc j)) cs h (omega arith) (omega arith) (f .1 .1))
 
   -- a variable has two cells
-  var-room : (v : ℕ) → v < n → getD tags v 0 ≡ 21 → v + 2 < n
+  pub var-room : (v : ℕ) → v < n → getD tags v 0 ≡ 21 → v + 2 < n
   unfolding countFits shapeOf
   var-room v h e =
       let here = header-here v h (λ z. omega arith) in

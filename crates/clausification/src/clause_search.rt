@@ -1,10 +1,10 @@
 // Whether a term is one of the clauses that are listed in two arrays: literal places, clause after clause, and each clause's end.
 use pool::TermPlace;
 use pool::cell_comparison::same_cells;
-use pool::run::cell;
 use pool::run::operands;
 use pool::run::wide;
 use pool::tags::OR;
+use pool::tags::tag_at;
 ghost use mathlib.Core.Path.{_≡_};
 ghost use Prim.Native.Nat.{_-_};
 ghost use lib.ListN.{take, drop};
@@ -12,14 +12,14 @@ ghost use Rattle.clausification.specs.QntCnf.{isClause, anyClause};
 ghost use Rattle.clausification.specs.ClauseSearch.{clausesIn};
 
 // Whether the term at x is the clause of these literal places.
-fn is_clause(tags: &[u32], values: &[u32], x: TermPlace, clause: &[u32]) -> bool
+fn is_clause(tags: &[u8], values: &[u32], x: TermPlace, clause: &[u32]) -> bool
     ensures { λ r. ⌜ r ≡ isClause (now (tags .entry)) (now (values .entry)) (x .0) (now (clause .entry)) ⌝ }
 {
     if clause.len() == 1 {
         return clause[0] == x.0;
     }
     let at = x.0 as usize;
-    if cell(tags, at) != OR {
+    if tag_at(tags, at) != OR {
         return false;
     }
     same_cells(operands(tags, values, x), clause)
@@ -43,7 +43,7 @@ fn part(a: &[u32], start: usize, end: usize) -> &[u32]
 
 // Whether the term at x is one of the listed clauses.
 pub(crate) fn any_clause(
-    tags: &[u32],
+    tags: &[u8],
     values: &[u32],
     x: TermPlace,
     literals: &[u32],

@@ -36,6 +36,11 @@ ghost use Rattle.clausification.specs.QntCnf.{implication, clausified, q
 ghost use Rattle.clausification.specs.ClauseSearch.{clausesIn};
 ghost use Rattle.clausification.specs.Promises.{forallAt, followsIn, Leaves, Clausified, ForallSides};
 
+// The tags as refusal 4 carries them.
+const FORALL_CARRIED: u32 = FORALL as u32;
+
+const EXISTS_CARRIED: u32 = EXISTS as u32;
+
 // The place of a forall, and its body's.
 struct Forall {
     place: TermPlace,
@@ -43,7 +48,7 @@ struct Forall {
 }
 
 // The two sides of `(or (not l) r)` at x.
-fn implication_at(tags: &[u32], values: &[u32], x: TermPlace) -> Two
+fn implication_at(tags: &[u8], values: &[u32], x: TermPlace) -> Two
     ensures { λ t. ⌜ implication (now (tags .entry)) (now (values .entry)) (x .0) ≡ twoIn t ⌝ }
 {
     let Two::Are(negation, r) = two_operands(tags, values, OR, x) else {
@@ -57,7 +62,7 @@ fn implication_at(tags: &[u32], values: &[u32], x: TermPlace) -> Two
 
 // The right forall against the left one at l, the normal form of its body at x and the clauses of that: 8, 10, 9.
 fn clause_follows(
-    tags: &[u32],
+    tags: &[u8],
     values: &[u32],
     n: usize,
     x: TermPlace,
@@ -90,7 +95,7 @@ fn clause_follows(
 
 // The clauses of the left forall's body, and the right forall: 31, 13, 32, 8, 10, 9.
 fn clausified(
-    tags: &mut [u32],
+    tags: &mut [u8],
     values: &mut [u32],
     index: &mut [u32; INDEX],
     n: usize,
@@ -128,7 +133,7 @@ fn clausified(
 
 // The checks in 01's order. What was built is left after the pool.
 fn checks(
-    tags: &mut [u32],
+    tags: &mut [u8],
     values: &mut [u32],
     index: &mut [u32; INDEX],
     n: usize,
@@ -149,10 +154,10 @@ fn checks(
         return Answer::refused(3, r.0, 0);
     };
     if !left_kind {
-        return Answer::refused(4, FORALL, EXISTS);
+        return Answer::refused(4, FORALL_CARRIED, EXISTS_CARRIED);
     }
     if !right_kind {
-        return Answer::refused(4, FORALL, EXISTS);
+        return Answer::refused(4, FORALL_CARRIED, EXISTS_CARRIED);
     }
     let left = Forall {
         place: l,
@@ -167,7 +172,7 @@ fn checks(
 
 // The answer to the conclusion at x, which has passed its checks; the cells past the pool are zeroed.
 pub fn qnt_cnf(
-    tags: &mut [u32],
+    tags: &mut [u8],
     values: &mut [u32],
     index: &mut [u32; INDEX],
     n: usize,

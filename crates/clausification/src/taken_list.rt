@@ -52,7 +52,7 @@ fn put_pairs(cells: &mut [u32], k: usize, list: &[u32]) -> Collected
 
 // Collects the variables that are taken out of the term at x: the term walker.
 fn collect_term(
-    tags: &[u32],
+    tags: &[u8],
     values: &[u32],
     seen: &mut [u8],
     cells: &mut [u32],
@@ -88,7 +88,7 @@ fn collect_term(
 
 // The same of the terms of a run, which stand before x: the run walker.
 fn collect_run(
-    tags: &[u32],
+    tags: &[u8],
     values: &[u32],
     seen: &mut [u8],
     cells: &mut [u32],
@@ -135,7 +135,7 @@ fn first_in_neither(left: &[u32], taken: &[u32], right: &[u32]) -> FirstName
 
 // The first pair of the right list that is neither in the left list nor among the variables taken out of the term at x.
 pub fn first_unbound(
-    tags: &[u32],
+    tags: &[u8],
     values: &[u32],
     x: TermPlace,
     left: &[u32],

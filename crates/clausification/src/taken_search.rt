@@ -39,7 +39,7 @@ pub enum Step {
 
 // The first pair of a list that is sought. The table has the names of the term where a missing variable is to be free.
 fn first_sought(
-    tags: &[u32],
+    tags: &[u8],
     values: &[u32],
     n: usize,
     right: &[u32],
@@ -63,7 +63,7 @@ fn first_sought(
 
 // What the walk finds at the term at x.
 fn look(
-    tags: &[u32],
+    tags: &[u8],
     values: &[u32],
     n: usize,
     right: &[u32],
@@ -119,7 +119,7 @@ fn note(seen: &mut [u8], x: TermPlace, f: FirstName) -> FirstName
 
 // The first variable that is sought among those taken out of the term at x: the term walker.
 fn from_term(
-    tags: &[u32],
+    tags: &[u8],
     values: &[u32],
     n: usize,
     right: &[u32],
@@ -149,7 +149,7 @@ fn from_term(
 
 // The same of the terms of a run, which stand before x: the run walker.
 fn from_run(
-    tags: &[u32],
+    tags: &[u8],
     values: &[u32],
     n: usize,
     right: &[u32],
@@ -182,7 +182,7 @@ fn from_run(
 }
 
 // Makes the table of the names of the term where a missing variable is to be free.
-fn mark_sought(tags: &[u32], values: &[u32], sought: Sought, names: &mut [u8])
+fn mark_sought(tags: &[u8], values: &[u32], sought: Sought, names: &mut [u8])
     ensures { λ _. ⌜ Tabled (now (tags .entry)) (now (values .entry)) (now (names .exit)) sought ⌝ }
 {
     match sought {
@@ -193,7 +193,7 @@ fn mark_sought(tags: &[u32], values: &[u32], sought: Sought, names: &mut [u8])
 
 // The first variable that is sought among those taken out of the term at x.
 pub fn first_taken(
-    tags: &[u32],
+    tags: &[u8],
     values: &[u32],
     n: usize,
     x: TermPlace,
@@ -210,7 +210,7 @@ pub fn first_taken(
 
 // Whether neither the left list nor the variables taken out of the term at x have this pair.
 fn is_unbound(
-    tags: &[u32],
+    tags: &[u8],
     values: &[u32],
     x: TermPlace,
     left: &[u32],
@@ -232,7 +232,7 @@ fn is_unbound(
 // The first pair of the right list that is neither in the left list nor among the variables taken out of the term at x, by a walk for
 // each pair.
 pub(crate) fn first_unbound_by_walks(
-    tags: &[u32],
+    tags: &[u8],
     values: &[u32],
     x: TermPlace,
     left: &[u32],

@@ -6,7 +6,7 @@ ghost use lib.ListN.{length, replicate};
 ghost use Rattle.descriptions.specs.Description.{isFull, Room, Put};
 
 // Whether there is no room after n for a header with k cells.
-pub(crate) fn is_full(tags: &[u32], values: &[u32], limit: usize, n: usize, k: usize) -> bool
+pub(crate) fn is_full(tags: &[u8], values: &[u32], limit: usize, n: usize, k: usize) -> bool
     ensures { λ r. ⌜ r ≡ isFull (now (tags .entry)) (now (values .entry)) limit n k ⌝ }
 {
     if 4294967295 < k {
@@ -26,7 +26,7 @@ pub(crate) fn is_full(tags: &[u32], values: &[u32], limit: usize, n: usize, k: u
 }
 
 // Writes cells, with tag 0, from `at` on.
-fn put_cells(tags: &mut [u32], values: &mut [u32], at: usize, cells: &[u32])
+fn put_cells(tags: &mut [u8], values: &mut [u32], at: usize, cells: &[u32])
     requires { ⌜ at + length (now cells) ≤ length (now tags) ⌝ }
     requires { ⌜ at + length (now cells) ≤ length (now values) ⌝ }
     ensures { λ _. ⌜ Put (now (tags .entry)) (now (values .entry)) at (replicate (length (now (cells .entry))) 0) (now (cells .entry)) (now (tags .exit)) (now (values .exit)) ⌝ }
@@ -41,7 +41,7 @@ fn put_cells(tags: &mut [u32], values: &mut [u32], at: usize, cells: &[u32])
 }
 
 // Writes a header and its cells from n on, and gives the new count.
-pub(crate) fn put(tags: &mut [u32], values: &mut [u32], n: usize, tag: u32, cells: &[u32]) -> usize
+pub(crate) fn put(tags: &mut [u8], values: &mut [u32], n: usize, tag: u8, cells: &[u32]) -> usize
     requires { ⌜ Room (now tags) (now values) n (length (now cells)) ⌝ }
     ensures { λ r. ⌜ r ≡ n + 1 + length (now (cells .entry)) ⌝ }
     ensures { λ _. ⌜ Put (now (tags .entry)) (now (values .entry)) n (tag ∷ replicate (length (now (cells .entry))) 0) (length (now (cells .entry)) ∷ now (cells .entry)) (now (tags .exit)) (now (values .exit)) ⌝ }

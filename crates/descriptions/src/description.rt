@@ -2,6 +2,7 @@
 use cells::Found;
 use cells::cell_comparison::is_at;
 use cells::run;
+use cells::tags::tag_at;
 ghost use mathlib.Core.Path.{_≡_};
 ghost use Rattle.descriptions.specs.Description.{find, repeats, firstRepeat, zeroFrom, Cut};
 
@@ -13,7 +14,7 @@ pub enum Added {
 }
 
 // The first header below n with this tag and these cells.
-pub fn find(tags: &[u32], values: &[u32], n: usize, tag: u32, cells: &[u32]) -> Found
+pub fn find(tags: &[u8], values: &[u32], n: usize, tag: u8, cells: &[u32]) -> Found
     ensures { λ r. ⌜ r ≡ find (now (tags .entry)) (now (values .entry)) n tag (now (cells .entry)) ⌝ }
 {
     let mut p: usize = 0;
@@ -31,10 +32,10 @@ pub fn find(tags: &[u32], values: &[u32], n: usize, tag: u32, cells: &[u32]) -> 
 }
 
 // Whether the header at p repeats an earlier one.
-fn repeats(tags: &[u32], values: &[u32], p: usize) -> bool
+fn repeats(tags: &[u8], values: &[u32], p: usize) -> bool
     ensures { λ r. ⌜ r ≡ repeats (now (tags .entry)) (now (values .entry)) p ⌝ }
 {
-    let earlier = find(tags, values, p, run::cell(tags, p), run::cells(values, p));
+    let earlier = find(tags, values, p, tag_at(tags, p), run::cells(values, p));
     match earlier {
         Found::At(_) => true,
         Found::Nothing => false,
@@ -42,7 +43,7 @@ fn repeats(tags: &[u32], values: &[u32], p: usize) -> bool
 }
 
 // The first header below n that repeats an earlier one, each compared with all before it.
-pub fn scan_repeats(tags: &[u32], values: &[u32], n: usize) -> Found
+pub fn scan_repeats(tags: &[u8], values: &[u32], n: usize) -> Found
     ensures { λ r. ⌜ r ≡ firstRepeat (now (tags .entry)) (now (values .entry)) n ⌝ }
 {
     let mut p: usize = 0;
@@ -59,6 +60,17 @@ pub fn scan_repeats(tags: &[u32], values: &[u32], n: usize) -> Found
     Found::Nothing
 }
 
+// Writes 0 to every tag from n on.
+fn zero_tags_from(tags: &mut [u8], n: usize)
+    ensures { λ _. ⌜ now (tags .exit) ≡ zeroFrom n (now (tags .entry)) ⌝ }
+{
+    let mut i = n;
+    while i < tags.len() {
+        tags[i] = 0;
+        i += 1;
+    }
+}
+
 // Writes 0 to every cell from n on.
 pub fn zero_from(a: &mut [u32], n: usize)
     ensures { λ _. ⌜ now (a .exit) ≡ zeroFrom n (now (a .entry)) ⌝ }
@@ -71,9 +83,9 @@ pub fn zero_from(a: &mut [u32], n: usize)
 }
 
 // Cuts a pool back to its first n cells.
-pub fn cut_back(tags: &mut [u32], values: &mut [u32], n: usize)
+pub fn cut_back(tags: &mut [u8], values: &mut [u32], n: usize)
     ensures { λ _. ⌜ Cut n (now (tags .entry)) (now (values .entry)) (now (tags .exit)) (now (values .exit)) ⌝ }
 {
-    zero_from(tags, n);
+    zero_tags_from(tags, n);
     zero_from(values, n);
 }

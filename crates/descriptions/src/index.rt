@@ -8,6 +8,7 @@ use cells::Found;
 use cells::cell_comparison::is_at;
 use cells::limits::CELLS;
 use cells::run;
+use cells::tags::tag_at;
 ghost use mathlib.Core.Path.{_≡_};
 ghost use mathlib.Core.Bool.{cond};
 ghost use Prim.Native.Nat.{_+_, _≤_, _<_};
@@ -25,11 +26,11 @@ const HEADS: usize = CELLS;
 const BUCKETS: usize = 4093;
 
 // The bucket of a description.
-fn bucket(tag: u32, cells: &[u32]) -> usize
+fn bucket(tag: u8, cells: &[u32]) -> usize
     ensures { λ r. ⌜ r ≡ bucketOf tag (now (cells .entry)) ⌝ }
     ensures { λ r. ⌜ r < bucketCount ⌝ }
 {
-    let mut h = run::wide(tag) % BUCKETS;
+    let mut h = (tag as usize) % BUCKETS;
     let mut i: usize = 0;
     while i < cells.len() {
         h = (h * 1021 + run::wide(cells[i]) % BUCKETS) % BUCKETS;
@@ -48,11 +49,11 @@ fn latest(is_sought: bool, met: u32, last: u32) -> u32
 // One more than the first header with this tag and these cells on the chain from `head`, or 0. The chain goes back: the last
 // one that is met is the first.
 fn on_chain(
-    tags: &[u32],
+    tags: &[u8],
     values: &[u32],
     index: &[u32; INDEX],
     head: u32,
-    tag: u32,
+    tag: u8,
     cells: &[u32],
 ) -> u32
     requires { ⌜ PointsBack (now index) ⌝ }
@@ -70,11 +71,11 @@ fn on_chain(
 
 // The first header of bucket b with this tag and these cells.
 fn first_in(
-    tags: &[u32],
+    tags: &[u8],
     values: &[u32],
     index: &[u32; INDEX],
     b: usize,
-    tag: u32,
+    tag: u8,
     cells: &[u32],
 ) -> Found
     requires { ⌜ PointsBack (now index) ⌝ }
@@ -100,13 +101,13 @@ fn enter(index: &mut [u32; INDEX], p: usize, b: usize)
 }
 
 // Whether the header at p repeats one below it; p goes into the index.
-fn enter_header(tags: &[u32], values: &[u32], p: usize, index: &mut [u32; INDEX]) -> bool
+fn enter_header(tags: &[u8], values: &[u32], p: usize, index: &mut [u32; INDEX]) -> bool
     requires { ⌜ Index (now tags) (now values) p (now index) ⌝ }
     requires { ⌜ p < cellLimit ⌝ }
     ensures { λ r. ⌜ r ≡ repeats (now (tags .entry)) (now (values .entry)) p ⌝ }
     ensures { λ _. ⌜ Index (now (tags .entry)) (now (values .entry)) (p + (1 + getD (now (values .entry)) p 0)) (now (index .exit)) ⌝ }
 {
-    let tag = run::cell(tags, p);
+    let tag = tag_at(tags, p);
     let there = run::cells(values, p);
     let b = bucket(tag, there);
     let earlier = first_in(tags, values, index, b, tag, there);
@@ -119,7 +120,7 @@ fn enter_header(tags: &[u32], values: &[u32], p: usize, index: &mut [u32; INDEX]
 
 // Check 15, with an index that is empty at first.
 pub(crate) fn first_repeat(
-    tags: &[u32],
+    tags: &[u8],
     values: &[u32],
     n: usize,
     index: &mut [u32; INDEX],
@@ -144,7 +145,7 @@ pub(crate) fn first_repeat(
 }
 
 // Makes the index of the headers below n anew.
-pub fn index_headers(tags: &[u32], values: &[u32], n: usize, index: &mut [u32; INDEX])
+pub fn index_headers(tags: &[u8], values: &[u32], n: usize, index: &mut [u32; INDEX])
     requires { ⌜ Earlier (now values) n n ⌝ }
     ensures { λ _. ⌜ Index (now (tags .entry)) (now (values .entry)) n (now (index .exit)) ⌝ }
 {
@@ -173,7 +174,7 @@ fn leave(index: &mut [u32; INDEX], p: usize, b: usize)
 }
 
 // Takes the headers from p on out of an index of those below m, the last one first.
-pub fn forget(tags: &[u32], values: &[u32], index: &mut [u32; INDEX], p: usize, m: usize)
+pub fn forget(tags: &[u8], values: &[u32], index: &mut [u32; INDEX], p: usize, m: usize)
     requires { ⌜ Index (now tags) (now values) m (now index) ⌝ }
     requires { ⌜ Earlier (now values) p m ⌝ }
     ensures { λ _. ⌜ Index (now (tags .entry)) (now (values .entry)) p (now (index .exit)) ⌝ }
@@ -181,7 +182,7 @@ pub fn forget(tags: &[u32], values: &[u32], index: &mut [u32; INDEX], p: usize, 
     if m <= p {
         return;
     }
-    let b = bucket(run::cell(tags, p), run::cells(values, p));
+    let b = bucket(tag_at(tags, p), run::cells(values, p));
     let k = run::cell(values, p) as usize;
     forget(tags, values, index, p + 1 + k, m);
     leave(index, p, b);
@@ -190,11 +191,11 @@ pub fn forget(tags: &[u32], values: &[u32], index: &mut [u32; INDEX], p: usize, 
 // Adds a description to the n cells in use, at most `CELLS` of them, whose headers the index has: where it stands already,
 // nothing changes.
 pub fn add(
-    tags: &mut [u32],
+    tags: &mut [u8],
     values: &mut [u32],
     index: &mut [u32; INDEX],
     n: usize,
-    tag: u32,
+    tag: u8,
     cells: &[u32],
 ) -> Added
     requires { ⌜ Index (now tags) (now values) n (now index) ⌝ }

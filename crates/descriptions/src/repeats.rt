@@ -11,7 +11,7 @@ ghost use Rattle.descriptions.specs.Index.{Indexes};
 
 // Check 15: the first header below n that repeats an earlier one. The index then has the headers, if there is none; it has
 // room for 8,192 cells.
-pub fn first_repeat(tags: &[u32], values: &[u32], n: usize, index: &mut [u32; INDEX]) -> Found
+pub fn first_repeat(tags: &[u8], values: &[u32], n: usize, index: &mut [u32; INDEX]) -> Found
     ensures { λ r. ⌜ r ≡ firstRepeat (now (tags .entry)) (now (values .entry)) n ⌝ }
     ensures { λ _. ⌜ Indexes (now (tags .entry)) (now (values .entry)) n (now (index .exit)) ⌝ }
 {

@@ -12,6 +12,7 @@ use pool::tags::ITE;
 use pool::tags::NOT;
 use pool::tags::OR;
 use pool::tags::TRUE;
+use pool::tags::tag_at;
 ghost use mathlib.Core.Path.{_≡_};
 ghost use Rattle.formulas.specs.Formula.{connectiveTag, quantifierTag, allBefore, equality, connective, quantifier, viewOf};
 ghost use Rattle.formulas.specs.Built.{normalView};
@@ -35,7 +36,7 @@ pub enum NormalView {
 }
 
 // The tag of `and` (true) or `or`.
-pub fn connective_tag(b: bool) -> u32
+pub fn connective_tag(b: bool) -> u8
     ensures { λ r. ⌜ r ≡ connectiveTag b ⌝ }
 {
     if b {
@@ -45,13 +46,20 @@ pub fn connective_tag(b: bool) -> u32
 }
 
 // The tag of forall (true) or exists.
-pub fn quantifier_tag(b: bool) -> u32
+pub fn quantifier_tag(b: bool) -> u8
     ensures { λ r. ⌜ r ≡ quantifierTag b ⌝ }
 {
     if b {
         return FORALL;
     }
     EXISTS
+}
+
+// The tag of forall (true) or exists as a refusal carries it.
+pub fn carried_tag(b: bool) -> u32
+    ensures { λ r. ⌜ r ≡ quantifierTag b ⌝ }
+{
+    quantifier_tag(b) as u32
 }
 
 // Whether every operand of the run stands before t.
@@ -84,7 +92,7 @@ fn equality(values: &[u32], os: &[u32]) -> View
 }
 
 // An operator's term, by its tag and its operands.
-fn connective(values: &[u32], tag: u32, os: &[u32]) -> View
+fn connective(values: &[u32], tag: u8, os: &[u32]) -> View
     ensures { λ r. ⌜ r ≡ connective (now (values .entry)) tag (now (os .entry)) ⌝ }
 {
     if tag == AND {
@@ -118,7 +126,7 @@ fn connective(values: &[u32], tag: u32, os: &[u32]) -> View
 }
 
 // A quantifier's term, by its tag and its body.
-fn quantifier(tag: u32, body: TermPlace) -> View
+fn quantifier(tag: u8, body: TermPlace) -> View
     ensures { λ r. ⌜ r ≡ quantifier tag (body .0) ⌝ }
 {
     match tag {
@@ -129,11 +137,11 @@ fn quantifier(tag: u32, body: TermPlace) -> View
 }
 
 // How the term at t is read.
-pub fn view_of(tags: &[u32], values: &[u32], t: TermPlace) -> View
+pub fn view_of(tags: &[u8], values: &[u32], t: TermPlace) -> View
     ensures { λ r. ⌜ r ≡ viewOf (now (tags .entry)) (now (values .entry)) (t .0) ⌝ }
 {
     let at = t.0 as usize;
-    let tag = cell(tags, at);
+    let tag = tag_at(tags, at);
     let run = operands(tags, values, t);
     if tag < TRUE {
         let body = TermPlace(cell(run, 0));
@@ -149,11 +157,11 @@ pub fn view_of(tags: &[u32], values: &[u32], t: TermPlace) -> View
 }
 
 // How the term in normal form at x is read.
-pub fn normal_view(tags: &[u32], values: &[u32], x: TermPlace) -> NormalView
+pub fn normal_view(tags: &[u8], values: &[u32], x: TermPlace) -> NormalView
     ensures { λ r. ⌜ r ≡ normalView (now (tags .entry)) (now (values .entry)) (x .0) ⌝ }
 {
     let at = x.0 as usize;
-    let tag = cell(tags, at);
+    let tag = tag_at(tags, at);
     let run = operands(tags, values, x);
     if tag == FORALL {
         let body = TermPlace(cell(run, 0));

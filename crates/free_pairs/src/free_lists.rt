@@ -46,7 +46,7 @@ fn first_marked(list: &[u32], mask: u32, other: &[u32]) -> FirstName
 
 // The first pair among the first 31 of a list that another lacks and whose variable is free in the term at t: by one walk.
 fn first_in_group(
-    tags: &[u32],
+    tags: &[u8],
     values: &[u32],
     n: usize,
     t: TermPlace,
@@ -71,7 +71,7 @@ fn may_be_missing(names: &[u8], other: &[u32], name: u32, sort: SortPlace) -> bo
 
 // The first pair of a list that another lacks and whose variable is free in the term at t, with the table of the term's names.
 pub fn first_missing_by(
-    tags: &[u32],
+    tags: &[u8],
     values: &[u32],
     n: usize,
     names: &[u8],
@@ -100,7 +100,7 @@ pub fn first_missing_by(
 
 // The first pair of a list that another lacks and whose variable is free in the term at t.
 pub fn first_missing(
-    tags: &[u32],
+    tags: &[u8],
     values: &[u32],
     n: usize,
     t: TermPlace,
@@ -115,7 +115,7 @@ pub fn first_missing(
 }
 
 // The first pair of a list whose variable is free in the term at t.
-pub fn first_free(tags: &[u32], values: &[u32], n: usize, t: TermPlace, list: &[u32]) -> FirstName
+pub fn first_free(tags: &[u8], values: &[u32], n: usize, t: TermPlace, list: &[u32]) -> FirstName
     ensures { λ r. ⌜ r ≡ nameOf (firstOf (bindingFree (now (tags .entry)) (now (values .entry)) n (t .0)) (bindingsOf (now (list .entry)))) ⌝ }
 {
     first_missing(tags, values, n, t, list, &list[..0])

@@ -15,6 +15,7 @@ use cells::run::sort_of;
 use cells::tags::LET;
 use cells::tags::VARIABLE;
 use descriptions::description::find;
+use cells::tags::tag_at;
 ghost use mathlib.Core.Path.{_≡_};
 ghost use Prim.Native.Nat.{_≤_, _<_};
 ghost use lib.ListN.{length, getD, take};
@@ -44,7 +45,7 @@ fn equal_pairs(list: &[u32], name: u32, sort: SortPlace) -> u32
 }
 
 // The pairs of a list whose variable is the one at t: it has their name and sort, and is the first in the pool that has.
-fn variable_mask(tags: &[u32], values: &[u32], n: usize, list: &[u32], t: TermPlace) -> u32
+fn variable_mask(tags: &[u8], values: &[u32], n: usize, list: &[u32], t: TermPlace) -> u32
     requires { ⌜ length (now list) ≤ 62 ⌝ }
     requires { ⌜ getD (now tags) (t .0) 0 ≡ 21 ⌝ }
     ensures { λ r. ⌜ r ≡ maskOf (bindingFree (now (tags .entry)) (now (values .entry)) n (t .0)) (bindingsOf (now (list .entry))) ⌝ }
@@ -98,7 +99,7 @@ fn note_mask(memo: &mut [u32], t: TermPlace, mask: u32) -> u32
 
 // The pairs of the list that are free in the term at t: the term walker.
 fn mask_of_term(
-    tags: &[u32],
+    tags: &[u8],
     values: &[u32],
     n: usize,
     list: &[u32],
@@ -121,7 +122,7 @@ fn mask_of_term(
         FreeFrom::Body(u) => {
             let inside = mask_of_term(tags, values, n, list, memo, u);
             let run = operands(tags, values, t);
-            let lets = cell(tags, at) == LET;
+            let lets = tag_at(tags, at) == LET;
             note_mask(memo, t, unbound_pairs(values, lets, run, list, inside))
         }
         FreeFrom::Run => {
@@ -138,7 +139,7 @@ fn mask_of_term(
             let run = operands(tags, values, t);
             let among = mask_of_values(tags, values, n, list, memo, t, run);
             let inside = mask_of_term(tags, values, n, list, memo, u);
-            let lets = cell(tags, at) == LET;
+            let lets = tag_at(tags, at) == LET;
             let rest = unbound_pairs(values, lets, run, list, inside);
             note_mask(memo, t, among | rest)
         }
@@ -147,7 +148,7 @@ fn mask_of_term(
 
 // The pairs of the list that are free in a term of the run that stands before t: the run walker.
 fn mask_of_run(
-    tags: &[u32],
+    tags: &[u8],
     values: &[u32],
     n: usize,
     list: &[u32],
@@ -174,7 +175,7 @@ fn mask_of_run(
 // The pairs of the list that are free in a let's value that stands before t: the values walker. The run's first cell is the body,
 // or a value that the walk has passed.
 fn mask_of_values(
-    tags: &[u32],
+    tags: &[u8],
     values: &[u32],
     n: usize,
     list: &[u32],
@@ -209,7 +210,7 @@ pub fn group(list: &[u32]) -> &[u32]
 }
 
 // The pairs among the first 31 of a list that are free in the term at t.
-pub fn free_mask(tags: &[u32], values: &[u32], n: usize, t: TermPlace, list: &[u32]) -> u32
+pub fn free_mask(tags: &[u8], values: &[u32], n: usize, t: TermPlace, list: &[u32]) -> u32
     ensures { λ r. ⌜ r ≡ maskOf (bindingFree (now (tags .entry)) (now (values .entry)) n (t .0)) (bindingsOf (take 62 (now (list .entry)))) ⌝ }
 {
     let mut memo = [0u32; CELLS];

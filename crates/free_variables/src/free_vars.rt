@@ -13,6 +13,7 @@ use cells::tags::BINDERS_END;
 use cells::tags::FORALL;
 use cells::tags::LET;
 use cells::tags::VARIABLE;
+use cells::tags::tag_at;
 ghost use mathlib.Core.Path.{_≡_};
 ghost use lib.ListN.{length, drop};
 ghost use Rattle.free_variables.specs.Free.{pairIn, anyOf, letValues, isFree, markOf, Marked};
@@ -68,7 +69,7 @@ pub enum Step {
 }
 
 // What the walk finds at the term at t. The tests are those of the definition, in its order, after the memo.
-fn look(tags: &[u32], values: &[u32], memo: &[u8], v: TermPlace, t: TermPlace) -> Step
+fn look(tags: &[u8], values: &[u32], memo: &[u8], v: TermPlace, t: TermPlace) -> Step
     requires { ⌜ NotFreeMemo (now tags) (now values) (v .0) (now memo) ⌝ }
     ensures { λ r. ⌜ FreeMeans (now (tags .entry)) (now (values .entry)) (v .0) (t .0) r ⌝ }
 {
@@ -79,7 +80,7 @@ fn look(tags: &[u32], values: &[u32], memo: &[u8], v: TermPlace, t: TermPlace) -
     if t.0 == v.0 {
         return Step::Yes;
     }
-    let tag = cell(tags, at);
+    let tag = tag_at(tags, at);
     if tag < APPLICATION {
         return Step::No;
     }
@@ -113,7 +114,7 @@ fn look(tags: &[u32], values: &[u32], memo: &[u8], v: TermPlace, t: TermPlace) -
 
 // Whether the variable at v is free in the term at t: the term walker.
 fn compute_free_vars(
-    tags: &[u32],
+    tags: &[u8],
     values: &[u32],
     memo: &mut [u8],
     v: TermPlace,
@@ -150,7 +151,7 @@ fn compute_free_vars(
 
 // Whether the variable at v is free in a term of the run that stands before t: the run walker.
 fn run_free_vars(
-    tags: &[u32],
+    tags: &[u8],
     values: &[u32],
     memo: &mut [u8],
     v: TermPlace,
@@ -176,7 +177,7 @@ fn run_free_vars(
 // Whether the variable at v is free in a let's value that stands before t: the values walker. The run's first cell is the body,
 // or a value that the walk has passed.
 fn values_free_vars(
-    tags: &[u32],
+    tags: &[u8],
     values: &[u32],
     memo: &mut [u8],
     v: TermPlace,
@@ -200,7 +201,7 @@ fn values_free_vars(
 }
 
 // Whether the variable at v is free in the term at t.
-pub fn is_free(tags: &[u32], values: &[u32], v: TermPlace, t: TermPlace) -> bool
+pub fn is_free(tags: &[u8], values: &[u32], v: TermPlace, t: TermPlace) -> bool
     ensures { λ r. ⌜ r ≡ isFree (now (tags .entry)) (now (values .entry)) (v .0) (t .0) ⌝ }
 {
     let mut memo = [0u8; CELLS];
@@ -208,13 +209,13 @@ pub fn is_free(tags: &[u32], values: &[u32], v: TermPlace, t: TermPlace) -> bool
 }
 
 // The mark of the place v: 1 at a variable that is free in the term at t, and 0 elsewhere.
-fn mark_of(tags: &[u32], values: &[u32], n: usize, t: TermPlace, v: usize) -> u8
+fn mark_of(tags: &[u8], values: &[u32], n: usize, t: TermPlace, v: usize) -> u8
     ensures { λ r. ⌜ r ≡ markOf (now (tags .entry)) (now (values .entry)) n (t .0) v ⌝ }
 {
     if n <= v {
         return 0;
     }
-    if cell(tags, v) != VARIABLE {
+    if tag_at(tags, v) != VARIABLE {
         return 0;
     }
     // A term reaches only places before its own: a variable after t is not free in it. Up to t, v fits u32.
@@ -228,7 +229,7 @@ fn mark_of(tags: &[u32], values: &[u32], n: usize, t: TermPlace, v: usize) -> u8
 }
 
 // Marks the free variables of the term at t: 1 at their places, and 0 at every other to the array's end.
-pub fn mark_free_vars(tags: &[u32], values: &[u32], n: usize, t: TermPlace, marks: &mut [u8])
+pub fn mark_free_vars(tags: &[u8], values: &[u32], n: usize, t: TermPlace, marks: &mut [u8])
     ensures { λ _. ⌜ Marked (now (tags .entry)) (now (values .entry)) n (t .0) (length (now (marks .entry))) (now (marks .exit)) ⌝ }
 {
     let mut v: usize = 0;

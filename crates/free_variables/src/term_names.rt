@@ -15,6 +15,7 @@ use cells::tags::BINDERS_END;
 use cells::tags::FORALL;
 use cells::tags::LET;
 use cells::tags::VARIABLE;
+use cells::tags::tag_at;
 ghost use mathlib.Core.Path.{_≡_};
 ghost use Prim.Native.Nat.{_+_};
 ghost use lib.ListN.{getD, set};
@@ -67,11 +68,11 @@ pub enum FreeFrom {
 }
 
 // Where the free variables of the term at t are.
-pub fn free_from(tags: &[u32], values: &[u32], t: TermPlace) -> FreeFrom
+pub fn free_from(tags: &[u8], values: &[u32], t: TermPlace) -> FreeFrom
     ensures { λ r. ⌜ FreeFromMeans (now (tags .entry)) (now (values .entry)) (t .0) r ⌝ }
 {
     let at = t.0 as usize;
-    let tag = cell(tags, at);
+    let tag = tag_at(tags, at);
     if tag < VARIABLE {
         return FreeFrom::Nothing;
     }
@@ -98,7 +99,7 @@ pub fn free_from(tags: &[u32], values: &[u32], t: TermPlace) -> FreeFrom
 }
 
 // Marks the names of the term at t: the term walker.
-fn names_of_term(tags: &[u32], values: &[u32], seen: &mut [u8], names: &mut [u8], t: TermPlace)
+fn names_of_term(tags: &[u8], values: &[u32], seen: &mut [u8], names: &mut [u8], t: TermPlace)
     requires { ⌜ NamesMemo (now tags) (now values) (now seen) (now names) ⌝ }
     ensures { λ _. ⌜ NamesWalked (now (tags .entry)) (now (values .entry)) (now (names .entry)) (now (seen .exit)) (now (names .exit)) (freeIn (now (tags .entry)) (now (values .entry)) (t .0)) ⌝ }
 {
@@ -134,7 +135,7 @@ fn names_of_term(tags: &[u32], values: &[u32], seen: &mut [u8], names: &mut [u8]
 
 // Marks the names of the terms of a run that stand before t: the run walker.
 fn names_of_run(
-    tags: &[u32],
+    tags: &[u8],
     values: &[u32],
     seen: &mut [u8],
     names: &mut [u8],
@@ -158,7 +159,7 @@ fn names_of_run(
 // Marks the names of a let's values that stand before t: the values walker. The run's first cell is the body, or a value that the
 // walk has passed.
 fn names_of_values(
-    tags: &[u32],
+    tags: &[u8],
     values: &[u32],
     seen: &mut [u8],
     names: &mut [u8],
@@ -180,7 +181,7 @@ fn names_of_values(
 }
 
 // Sets the bucket of every variable that is free in the term at t.
-pub fn mark_names(tags: &[u32], values: &[u32], t: TermPlace, names: &mut [u8])
+pub fn mark_names(tags: &[u8], values: &[u32], t: TermPlace, names: &mut [u8])
     ensures { λ _. ⌜ NamesMarked (now (tags .entry)) (now (values .entry)) (now (names .exit)) (freeIn (now (tags .entry)) (now (values .entry)) (t .0)) ⌝ }
 {
     let mut seen = [0u8; CELLS];

@@ -23,6 +23,7 @@ use cells::tags::TUPLE;
 use cells::tags::VARIABLE;
 pub use cells::tags::is_term;
 pub use cells::tags::is_term_tag;
+use cells::tags::tag_at;
 ghost use Prim.Native.Nat.{_+_, _≤_, _<_};
 ghost use mathlib.Core.Bool.{cond};
 ghost use mathlib.Core.Path.{_≡_};
@@ -57,7 +58,7 @@ pub enum CellKind {
 }
 
 // The shape of a sort's header.
-fn sort_shape(tag: u32) -> Shape
+fn sort_shape(tag: u8) -> Shape
     requires { ⌜ tag < 16 ⌝ }
     ensures { λ r. ⌜ r ≡ shapeOf tag ⌝ }
 {
@@ -74,7 +75,7 @@ fn sort_shape(tag: u32) -> Shape
 }
 
 // The shape of a term's header.
-fn term_shape(tag: u32) -> Shape
+fn term_shape(tag: u8) -> Shape
     requires { ⌜ 16 ≤ tag ⌝ }
     ensures { λ r. ⌜ r ≡ shapeOf tag ⌝ }
 {
@@ -91,7 +92,7 @@ fn term_shape(tag: u32) -> Shape
 }
 
 // The shape of a header with this tag.
-fn shape_of(tag: u32) -> Shape
+fn shape_of(tag: u8) -> Shape
     ensures { λ r. ⌜ r ≡ shapeOf tag ⌝ }
 {
     if tag < INTEGER {
@@ -167,38 +168,38 @@ fn kind_at(shape: Shape, j: usize) -> CellKind
 }
 
 // Whether a header with this tag is a sort's.
-fn is_sort_tag(tag: u32) -> bool
+fn is_sort_tag(tag: u8) -> bool
     ensures { λ r. ⌜ r ≡ isSortTag tag ⌝ }
 {
     BOOL <= tag && tag < SORTS_END
 }
 
 // Whether a cell of the header at p may hold v, where the cell is of this kind.
-fn value_fits(tags: &[u32], p: usize, kind: CellKind, v: u32) -> bool
+fn value_fits(tags: &[u8], p: usize, kind: CellKind, v: u32) -> bool
     ensures { λ r. ⌜ r ≡ valueFits (now (tags .entry)) p kind v ⌝ }
 {
     let at = v as usize;
     match kind {
         CellKind::Number => true,
-        CellKind::OfSort => at < p && is_sort_tag(cell(tags, at)),
-        CellKind::OfTerm => at < p && is_term_tag(cell(tags, at)),
+        CellKind::OfSort => at < p && is_sort_tag(tag_at(tags, at)),
+        CellKind::OfTerm => at < p && is_term_tag(tag_at(tags, at)),
     }
 }
 
 // Whether the cell at position j of the header at p, an index that fits, has tag 0 and holds what it must.
-fn cell_fits(tags: &[u32], values: &[u32], p: usize, shape: Shape, j: usize) -> bool
+fn cell_fits(tags: &[u8], values: &[u32], p: usize, shape: Shape, j: usize) -> bool
     requires { ⌜ Fits w64 (p + 1 + j) ⌝ }
     ensures { λ r. ⌜ r ≡ cellFits (now (tags .entry)) (now (values .entry)) p shape j ⌝ }
 {
     let at = p + 1 + j;
-    if cell(tags, at) != 0 {
+    if tag_at(tags, at) != 0 {
         return false;
     }
     value_fits(tags, p, kind_at(shape, j), cell(values, at))
 }
 
 // Whether each of the k cells of the header at p does.
-fn cells_fit(tags: &[u32], values: &[u32], p: usize, shape: Shape, k: usize) -> bool
+fn cells_fit(tags: &[u8], values: &[u32], p: usize, shape: Shape, k: usize) -> bool
     requires { ⌜ Fits w64 (p + 1 + k) ⌝ }
     ensures { λ r. ⌜ r ≡ every (cellFits (now (tags .entry)) (now (values .entry)) p shape) 0 k ⌝ }
 {
@@ -213,14 +214,14 @@ fn cells_fit(tags: &[u32], values: &[u32], p: usize, shape: Shape, k: usize) -> 
 }
 
 // Whether cell 0, where p is 0, is the sort Bool.
-fn bool_first(tags: &[u32], p: usize) -> bool
+fn bool_first(tags: &[u8], p: usize) -> bool
     ensures { λ r. ⌜ r ≡ boolFirst (now (tags .entry)) p ⌝ }
 {
-    p != 0 || cell(tags, p) == BOOL
+    p != 0 || tag_at(tags, p) == BOOL
 }
 
 // Whether the header at p is well formed among n cells.
-fn header_fits(tags: &[u32], values: &[u32], n: usize, p: usize) -> bool
+fn header_fits(tags: &[u8], values: &[u32], n: usize, p: usize) -> bool
     requires { ⌜ p < n ⌝ }
     ensures { λ r. ⌜ r ≡ headerFits (now (tags .entry)) (now (values .entry)) n p ⌝ }
 {
@@ -231,7 +232,7 @@ fn header_fits(tags: &[u32], values: &[u32], n: usize, p: usize) -> bool
     if n - p <= k {
         return false;
     }
-    let shape = shape_of(cell(tags, p));
+    let shape = shape_of(tag_at(tags, p));
     if !count_fits(shape, k) {
         return false;
     }
@@ -239,7 +240,7 @@ fn header_fits(tags: &[u32], values: &[u32], n: usize, p: usize) -> bool
 }
 
 // The first header of the first n cells that is not well formed.
-pub fn first_bad(tags: &[u32], values: &[u32], n: usize) -> Found
+pub fn first_bad(tags: &[u8], values: &[u32], n: usize) -> Found
     ensures { λ r. ⌜ r ≡ firstBad (now (tags .entry)) (now (values .entry)) n ⌝ }
 {
     let mut p: usize = 0;

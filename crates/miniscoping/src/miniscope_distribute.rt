@@ -20,7 +20,7 @@ ghost use Rattle.miniscoping.specs.SidesAnswer.{sidesAt};
 ghost use Rattle.miniscoping.specs.MiniscopeDistribute.{distributed, distributedAll, miniscopeDistribute};
 
 // Whether the right operand at u is the left quantifier over the left operand at t.
-fn distributed(tags: &[u32], values: &[u32], s: Places, t: TermPlace, u: TermPlace) -> Checked
+fn distributed(tags: &[u8], values: &[u32], s: Places, t: TermPlace, u: TermPlace) -> Checked
     ensures { λ r. ⌜ distributed (now (tags .entry)) (now (values .entry)) (sidesAt (now (tags .entry)) (now (values .entry)) s) (t .0) (u .0) ≡ outcomeOf r tt ⌝ }
 {
     let left = s.left;
@@ -37,7 +37,7 @@ fn distributed(tags: &[u32], values: &[u32], s: Places, t: TermPlace, u: TermPla
 }
 
 // The operands one after another, as long as both lists go on.
-fn distributed_all(tags: &[u32], values: &[u32], s: Places, from: &[u32], to: &[u32]) -> Answer
+fn distributed_all(tags: &[u8], values: &[u32], s: Places, from: &[u32], to: &[u32]) -> Answer
     ensures { λ r. ⌜ r ≡ answerOf (distributedAll (now (tags .entry)) (now (values .entry)) (sidesAt (now (tags .entry)) (now (values .entry)) s) (now (from .entry)) (now (to .entry))) ⌝ }
 {
     let mut i: usize = 0;
@@ -60,7 +60,7 @@ fn distributed_all(tags: &[u32], values: &[u32], s: Places, from: &[u32], to: &[
 }
 
 // Rule 4: the conclusion at x.
-pub fn miniscope_distribute(tags: &[u32], values: &[u32], x: TermPlace) -> Answer
+pub fn miniscope_distribute(tags: &[u8], values: &[u32], x: TermPlace) -> Answer
     ensures { λ r. ⌜ r ≡ answerOf (miniscopeDistribute (now (tags .entry)) (now (values .entry)) (x .0)) ⌝ }
 {
     let Matched::At(s) = either_sides(tags, values, AND, OR, x) else {

@@ -31,7 +31,7 @@ pub enum IteMatched {
 }
 
 // Whether the term at u is a forall over the term at t.
-fn is_forall_over(tags: &[u32], values: &[u32], t: TermPlace, u: TermPlace) -> bool
+fn is_forall_over(tags: &[u8], values: &[u32], t: TermPlace, u: TermPlace) -> bool
     ensures { λ r. ⌜ r ≡ forallOver (now (tags .entry)) (now (values .entry)) (t .0) (u .0) ⌝ }
 {
     let Quantified::Is(_, body) = of_kind(tags, values, true, u) else {
@@ -41,7 +41,7 @@ fn is_forall_over(tags: &[u32], values: &[u32], t: TermPlace, u: TermPlace) -> b
 }
 
 // The whole pattern at x.
-fn ite_sides(tags: &[u32], values: &[u32], x: TermPlace) -> IteMatched
+fn ite_sides(tags: &[u8], values: &[u32], x: TermPlace) -> IteMatched
     ensures { λ r. ⌜ iteSides (now (tags .entry)) (now (values .entry)) (x .0) ≡ iteIn (now (tags .entry)) (now (values .entry)) r ⌝ }
 {
     let Two::Are(left, right) = equality_at(tags, values, x) else {
@@ -74,7 +74,7 @@ fn ite_sides(tags: &[u32], values: &[u32], x: TermPlace) -> IteMatched
 }
 
 // Rule 6: the conclusion at x.
-pub fn miniscope_ite(tags: &[u32], values: &[u32], n: usize, x: TermPlace) -> Answer
+pub fn miniscope_ite(tags: &[u8], values: &[u32], n: usize, x: TermPlace) -> Answer
     ensures { λ r. ⌜ r ≡ answerOf (miniscopeIte (now (tags .entry)) (now (values .entry)) n (x .0)) ⌝ }
 {
     let IteMatched::At(s) = ite_sides(tags, values, x) else {

@@ -33,7 +33,7 @@ const PAIRS: usize = 4096;
 
 // One operand: the right one at u is the left one at t, or t under a quantifier over outer pairs that are left, which it uses.
 fn split_one(
-    tags: &[u32],
+    tags: &[u8],
     values: &[u32],
     kind: bool,
     outer: &[u32],
@@ -57,7 +57,7 @@ fn split_one(
 
 // The operands one after another, as long as both lists go on.
 fn split_all(
-    tags: &[u32],
+    tags: &[u8],
     values: &[u32],
     kind: bool,
     outer: &[u32],
@@ -90,7 +90,7 @@ fn split_all(
 
 // The same, with every outer pair left at the start.
 fn split(
-    tags: &[u32],
+    tags: &[u8],
     values: &[u32],
     kind: bool,
     outer: &[u32],
@@ -105,7 +105,7 @@ fn split(
 }
 
 // The operands, then 12: no outer pair is free in the right side.
-fn split_sides(tags: &[u32], values: &[u32], n: usize, s: Places) -> Answer
+fn split_sides(tags: &[u8], values: &[u32], n: usize, s: Places) -> Answer
     requires { ⌜ length (pairsOf (now tags) (now values) (s .left .0)) ≤ cellLimit ⌝ }
     ensures { λ r. ⌜ r ≡ answerOf (splitSides (now (tags .entry)) (now (values .entry)) n (sidesAt (now (tags .entry)) (now (values .entry)) s)) ⌝ }
 {
@@ -122,7 +122,7 @@ fn split_sides(tags: &[u32], values: &[u32], n: usize, s: Places) -> Answer
 }
 
 // Rule 5: the conclusion at x.
-pub fn miniscope_split(tags: &[u32], values: &[u32], n: usize, x: TermPlace) -> Answer
+pub fn miniscope_split(tags: &[u8], values: &[u32], n: usize, x: TermPlace) -> Answer
     requires { ⌜ LeftFits (now tags) (now values) (x .0) ⌝ }
     ensures { λ r. ⌜ r ≡ answerOf (miniscopeSplit (now (tags .entry)) (now (values .entry)) n (x .0)) ⌝ }
 {

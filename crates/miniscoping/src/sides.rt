@@ -4,8 +4,8 @@ use formulas::matching::Two;
 use formulas::matching::equality_at;
 use formulas::matching::quantified_at;
 use pool::TermPlace;
-use pool::run::cell;
 use pool::run::operands;
+use pool::tags::tag_at;
 ghost use mathlib.Core.Path.{_≡_};
 ghost use mathlib.Core.Bool.{true, false};
 ghost use lib.ListN.{length};
@@ -30,7 +30,7 @@ pub enum Matched {
 }
 
 // The quantifier at x, if it is of this kind.
-pub(crate) fn of_kind(tags: &[u32], values: &[u32], kind: bool, x: TermPlace) -> Quantified
+pub(crate) fn of_kind(tags: &[u8], values: &[u32], kind: bool, x: TermPlace) -> Quantified
     ensures { λ r. ⌜ andThen (quantifier (now (tags .entry)) (now (values .entry)) (x .0)) (ofKind kind) ≡ quantifierIn (bindingsOf (pairsOf (now (tags .entry)) (now (values .entry)) (x .0))) r ⌝ }
 {
     let Quantified::Is(k, body) = quantified_at(tags, values, x) else {
@@ -43,7 +43,7 @@ pub(crate) fn of_kind(tags: &[u32], values: &[u32], kind: bool, x: TermPlace) ->
 }
 
 // The sides, for a quantifier of this kind and an operator of this tag.
-fn sides_of(tags: &[u32], values: &[u32], kind: bool, tag: u32, x: TermPlace) -> Matched
+fn sides_of(tags: &[u8], values: &[u32], kind: bool, tag: u8, x: TermPlace) -> Matched
     ensures { λ r. ⌜ sidesOf (now (tags .entry)) (now (values .entry)) kind tag (x .0) ≡ sidesIn (now (tags .entry)) (now (values .entry)) r ⌝ }
 {
     let Two::Are(left, right) = equality_at(tags, values, x) else {
@@ -53,11 +53,11 @@ fn sides_of(tags: &[u32], values: &[u32], kind: bool, tag: u32, x: TermPlace) ->
         return Matched::Nothing;
     };
     let body_at = body.0 as usize;
-    if cell(tags, body_at) != tag {
+    if tag_at(tags, body_at) != tag {
         return Matched::Nothing;
     }
     let right_at = right.0 as usize;
-    if cell(tags, right_at) != tag {
+    if tag_at(tags, right_at) != tag {
         return Matched::Nothing;
     }
     Matched::At(Places {
@@ -70,10 +70,10 @@ fn sides_of(tags: &[u32], values: &[u32], kind: bool, tag: u32, x: TermPlace) ->
 
 // The sides, for a forall over the operator of one tag or an exists over that of another.
 pub(crate) fn either_sides(
-    tags: &[u32],
+    tags: &[u8],
     values: &[u32],
-    forall_tag: u32,
-    exists_tag: u32,
+    forall_tag: u8,
+    exists_tag: u8,
     x: TermPlace,
 ) -> Matched
     ensures { λ r. ⌜ orElse (sidesOf (now (tags .entry)) (now (values .entry)) true «forall_tag» (x .0)) (sidesOf (now (tags .entry)) (now (values .entry)) false «exists_tag» (x .0)) ≡ sidesIn (now (tags .entry)) (now (values .entry)) r ⌝ }
@@ -85,7 +85,7 @@ pub(crate) fn either_sides(
 }
 
 // How many operands the term at x has. A header's count is one cell, so that it fits u32.
-pub(crate) fn operand_count(tags: &[u32], values: &[u32], x: TermPlace) -> u32
+pub(crate) fn operand_count(tags: &[u8], values: &[u32], x: TermPlace) -> u32
     ensures { λ r. ⌜ r ≡ length (operandsOf (now (tags .entry)) (now (values .entry)) (x .0)) ⌝ }
 {
     operands(tags, values, x).len() as u32

@@ -37,7 +37,7 @@ pub zero-kept : (n : ℕ) (l l′ : List ℕ) → length l′ ≡ length l → t
 unfolding zeroFrom
 zero-kept n l l′ e k = rw (e, k)
 
-take-same : (n : ℕ) (l l′ : List ℕ) → n ≤ length l → n ≤ length l′ → ((i : ℕ) → i < n → getD l′ i 0 ≡ getD l i 0) → take n l′ ≡ take n l
+pub take-same : (n : ℕ) (l l′ : List ℕ) → n ≤ length l → n ≤ length l′ → ((i : ℕ) → i < n → getD l′ i 0 ≡ getD l i 0) → take n l′ ≡ take n l
 take-same zero l l′ h h′ e = refl
 take-same (suc n) [] l′ h h′ e = absurd (omega arith)
 take-same (suc n) (x ∷ l) [] h h′ e = absurd (omega arith)

@@ -1,6 +1,7 @@
 -- What an accepted normal form or clause list leaves passes the pool check under the same table, if that has Bool for `not`, `and` and `or`.
 -- No other entry matters.
 --     BoolConnectives        such a table; built-in-connectives: the built-in table is one
+--     passed-checks          a pool that passes each check passes the pool check
 --     normal-form-passes     of the normal form's call
 --     clause-list-passes     of the clause list's
 -- Assumes nothing.
@@ -58,7 +59,7 @@ unfolding builtIn
 built-in-connectives = record { for-not = refl; for-and = refl; for-or = refl }
 
 -- ---- a pool that passes each check passes the pool check
-passed-checks : (tags values rules : List ℕ) (n : ℕ) → Passed tags values rules n → checkPool tags values rules n ≡ accepted 0 0
+pub passed-checks : (tags values rules : List ℕ) (n : ℕ) → Passed tags values rules n → checkPool tags values rules n ≡ accepted 0 0
 unfolding checkPool arraysFit checkCells
 passed-checks tags values rules n c =
     rw (

@@ -1,5 +1,6 @@
 -- Check 15 of a pool that grows: where no header repeats an earlier one, none does after a new description is put.
---     repeat-same         two pools whose cells are the same
+--     first-same          a walk over headers finds the same in two pools whose cells are the same
+--     repeat-same         so does check 15
 --     repeat-extended     one more header, whose description does not stand in the pool
 -- Assumes nothing.
 use Prim.Native.Nat.{ℕ, _+_, _-_, _≤_, _<_}
@@ -26,7 +27,7 @@ use Rattle.building.proofs.Interning.{Good, Grows, extend-count}
 -- ---- a walk up to m finds the same, where the tests agree at the headers that fill n
 module _ (values : List ℕ) (n : ℕ) (values′ : List ℕ) (same : (p : ℕ) → p < n → getD values′ p 0 ≡ getD values p 0) (m : ℕ) (within : m ≤ n)
     (test test′ : ℕ → Bool) (agree : (p : ℕ) → p < n → getD values p 0 < n - p → test′ p ≡ test p) where
-  first-same : (p : ℕ) → Fills values n p → firstFrom values′ m test′ p ≡ firstFrom values m test p
+  pub first-same : (p : ℕ) → Fills values n p → firstFrom values′ m test′ p ≡ firstFrom values m test p
   first-same p filled = sym (first-end values′ m test′ _ n refl within) ∙ first-end values m test _ n refl within
   first-same p (more h k f) =
       by-test (leb m p)

@@ -4,6 +4,7 @@ use crate::clausal_forms::ClausalForms;
 use crate::clausal_forms::build_forms;
 use crate::negation_normal_form::build_normal_form;
 use building::build::Built;
+use clauses::clause_list::clear_list;
 use clauses::clause_list::list_clauses;
 use pool::Answer;
 use pool::TermPlace;
@@ -21,7 +22,7 @@ ghost use Rattle.normal_form.specs.ClauseCall.{ClausalBuilt, unlisted, L
 // The normal form of the term at t at a polarity: accepted, its place and the new count. What stands there has the term's value at true
 // polarity, and the negated value at false.
 pub fn normal_form(
-    tags: &mut [u32],
+    tags: &mut [u8],
     values: &mut [u32],
     n: usize,
     t: TermPlace,
@@ -59,7 +60,7 @@ enum Clausal {
 }
 
 // The checks of the term at t, 30, 14, 15, 16 and 17, and its taken-out normal form or 31.
-fn clausal_of(tags: &mut [u32], values: &mut [u32], n: usize, t: TermPlace) -> Clausal
+fn clausal_of(tags: &mut [u8], values: &mut [u32], n: usize, t: TermPlace) -> Clausal
     ensures { λ r. ⌜ ClausalBuilt (now (tags .entry)) (now (values .entry)) builtIn n (t .0) r (now (tags .exit)) (now (values .exit)) ⌝ }
 {
     let mut index = [0u32; INDEX];
@@ -83,7 +84,7 @@ fn refused(answer: Answer) -> Listed
 }
 
 // The new terms are kept if the list is accepted, and cut back if not.
-fn keep_listed(tags: &mut [u32], values: &mut [u32], n: usize, m: usize, answer: Answer) -> Listed
+fn keep_listed(tags: &mut [u8], values: &mut [u32], n: usize, m: usize, answer: Answer) -> Listed
     requires { ⌜ m ≤ cellLimit ⌝ }
     ensures { λ r. ⌜ ListKept n m answer (now (tags .entry)) (now (values .entry)) r (now (tags .exit)) (now (values .exit)) ⌝ }
 {
@@ -101,7 +102,7 @@ fn keep_listed(tags: &mut [u32], values: &mut [u32], n: usize, m: usize, answer:
 // The clause list of the term at t: accepted, its two totals and the new count, with the list in the lent arrays. If no forall is reached,
 // the conjunction of its clauses has the term's value.
 pub fn clause_list(
-    tags: &mut [u32],
+    tags: &mut [u8],
     values: &mut [u32],
     n: usize,
     t: TermPlace,
@@ -123,7 +124,7 @@ pub fn clause_list(
                 return refused(answer);
             }
             cut_back(tags, values, n);
-            cut_back(literals, ends, 0);
+            clear_list(literals, ends);
             refused(answer)
         }
         Clausal::At(x, m) => {

@@ -20,7 +20,7 @@ pub enum ClausalForms {
 
 // Builds both forms of the term at t.
 pub fn build_forms(
-    tags: &mut [u32],
+    tags: &mut [u8],
     values: &mut [u32],
     index: &mut [u32; INDEX],
     n: usize,

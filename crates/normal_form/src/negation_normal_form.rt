@@ -30,7 +30,7 @@ struct Signed(TermPlace, bool);
 
 // The normal form of the term at t at a polarity, put into the pool of n cells.
 fn negation_normal_form(
-    tags: &mut [u32],
+    tags: &mut [u8],
     values: &mut [u32],
     work: &mut [u32; WORK],
     index: &mut [u32; INDEX],
@@ -59,7 +59,7 @@ fn negation_normal_form(
 
 // The same for a term that the memo does not have.
 fn expand(
-    tags: &mut [u32],
+    tags: &mut [u8],
     values: &mut [u32],
     work: &mut [u32; WORK],
     index: &mut [u32; INDEX],
@@ -99,7 +99,7 @@ fn expand(
 
 // The same for a connective: over the normal forms of its operands.
 fn connective_form(
-    tags: &mut [u32],
+    tags: &mut [u8],
     values: &mut [u32],
     work: &mut [u32; WORK],
     index: &mut [u32; INDEX],
@@ -124,7 +124,7 @@ fn connective_form(
 
 // The same for a quantifier: over the normal form of its body.
 fn quantifier_form(
-    tags: &mut [u32],
+    tags: &mut [u8],
     values: &mut [u32],
     work: &mut [u32; WORK],
     index: &mut [u32; INDEX],
@@ -151,7 +151,7 @@ fn quantifier_form(
 
 // The normal forms of the operands of the term at t. The memo then has their places, and the answer's is 0.
 fn operand_forms(
-    tags: &mut [u32],
+    tags: &mut [u8],
     values: &mut [u32],
     work: &mut [u32; WORK],
     index: &mut [u32; INDEX],
@@ -186,7 +186,7 @@ fn operand_forms(
 
 // A pair of the normal forms of a and, at the polarity, of b: their `or`, and their `and` at false polarity.
 fn pair_of(
-    tags: &mut [u32],
+    tags: &mut [u8],
     values: &mut [u32],
     work: &mut [u32; WORK],
     index: &mut [u32; INDEX],
@@ -216,7 +216,7 @@ fn pair_of(
 // The two pairs that an `ite` or an equality becomes: of a, flipped, and b; of c and d. The left pair is whole before the right
 // one begins: the order of the finished term.
 fn two_pairs(
-    tags: &mut [u32],
+    tags: &mut [u8],
     values: &mut [u32],
     work: &mut [u32; WORK],
     index: &mut [u32; INDEX],
@@ -246,7 +246,7 @@ fn two_pairs(
 
 // The normal form of the term at t at a polarity, put into the pool of n cells.
 pub fn build_normal_form(
-    tags: &mut [u32],
+    tags: &mut [u8],
     values: &mut [u32],
     index: &mut [u32; INDEX],
     n: usize,

@@ -18,7 +18,7 @@ ghost use Rattle.building.specs.Walk.{State, Indexed, taken-out, formOf, Formed
 
 // The taken-out form of the term at x, put into the pool of n cells.
 fn prenex_forall(
-    tags: &mut [u32],
+    tags: &mut [u8],
     values: &mut [u32],
     work: &mut [u32; WORK],
     index: &mut [u32; INDEX],
@@ -46,7 +46,7 @@ fn prenex_forall(
 
 // The same for a term that the memo does not have.
 fn take_out(
-    tags: &mut [u32],
+    tags: &mut [u8],
     values: &mut [u32],
     work: &mut [u32; WORK],
     index: &mut [u32; INDEX],
@@ -75,7 +75,7 @@ fn take_out(
 
 // The taken-out forms of the operands of the term at x. The memo then has their places, and the answer's is 0.
 fn operand_forms(
-    tags: &mut [u32],
+    tags: &mut [u8],
     values: &mut [u32],
     work: &mut [u32; WORK],
     index: &mut [u32; INDEX],
@@ -108,7 +108,7 @@ fn operand_forms(
 
 // The taken-out form of the term in normal form at x, put into the pool of n cells.
 pub fn build_taken_out(
-    tags: &mut [u32],
+    tags: &mut [u8],
     values: &mut [u32],
     index: &mut [u32; INDEX],
     n: usize,

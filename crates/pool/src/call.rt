@@ -16,7 +16,7 @@ ghost use Rattle.pool.specs.Check.{checkPool, Indexed, checkTerm};
 ghost use Rattle.pool.specs.Calls.{sortAnswer, FreeVars};
 
 // The pool check under the built-in table.
-pub fn check_pool(tags: &[u32], values: &[u32], n: usize) -> Answer
+pub fn check_pool(tags: &[u8], values: &[u32], n: usize) -> Answer
     ensures { λ r. ⌜ r ≡ checkPool (now (tags .entry)) (now (values .entry)) builtIn n ⌝ }
 {
     let rules = built_in();
@@ -24,7 +24,7 @@ pub fn check_pool(tags: &[u32], values: &[u32], n: usize) -> Answer
 }
 
 // The pool check under the built-in table, and the index of a pool that passes.
-pub fn index_pool(tags: &[u32], values: &[u32], n: usize, index: &mut [u32; INDEX]) -> Answer
+pub fn index_pool(tags: &[u8], values: &[u32], n: usize, index: &mut [u32; INDEX]) -> Answer
     ensures { λ r. ⌜ r ≡ checkPool (now (tags .entry)) (now (values .entry)) builtIn n ⌝ }
     ensures { λ r. ⌜ Indexed (now (tags .entry)) (now (values .entry)) n r (now (index .exit)) ⌝ }
 {
@@ -33,7 +33,7 @@ pub fn index_pool(tags: &[u32], values: &[u32], n: usize, index: &mut [u32; INDE
 }
 
 // The pool check and then 17, under the built-in table.
-pub fn check_term(tags: &[u32], values: &[u32], n: usize, t: TermPlace) -> Answer
+pub fn check_term(tags: &[u8], values: &[u32], n: usize, t: TermPlace) -> Answer
     ensures { λ r. ⌜ r ≡ checkTerm (now (tags .entry)) (now (values .entry)) builtIn n (t .0) ⌝ }
 {
     let rules = built_in();
@@ -42,7 +42,7 @@ pub fn check_term(tags: &[u32], values: &[u32], n: usize, t: TermPlace) -> Answe
 
 // The pool check and then 17, under the built-in table, and the index of a pool whose term passes.
 pub fn index_term(
-    tags: &[u32],
+    tags: &[u8],
     values: &[u32],
     n: usize,
     t: TermPlace,
@@ -56,7 +56,7 @@ pub fn index_term(
 }
 
 // The sort of the term at t: accepted, the sort's place.
-pub fn sort_of_term(tags: &[u32], values: &[u32], n: usize, t: TermPlace) -> Answer
+pub fn sort_of_term(tags: &[u8], values: &[u32], n: usize, t: TermPlace) -> Answer
     ensures { λ r. ⌜ r ≡ sortAnswer (now (tags .entry)) (now (values .entry)) builtIn n (t .0) ⌝ }
 {
     let checked = check_term(tags, values, n, t);
@@ -68,7 +68,7 @@ pub fn sort_of_term(tags: &[u32], values: &[u32], n: usize, t: TermPlace) -> Ans
 }
 
 // The free variables of the term at t: 1 at their places in the lent marks, and 0 elsewhere.
-pub fn free_vars(tags: &[u32], values: &[u32], n: usize, t: TermPlace, marks: &mut [u8]) -> Answer
+pub fn free_vars(tags: &[u8], values: &[u32], n: usize, t: TermPlace, marks: &mut [u8]) -> Answer
     ensures { λ r. ⌜ FreeVars (now (tags .entry)) (now (values .entry)) builtIn n (t .0) (now (marks .entry)) r (now (marks .exit)) ⌝ }
 {
     if marks.len() < n {

@@ -14,7 +14,7 @@ ghost use Prim.Native.Nat.{_≤_};
 ghost use Rattle.pool.specs.Check.{arraysFit, checkCells, checkPool, Indexed, checkTerm};
 
 // Check 30 on the pool's arrays.
-fn arrays_fit(tags: &[u32], values: &[u32], n: usize) -> bool
+fn arrays_fit(tags: &[u8], values: &[u32], n: usize) -> bool
     ensures { λ r. ⌜ r ≡ arraysFit (now (tags .entry)) (now (values .entry)) n ⌝ }
 {
     if tags.len() != values.len() {
@@ -28,7 +28,7 @@ fn arrays_fit(tags: &[u32], values: &[u32], n: usize) -> bool
 
 // Checks 14, 15 and 16, in that order. Check 30 has passed, so a place fits u32.
 fn check_cells(
-    tags: &[u32],
+    tags: &[u8],
     values: &[u32],
     rules: &[u32],
     n: usize,
@@ -55,7 +55,7 @@ fn check_cells(
 
 // The pool check under a lent table of sort rules, 30, 14, 15, 16, and the index of a pool that passes.
 pub fn index_pool_by(
-    tags: &[u32],
+    tags: &[u8],
     values: &[u32],
     rules: &[u32],
     n: usize,
@@ -71,7 +71,7 @@ pub fn index_pool_by(
 }
 
 // The pool check under a lent table of sort rules: 30, 14, 15, 16.
-pub fn check_pool_by(tags: &[u32], values: &[u32], rules: &[u32], n: usize) -> Answer
+pub fn check_pool_by(tags: &[u8], values: &[u32], rules: &[u32], n: usize) -> Answer
     ensures { λ r. ⌜ r ≡ checkPool (now (tags .entry)) (now (values .entry)) (now (rules .entry)) n ⌝ }
 {
     let mut index = [0u32; INDEX];
@@ -80,7 +80,7 @@ pub fn check_pool_by(tags: &[u32], values: &[u32], rules: &[u32], n: usize) -> A
 
 // The pool check and then 17, under a lent table, and the index of a pool whose term passes.
 pub fn index_term_by(
-    tags: &[u32],
+    tags: &[u8],
     values: &[u32],
     rules: &[u32],
     n: usize,
@@ -101,7 +101,7 @@ pub fn index_term_by(
 }
 
 // The pool check and then 17, under a lent table.
-pub fn check_term_by(tags: &[u32], values: &[u32], rules: &[u32], n: usize, t: TermPlace) -> Answer
+pub fn check_term_by(tags: &[u8], values: &[u32], rules: &[u32], n: usize, t: TermPlace) -> Answer
     ensures { λ r. ⌜ r ≡ checkTerm (now (tags .entry)) (now (values .entry)) (now (rules .entry)) n (t .0) ⌝ }
 {
     let mut index = [0u32; INDEX];

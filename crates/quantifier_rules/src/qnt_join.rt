@@ -4,7 +4,7 @@ use formulas::matching::Two;
 use formulas::matching::bindings;
 use formulas::matching::equality_at;
 use formulas::matching::quantified_at;
-use formulas::view::quantifier_tag;
+use formulas::view::carried_tag;
 use pool::Answer;
 use pool::SortPlace;
 use pool::TermPlace;
@@ -91,7 +91,7 @@ pub(crate) fn same_joined(outer: &[u32], inner: &[u32], right: &[u32]) -> bool
 }
 
 // The checks in 01's order.
-pub fn qnt_join(tags: &[u32], values: &[u32], x: TermPlace) -> Answer
+pub fn qnt_join(tags: &[u8], values: &[u32], x: TermPlace) -> Answer
     ensures { λ r. ⌜ r ≡ answerOf (qntJoin (now (tags .entry)) (now (values .entry)) (x .0)) ⌝ }
 {
     let Two::Are(l, r) = equality_at(tags, values, x) else {
@@ -107,10 +107,10 @@ pub fn qnt_join(tags: &[u32], values: &[u32], x: TermPlace) -> Answer
         return Answer::refused(3, r.0, 0);
     };
     if kind != inner_kind {
-        return Answer::refused(4, quantifier_tag(kind), quantifier_tag(inner_kind));
+        return Answer::refused(4, carried_tag(kind), carried_tag(inner_kind));
     }
     if inner_kind != right_kind {
-        return Answer::refused(4, quantifier_tag(inner_kind), quantifier_tag(right_kind));
+        return Answer::refused(4, carried_tag(inner_kind), carried_tag(right_kind));
     }
     if inner_body.0 != right_body.0 {
         return Answer::refused(5, inner_body.0, right_body.0);

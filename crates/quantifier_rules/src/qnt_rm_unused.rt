@@ -4,7 +4,7 @@ use formulas::matching::Two;
 use formulas::matching::bindings;
 use formulas::matching::equality_at;
 use formulas::matching::quantified_at;
-use formulas::view::quantifier_tag;
+use formulas::view::carried_tag;
 use pool::Answer;
 use pool::TermPlace;
 use pool::binding::FirstName;
@@ -19,7 +19,7 @@ ghost use Rattle.quantifier_rules.specs.QntRmUnused.{removes, bodyOr, qn
 
 // The checks of the right side at x, the left quantifier given by its kind, list and body.
 fn removes(
-    tags: &[u32],
+    tags: &[u8],
     values: &[u32],
     n: usize,
     kind: bool,
@@ -33,7 +33,7 @@ fn removes(
         return Answer::refused(3, x.0, 0);
     };
     if kind != right_kind {
-        return Answer::refused(4, quantifier_tag(kind), quantifier_tag(right_kind));
+        return Answer::refused(4, carried_tag(kind), carried_tag(right_kind));
     }
     if body.0 != right_body.0 {
         return Answer::refused(5, body.0, right_body.0);
@@ -50,7 +50,7 @@ fn removes(
 
 // Accepts the left body as right side if no left variable is free in it, else checks the right side at x.
 fn body_or(
-    tags: &[u32],
+    tags: &[u8],
     values: &[u32],
     n: usize,
     kind: bool,
@@ -70,7 +70,7 @@ fn body_or(
 }
 
 // The checks in 01's order.
-pub fn qnt_rm_unused(tags: &[u32], values: &[u32], n: usize, x: TermPlace) -> Answer
+pub fn qnt_rm_unused(tags: &[u8], values: &[u32], n: usize, x: TermPlace) -> Answer
     ensures { λ r. ⌜ r ≡ answerOf (qntRmUnused (now (tags .entry)) (now (values .entry)) n (x .0)) ⌝ }
 {
     let Two::Are(l, r) = equality_at(tags, values, x) else {

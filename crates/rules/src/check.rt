@@ -53,7 +53,7 @@ fn carried(k: usize) -> u32
 }
 
 // The rule of a code other than 3 on the conclusion at x, which has passed its checks: these rules build nothing.
-fn apply_reading(tags: &[u32], values: &[u32], n: usize, rule: u32, x: TermPlace) -> Answer
+fn apply_reading(tags: &[u8], values: &[u32], n: usize, rule: u32, x: TermPlace) -> Answer
     requires { ⌜ (rule ≡ 3 → ⊥) ⌝ }
     requires { ⌜ checkTerm (now tags) (now values) builtIn n (x .0) .code ≡ 0 ⌝ }
     ensures { λ r. ⌜ r ≡ answerOf (ruleOutcome (now (tags .entry)) (now (values .entry)) n rule (x .0)) ⌝ }
@@ -75,7 +75,7 @@ fn apply_reading(tags: &[u32], values: &[u32], n: usize, rule: u32, x: TermPlace
 
 // The rule of a code on the conclusion at x, which has passed its checks. Rule 3 leaves zeroes past the count.
 fn apply(
-    tags: &mut [u32],
+    tags: &mut [u8],
     values: &mut [u32],
     index: &mut [u32; INDEX],
     n: usize,
@@ -94,7 +94,7 @@ fn apply(
 }
 
 // The checks before the rule, after the pool check, whose answer is `checked`: the refusal, or an acceptance.
-fn before_rule(checked: Answer, tags: &[u32], n: usize, rule: u32, conclusion: &[u32]) -> Answer
+fn before_rule(checked: Answer, tags: &[u8], n: usize, rule: u32, conclusion: &[u32]) -> Answer
     ensures { λ r. ⌜ r ≡ beforeRule (now (tags .entry)) n rule (now (conclusion .entry)) checked ⌝ }
 {
     if checked.code != 0 {
@@ -117,7 +117,7 @@ fn before_rule(checked: Answer, tags: &[u32], n: usize, rule: u32, conclusion: &
 // once.
 pub fn check_after(
     checked: Answer,
-    tags: &mut [u32],
+    tags: &mut [u8],
     values: &mut [u32],
     index: &mut [u32; INDEX],
     count: usize,
@@ -146,7 +146,7 @@ pub fn check_after(
 
 // The check of a step whose conclusion is given by its places. Rule 3 builds: it leaves zeroes past the count, with every answer but 30.
 pub fn check(
-    tags: &mut [u32],
+    tags: &mut [u8],
     values: &mut [u32],
     count: usize,
     rule: u32,

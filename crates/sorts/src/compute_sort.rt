@@ -21,15 +21,16 @@ use cells::tags::LAMBDA;
 use cells::tags::LET;
 use cells::tags::TRUE;
 use cells::tags::VARIABLE;
+use cells::tags::tag_at;
 ghost use mathlib.Core.Path.{_≡_};
 ghost use mathlib.Core.Bool.{not, _&&_};
-ghost use Prim.Native.Nat.{_-_, _≤_};
+ghost use Prim.Native.Nat.{_+_, _-_, _≤_, _<_};
 ghost use lib.ListN.{getD};
 ghost use Rattle.headers.specs.WellFormed.{isTermTag};
 ghost use Rattle.sorts.specs.SortRule.{isSort, specialOf, firstSort, byRule, choice, statesSort, firstWrongSort};
 
 // The special rule of an operator code. 01: "special sort rules are decided by operator code".
-fn special_of(op: u32) -> Special
+fn special_of(op: u8) -> Special
     ensures { λ r. ⌜ r ≡ specialOf op ⌝ }
 {
     match op {
@@ -53,7 +54,7 @@ fn special_of(op: u32) -> Special
 }
 
 // The first operand's sort.
-fn first_sort(tags: &[u32], values: &[u32], s: SortPlace, os: &[u32]) -> bool
+fn first_sort(tags: &[u8], values: &[u32], s: SortPlace, os: &[u32]) -> bool
     ensures { λ r. ⌜ r ≡ isSort (now (tags .entry)) (now (values .entry)) (s .0) (firstSort (now (values .entry)) (now (os .entry))) ⌝ }
 {
     if os.len() == 0 {
@@ -63,14 +64,22 @@ fn first_sort(tags: &[u32], values: &[u32], s: SortPlace, os: &[u32]) -> bool
     s.0 == sort.0
 }
 
+// The tag of the sort that rules 0 to 4 give.
+fn plain_tag(rule: u32) -> u8
+    requires { ⌜ rule < 5 ⌝ }
+    ensures { λ r. ⌜ r ≡ rule + 1 ⌝ }
+{
+    rule as u8 + 1
+}
+
 // Whether the sort at s is the one that a rule of the table gives the operands of an operator. Rules 0 to 4 are the sorts with tags
 // 1 to 5, 5 is the first operand's, 6 the second's, and above that the operator's own.
-fn by_rule(tags: &[u32], values: &[u32], s: SortPlace, rule: u32, op: u32, os: &[u32]) -> bool
+fn by_rule(tags: &[u8], values: &[u32], s: SortPlace, rule: u32, op: u8, os: &[u32]) -> bool
     ensures { λ r. ⌜ r ≡ isSort (now (tags .entry)) (now (values .entry)) (s .0)
         (byRule (now (tags .entry)) (now (values .entry)) rule op (now (os .entry))) ⌝ }
 {
     if rule < 5 {
-        return is_plain(tags, values, s, rule + 1);
+        return is_plain(tags, values, s, plain_tag(rule));
     }
     if rule == 5 {
         return first_sort(tags, values, s, os);
@@ -85,7 +94,7 @@ fn by_rule(tags: &[u32], values: &[u32], s: SortPlace, rule: u32, op: u32, os: &
 }
 
 // The rule of an operator, and 7 past the end of the table.
-fn rule_of(rules: &[u32], op: u32) -> u32
+fn rule_of(rules: &[u32], op: u8) -> u32
     ensures { λ r. ⌜ r ≡ getD (now (rules .entry)) op 7 ⌝ }
 {
     let at = op as usize;
@@ -93,7 +102,7 @@ fn rule_of(rules: &[u32], op: u32) -> u32
 }
 
 // choice: its first variable's sort. `os` is the binder's run: the body, and then the pairs.
-fn choice(tags: &[u32], values: &[u32], s: SortPlace, os: &[u32]) -> bool
+fn choice(tags: &[u8], values: &[u32], s: SortPlace, os: &[u32]) -> bool
     ensures { λ r. ⌜ r ≡ isSort (now (tags .entry)) (now (values .entry)) (s .0) (choice (now (os .entry))) ⌝ }
 {
     if os.len() < 3 {
@@ -103,10 +112,10 @@ fn choice(tags: &[u32], values: &[u32], s: SortPlace, os: &[u32]) -> bool
 }
 
 // How far the tag of a constant stands after its sort's.
-const TO_CONSTANT: u32 = 14;
+const TO_CONSTANT: u8 = 14;
 
 // How far a tag stands after another, and 0 before it.
-fn after(tag: u32, first: u32) -> u32
+fn after(tag: u8, first: u8) -> u8
     ensures { λ r. ⌜ r ≡ tag - first ⌝ }
 {
     if tag < first { 0 } else { tag - first }
@@ -114,11 +123,11 @@ fn after(tag: u32, first: u32) -> u32
 
 // Whether the term at t states the sort that `compute_sort` gives by this table of rules. A constant's tag is `TO_CONSTANT` above its sort's, a
 // variable's sort is the one it states, a quantifier's is Bool, and a let's its body's.
-pub fn states_sort(tags: &[u32], values: &[u32], rules: &[u32], t: TermPlace) -> bool
+pub fn states_sort(tags: &[u8], values: &[u32], rules: &[u32], t: TermPlace) -> bool
     ensures { λ r. ⌜ r ≡ statesSort (now (tags .entry)) (now (values .entry)) (now (rules .entry)) (t .0) ⌝ }
 {
     let at = t.0 as usize;
-    let tag = run::cell(tags, at);
+    let tag = tag_at(tags, at);
     let s = run::sort_of(values, TermPlace(t.0));
     if tag < BIT_VECTOR {
         return is_plain(tags, values, s, after(tag, TO_CONSTANT));
@@ -150,18 +159,18 @@ pub fn states_sort(tags: &[u32], values: &[u32], rules: &[u32], t: TermPlace) ->
 }
 
 // Whether the header at t is a term's with the wrong sort.
-fn states_wrong(tags: &[u32], values: &[u32], rules: &[u32], t: TermPlace) -> bool
+fn states_wrong(tags: &[u8], values: &[u32], rules: &[u32], t: TermPlace) -> bool
     ensures { λ r. ⌜ r ≡ (isTermTag (getD (now (tags .entry)) (t .0) 0) && not (statesSort (now (tags .entry)) (now (values .entry)) (now (rules .entry)) (t .0))) ⌝ }
 {
     let at = t.0 as usize;
-    if run::cell(tags, at) < INTEGER {
+    if tag_at(tags, at) < INTEGER {
         return false;
     }
     !states_sort(tags, values, rules, t)
 }
 
 // 01, "16 wrong sort (the first place)". A place is a u32, so the count must fit one.
-pub fn first_wrong_sort(tags: &[u32], values: &[u32], rules: &[u32], n: usize) -> Found
+pub fn first_wrong_sort(tags: &[u8], values: &[u32], rules: &[u32], n: usize) -> Found
     requires { ⌜ n ≤ 4294967295 ⌝ }
     ensures { λ r. ⌜ r ≡ firstWrongSort (now (tags .entry)) (now (values .entry)) (now (rules .entry)) n ⌝ }
 {

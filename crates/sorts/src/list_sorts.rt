@@ -8,6 +8,7 @@ use cells::run;
 use cells::tags::FUNCTION;
 use cells::tags::SET;
 use cells::tags::TUPLE;
+use cells::tags::tag_at;
 ghost use mathlib.Core.Path.{_≡_};
 ghost use mathlib.Core.Bool.{_&&_};
 ghost use mathlib.Core.List.{[], _∷_, _++_, map, reverse, dropLast};
@@ -121,22 +122,22 @@ fn same_joined(a: &[u32], left: &[u32], right: &[u32]) -> bool
 
 // ---- tuples and functions
 // A tuple: the Tuple of its operands' sorts.
-fn tuple_of(tags: &[u32], values: &[u32], s: SortPlace, os: &[u32]) -> bool
+fn tuple_of(tags: &[u8], values: &[u32], s: SortPlace, os: &[u32]) -> bool
     ensures { λ r. ⌜ r ≡ isSort (now (tags .entry)) (now (values .entry)) (s .0) (made 13 (map (sortOf (now (values .entry))) (now (os .entry)))) ⌝ }
 {
     let at = s.0 as usize;
-    if run::cell(tags, at) != TUPLE {
+    if tag_at(tags, at) != TUPLE {
         return false;
     }
     same_sorts(values, run::cells(values, at), os)
 }
 
 // A lambda: the Function of its variables' sorts and its body's. The run is the body and then the pairs of name and sort.
-fn lambda(tags: &[u32], values: &[u32], s: SortPlace, os: &[u32]) -> bool
+fn lambda(tags: &[u8], values: &[u32], s: SortPlace, os: &[u32]) -> bool
     ensures { λ r. ⌜ r ≡ isSort (now (tags .entry)) (now (values .entry)) (s .0) (lambda (now (values .entry)) (now (os .entry))) ⌝ }
 {
     let at = s.0 as usize;
-    if run::cell(tags, at) != FUNCTION {
+    if tag_at(tags, at) != FUNCTION {
         return false;
     }
     let entries = run::cells(values, at);
@@ -152,7 +153,7 @@ fn lambda(tags: &[u32], values: &[u32], s: SortPlace, os: &[u32]) -> bool
 }
 
 // m arguments to a Function with these entries: to one fewer, the last entry, else the Function of the entries that are left.
-fn apply(tags: &[u32], values: &[u32], s: SortPlace, m: usize, entries: &[u32]) -> bool
+fn apply(tags: &[u8], values: &[u32], s: SortPlace, m: usize, entries: &[u32]) -> bool
     ensures { λ r. ⌜ r ≡ isSort (now (tags .entry)) (now (values .entry)) (s .0) (apply m (now (entries .entry))) ⌝ }
 {
     let rest = past(entries, m);
@@ -167,7 +168,7 @@ fn apply(tags: &[u32], values: &[u32], s: SortPlace, m: usize, entries: &[u32]) 
 }
 
 // An application: the run is the function and then its arguments.
-fn application(tags: &[u32], values: &[u32], s: SortPlace, os: &[u32]) -> bool
+fn application(tags: &[u8], values: &[u32], s: SortPlace, os: &[u32]) -> bool
     ensures { λ r. ⌜ r ≡ isSort (now (tags .entry)) (now (values .entry)) (s .0) (application (now (tags .entry)) (now (values .entry)) (now (os .entry))) ⌝ }
 {
     if os.len() == 0 {
@@ -175,7 +176,7 @@ fn application(tags: &[u32], values: &[u32], s: SortPlace, os: &[u32]) -> bool
     }
     let function = run::sort_of(values, TermPlace(os[0]));
     let at = function.0 as usize;
-    if run::cell(tags, at) != FUNCTION {
+    if tag_at(tags, at) != FUNCTION {
         return false;
     }
     apply(tags, values, s, os.len() - 1, run::cells(values, at))
@@ -183,16 +184,16 @@ fn application(tags: &[u32], values: &[u32], s: SortPlace, os: &[u32]) -> bool
 
 // ---- relations, Sets of Tuples
 // Whether the sort that the term at o states is a relation.
-fn is_relation(tags: &[u32], values: &[u32], o: TermPlace) -> bool
+fn is_relation(tags: &[u8], values: &[u32], o: TermPlace) -> bool
     ensures { λ r. ⌜ r ≡ isRelation (now (tags .entry)) (now (values .entry)) (o .0) ⌝ }
 {
     let set = run::sort_of(values, o);
     let at = set.0 as usize;
-    if run::cell(tags, at) != SET {
+    if tag_at(tags, at) != SET {
         return false;
     }
     let part = run::cell(values, at + 1) as usize;
-    run::cell(tags, part) == TUPLE
+    tag_at(tags, part) == TUPLE
 }
 
 // The cells of the sort that the Set at s is of.
@@ -212,7 +213,7 @@ fn relation_sorts<'a>(values: &'a [u32], o: TermPlace) -> &'a [u32]
 }
 
 // Whether the sort at s is a Set of a Tuple and has no other cell.
-fn is_tuple_set(tags: &[u32], values: &[u32], s: SortPlace) -> bool
+fn is_tuple_set(tags: &[u8], values: &[u32], s: SortPlace) -> bool
     ensures { λ r. ⌜ r ≡ (isAt (now (tags .entry)) (now (values .entry)) (s .0) 12 (getD (now (values .entry)) (s .0 + 1) 0 ∷ []) && eqb (getD (now (tags .entry)) (getD (now (values .entry)) (s .0 + 1) 0) 0) 13) ⌝ }
 {
     let at = s.0 as usize;
@@ -220,11 +221,11 @@ fn is_tuple_set(tags: &[u32], values: &[u32], s: SortPlace) -> bool
     if !is_at(tags, values, at, SET, &[part]) {
         return false;
     }
-    run::cell(tags, part as usize) == TUPLE
+    tag_at(tags, part as usize) == TUPLE
 }
 
 // Whether the sort at s is the relation of these sorts in reverse.
-fn is_reversed(tags: &[u32], values: &[u32], s: SortPlace, sorts: &[u32]) -> bool
+fn is_reversed(tags: &[u8], values: &[u32], s: SortPlace, sorts: &[u32]) -> bool
     ensures { λ r. ⌜ r ≡ isSort (now (tags .entry)) (now (values .entry)) (s .0) (relation (reverse (now (sorts .entry)))) ⌝ }
 {
     let set = s.0;
@@ -235,7 +236,7 @@ fn is_reversed(tags: &[u32], values: &[u32], s: SortPlace, sorts: &[u32]) -> boo
 }
 
 // Whether the sort at s is the relation of the sorts of left and then those of right.
-fn is_joined(tags: &[u32], values: &[u32], s: SortPlace, left: &[u32], right: &[u32]) -> bool
+fn is_joined(tags: &[u8], values: &[u32], s: SortPlace, left: &[u32], right: &[u32]) -> bool
     ensures { λ r. ⌜ r ≡ isSort (now (tags .entry)) (now (values .entry)) (s .0) (relation (now (left .entry) ++ now (right .entry))) ⌝ }
 {
     let set = s.0;
@@ -246,7 +247,7 @@ fn is_joined(tags: &[u32], values: &[u32], s: SortPlace, left: &[u32], right: &[
 }
 
 // RelTranspose: the sorts reversed.
-fn transpose(tags: &[u32], values: &[u32], s: SortPlace, os: &[u32]) -> bool
+fn transpose(tags: &[u8], values: &[u32], s: SortPlace, os: &[u32]) -> bool
     ensures { λ r. ⌜ r ≡ isSort (now (tags .entry)) (now (values .entry)) (s .0) (transpose (now (tags .entry)) (now (values .entry)) (now (os .entry))) ⌝ }
 {
     if os.len() == 0 {
@@ -259,7 +260,7 @@ fn transpose(tags: &[u32], values: &[u32], s: SortPlace, os: &[u32]) -> bool
 }
 
 // RelJoin: the left's sorts but the last, then the right's but the first, of which there must be one.
-fn join(tags: &[u32], values: &[u32], s: SortPlace, os: &[u32]) -> bool
+fn join(tags: &[u8], values: &[u32], s: SortPlace, os: &[u32]) -> bool
     ensures { λ r. ⌜ r ≡ isSort (now (tags .entry)) (now (values .entry)) (s .0) (join (now (tags .entry)) (now (values .entry)) (now (os .entry))) ⌝ }
 {
     if os.len() < 2 {
@@ -285,7 +286,7 @@ fn join(tags: &[u32], values: &[u32], s: SortPlace, os: &[u32]) -> bool
 }
 
 // RelProduct: the left's sorts, then the right's.
-fn product(tags: &[u32], values: &[u32], s: SortPlace, os: &[u32]) -> bool
+fn product(tags: &[u8], values: &[u32], s: SortPlace, os: &[u32]) -> bool
     ensures { λ r. ⌜ r ≡ isSort (now (tags .entry)) (now (values .entry)) (s .0) (product (now (tags .entry)) (now (values .entry)) (now (os .entry))) ⌝ }
 {
     if os.len() < 2 {
@@ -308,7 +309,7 @@ fn product(tags: &[u32], values: &[u32], s: SortPlace, os: &[u32]) -> bool
 
 // ---- any of the rules
 // Whether the sort at s is the one that a rule gives.
-pub fn by_list(tags: &[u32], values: &[u32], s: SortPlace, rule: ListRule, os: &[u32]) -> bool
+pub fn by_list(tags: &[u8], values: &[u32], s: SortPlace, rule: ListRule, os: &[u32]) -> bool
     ensures { λ r. ⌜ r ≡ isSort (now (tags .entry)) (now (values .entry)) (s .0)
         (byList (now (tags .entry)) (now (values .entry)) rule (now (os .entry))) ⌝ }
 {

@@ -6,7 +6,7 @@ ghost use mathlib.Core.List.{[], _∷_};
 ghost use Rattle.cells.specs.Cell.{isAt};
 
 // Whether the sort at s has this tag and no parts.
-pub fn is_plain(tags: &[u32], values: &[u32], s: SortPlace, tag: u32) -> bool
+pub fn is_plain(tags: &[u8], values: &[u32], s: SortPlace, tag: u8) -> bool
     ensures { λ r. ⌜ r ≡ isAt (now (tags .entry)) (now (values .entry)) (s .0) tag [] ⌝ }
 {
     let at = s.0 as usize;
@@ -14,7 +14,7 @@ pub fn is_plain(tags: &[u32], values: &[u32], s: SortPlace, tag: u32) -> bool
 }
 
 // Whether the sort at s has this tag and this one part.
-pub fn is_single(tags: &[u32], values: &[u32], s: SortPlace, tag: u32, part: u32) -> bool
+pub fn is_single(tags: &[u8], values: &[u32], s: SortPlace, tag: u8, part: u32) -> bool
     ensures { λ r. ⌜ r ≡ isAt (now (tags .entry)) (now (values .entry)) (s .0) tag (part ∷ []) ⌝ }
 {
     let at = s.0 as usize;

@@ -16,6 +16,7 @@ use cells::tags::PARAM_BIT_VEC;
 use cells::tags::REAL;
 use cells::tags::SET;
 use cells::tags::TUPLE;
+use cells::tags::tag_at;
 ghost use Prim.Native.Nat.{_+_};
 ghost use mathlib.Core.Path.{_≡_};
 ghost use mathlib.Core.Bool.{false, cond};
@@ -26,16 +27,16 @@ ghost use Rattle.cells.specs.Cell.{sortOf, isAt};
 ghost use Rattle.sorts.specs.SortRule.{isSort, made, lastSort, sortTag, anyReal, selected, bitVector, concatFrom, bvConst, rareList, singleton, bySpecial};
 
 // The tag of the sort that the term at o states.
-fn sort_tag(tags: &[u32], values: &[u32], o: TermPlace) -> u32
+fn sort_tag(tags: &[u8], values: &[u32], o: TermPlace) -> u8
     ensures { λ r. ⌜ r ≡ sortTag (now (tags .entry)) (now (values .entry)) (o .0) ⌝ }
 {
     let sort = run::sort_of(values, o);
     let at = sort.0 as usize;
-    run::cell(tags, at)
+    tag_at(tags, at)
 }
 
 // The last operand's sort.
-fn last_sort(tags: &[u32], values: &[u32], s: SortPlace, os: &[u32]) -> bool
+fn last_sort(tags: &[u8], values: &[u32], s: SortPlace, os: &[u32]) -> bool
     ensures { λ r. ⌜ r ≡ isSort (now (tags .entry)) (now (values .entry)) (s .0) (lastSort (now (values .entry)) (now (os .entry))) ⌝ }
 {
     if os.len() == 0 {
@@ -46,7 +47,7 @@ fn last_sort(tags: &[u32], values: &[u32], s: SortPlace, os: &[u32]) -> bool
 }
 
 // Whether an operand is Real.
-fn any_real(tags: &[u32], values: &[u32], os: &[u32]) -> bool
+fn any_real(tags: &[u8], values: &[u32], os: &[u32]) -> bool
     ensures { λ r. ⌜ r ≡ anyReal (now (tags .entry)) (now (values .entry)) (now (os .entry)) ⌝ }
 {
     let mut i: usize = 0;
@@ -60,7 +61,7 @@ fn any_real(tags: &[u32], values: &[u32], os: &[u32]) -> bool
 }
 
 // Add, Sub, Mult: Real if an operand is Real, else Int.
-fn arithmetic(tags: &[u32], values: &[u32], s: SortPlace, os: &[u32]) -> bool
+fn arithmetic(tags: &[u8], values: &[u32], s: SortPlace, os: &[u32]) -> bool
     ensures { λ r. ⌜ r ≡ isSort (now (tags .entry)) (now (values .entry)) (s .0)
         (made (cond (anyReal (now (tags .entry)) (now (values .entry)) (now (os .entry))) 3 2) []) ⌝ }
 {
@@ -71,7 +72,7 @@ fn arithmetic(tags: &[u32], values: &[u32], s: SortPlace, os: &[u32]) -> bool
 }
 
 // Select: the second sort of the first operand's Array.
-fn selected(tags: &[u32], values: &[u32], s: SortPlace, os: &[u32]) -> bool
+fn selected(tags: &[u8], values: &[u32], s: SortPlace, os: &[u32]) -> bool
     ensures { λ r. ⌜ r ≡ isSort (now (tags .entry)) (now (values .entry)) (s .0)
         (selected (now (tags .entry)) (now (values .entry)) (now (os .entry))) ⌝ }
 {
@@ -87,7 +88,7 @@ fn selected(tags: &[u32], values: &[u32], s: SortPlace, os: &[u32]) -> bool
 }
 
 // A bit-vector operation: the sort of the first operand that isn't ParamBitVec, which must be BitVec.
-fn bit_vector(tags: &[u32], values: &[u32], s: SortPlace, os: &[u32]) -> bool
+fn bit_vector(tags: &[u8], values: &[u32], s: SortPlace, os: &[u32]) -> bool
     ensures { λ r. ⌜ r ≡ isSort (now (tags .entry)) (now (values .entry)) (s .0)
         (bitVector (now (tags .entry)) (now (values .entry)) (now (os .entry))) ⌝ }
 {
@@ -127,7 +128,7 @@ fn add_width(width: u64, more: u32) -> u64
 }
 
 // BvConcat: ParamBitVec if an operand is that, else the sum of the widths, if it fits u32.
-fn concat(tags: &[u32], values: &[u32], s: SortPlace, os: &[u32]) -> bool
+fn concat(tags: &[u8], values: &[u32], s: SortPlace, os: &[u32]) -> bool
     ensures { λ r. ⌜ r ≡ isSort (now (tags .entry)) (now (values .entry)) (s .0)
         (concatFrom (now (tags .entry)) (now (values .entry)) 0 false (now (os .entry))) ⌝ }
 {
@@ -157,7 +158,7 @@ fn concat(tags: &[u32], values: &[u32], s: SortPlace, os: &[u32]) -> bool
 }
 
 // BvConst: the width is the second operand, where that is an integer.
-fn bv_const(tags: &[u32], values: &[u32], s: SortPlace, os: &[u32]) -> bool
+fn bv_const(tags: &[u8], values: &[u32], s: SortPlace, os: &[u32]) -> bool
     ensures { λ r. ⌜ r ≡ isSort (now (tags .entry)) (now (values .entry)) (s .0)
         (bvConst (now (tags .entry)) (now (values .entry)) (now (os .entry))) ⌝ }
 {
@@ -165,14 +166,14 @@ fn bv_const(tags: &[u32], values: &[u32], s: SortPlace, os: &[u32]) -> bool
         return false;
     }
     let at = os[1] as usize;
-    if run::cell(tags, at) == INTEGER {
+    if tag_at(tags, at) == INTEGER {
         return is_single(tags, values, s, BIT_VEC, run::cell(values, at + 2));
     }
     is_plain(tags, values, s, PARAM_BIT_VEC)
 }
 
 // RareList: the first operand's sort, and Var of name 0, which is "?", where there is none.
-fn rare_list(tags: &[u32], values: &[u32], s: SortPlace, os: &[u32]) -> bool
+fn rare_list(tags: &[u8], values: &[u32], s: SortPlace, os: &[u32]) -> bool
     ensures { λ r. ⌜ r ≡ isSort (now (tags .entry)) (now (values .entry)) (s .0) (rareList (now (values .entry)) (now (os .entry))) ⌝ }
 {
     if os.len() == 0 {
@@ -183,7 +184,7 @@ fn rare_list(tags: &[u32], values: &[u32], s: SortPlace, os: &[u32]) -> bool
 }
 
 // SetSingleton: the Set of the first operand's sort.
-fn singleton(tags: &[u32], values: &[u32], s: SortPlace, os: &[u32]) -> bool
+fn singleton(tags: &[u8], values: &[u32], s: SortPlace, os: &[u32]) -> bool
     ensures { λ r. ⌜ r ≡ isSort (now (tags .entry)) (now (values .entry)) (s .0) (singleton (now (values .entry)) (now (os .entry))) ⌝ }
 {
     if os.len() == 0 {
@@ -195,11 +196,11 @@ fn singleton(tags: &[u32], values: &[u32], s: SortPlace, os: &[u32]) -> bool
 
 // Whether the sort at s is BitVec with as many bits as there are operands. The width is compared as an index, since a count of
 // operands may not fit a cell.
-fn bit_count(tags: &[u32], values: &[u32], s: SortPlace, os: &[u32]) -> bool
+fn bit_count(tags: &[u8], values: &[u32], s: SortPlace, os: &[u32]) -> bool
     ensures { λ r. ⌜ r ≡ isAt (now (tags .entry)) (now (values .entry)) (s .0) 7 (length (now (os .entry)) ∷ []) ⌝ }
 {
     let at = s.0 as usize;
-    if run::cell(tags, at) != BIT_VEC {
+    if tag_at(tags, at) != BIT_VEC {
         return false;
     }
     let parts = run::cells(values, at);
@@ -210,7 +211,7 @@ fn bit_count(tags: &[u32], values: &[u32], s: SortPlace, os: &[u32]) -> bool
 }
 
 // Whether the sort at s is the one that a special rule gives.
-pub fn by_special(tags: &[u32], values: &[u32], s: SortPlace, special: Special, os: &[u32]) -> bool
+pub fn by_special(tags: &[u8], values: &[u32], s: SortPlace, special: Special, os: &[u32]) -> bool
     ensures { λ r. ⌜ r ≡ isSort (now (tags .entry)) (now (values .entry)) (s .0)
         (bySpecial (now (tags .entry)) (now (values .entry)) special (now (os .entry))) ⌝ }
 {

@@ -1,11 +1,12 @@
 -- What the functions of `lines` ask of their arguments.
--- Rests on answers' struct `Answer`, on sorts' Table, on pool's Check, and on StepFile.
+-- Rests on answers' struct `Answer`, on sorts' Table, on pool's Check, on tag_layouts' Narrowed, and on StepFile.
 use Prim.Native.Nat.{ℕ, _≤_}
 use mathlib.Core.Path.{_≡_}
 use mathlib.Core.List.{List}
 use Rattle.sorts.specs.Table.{builtIn}
 use Rattle.pool.specs.Check.{checkPool}
 use Rattle.answers.specs.declared.Answer.{Answer}
+use Rattle.tag_layouts.specs.Narrowed.{narrowed}
 use Rattle.step_files.specs.StepFile.{cellCount, stepCount, fileTags, fileValues}
 
 module _ (bytes : List ℕ) (n steps room : ℕ) where
@@ -17,9 +18,9 @@ module _ (bytes : List ℕ) (n steps room : ℕ) where
     pub steps-fit : steps ≤ 256
     pub text-fits : 11264 ≤ room
 
-  -- the arrays are the file's, and the pool check over them has answered `checked`
+  -- the arrays are the file's, the tags as bytes, and the pool check over them has answered `checked`
   pub record Ready (checked : Answer) (tags values : List ℕ) : Type 0 where
     pub sized : Sized
-    pub tags-are : tags ≡ fileTags bytes
+    pub tags-are : tags ≡ narrowed (fileTags bytes)
     pub values-are : values ≡ fileValues bytes
     pub checked-is : checked ≡ checkPool tags values builtIn n

@@ -1,18 +1,21 @@
 // The steps of a file of the right length, answered one after another over one pool.
 ghost use Prim.Native.Nat.{_≤_};
 ghost use mathlib.Core.Path.{_≡_};
-ghost use lib.ListN.{length};
+ghost use lib.ListN.{length, getD};
 ghost use Rattle.pool.specs.Check.{Indexed};
+ghost use Rattle.tag_layouts.specs.Narrowed.{narrow, narrowed};
 ghost use Rattle.step_files.specs.StepFile.{cellsFrom, lines};
 ghost use Rattle.step_files.specs.Steps.{Sized, Ready};
 ghost use Rattle.step_files.specs.Text.{LinePut};
 use crate::answer_lines::put_line;
 use crate::words::read_words;
 use crate::words::word;
+use crate::words::word_after;
 use pool::Answer;
 use pool::call::index_pool;
 use pool::description::zero_from;
 use rules::check::check_after;
+use tag_layouts::narrowing::byte_of;
 
 pub(crate) fn wide(x: u32) -> usize
     ensures { λ r. ⌜ r ≡ x ⌝ }
@@ -30,11 +33,34 @@ fn read_cells(input: &[u8], start: usize, n: usize, cells: &mut [u32])
     read_words(input, start, &mut cells[..n]);
 }
 
+// The byte of tag i of the n that stand in the file from position start on, and 0 past them.
+fn tag_of(input: &[u8], start: usize, n: usize, i: usize) -> u8
+    ensures { λ r. ⌜ r ≡ narrow (getD (cellsFrom (now (input .entry)) start n) i 0) ⌝ }
+{
+    if n <= i {
+        return 0;
+    }
+    byte_of(word_after(input, start, i))
+}
+
+// Reads n tags of the file from position start on, each as a byte, with zeroes after them.
+fn read_tags(input: &[u8], start: usize, n: usize, tags: &mut [u8])
+    requires { ⌜ n ≤ 8192 ⌝ }
+    requires { ⌜ length (now tags) ≡ 8192 ⌝ }
+    ensures { λ _. ⌜ now (tags .exit) ≡ narrowed (cellsFrom (now (input .entry)) start n) ⌝ }
+{
+    let mut i = 0;
+    while i < tags.len() {
+        tags[i] = tag_of(input, start, n, i);
+        i += 1;
+    }
+}
+
 // The line of every step, over the file's arrays and the answer of the pool check on them. Each step leaves the cells as they were.
 fn put_lines(
     input: &[u8],
     checked: Answer,
-    tags: &mut [u32],
+    tags: &mut [u8],
     values: &mut [u32],
     index: &mut [u32; 12288],
     n: usize,
@@ -67,8 +93,8 @@ pub(crate) fn answer_steps(input: &[u8], n: usize, steps: u32, out: &mut [u8]) -
     requires { ⌜ Sized (now input) n steps (length (now out)) ⌝ }
     ensures { λ r. ⌜ LinePut (lines (now (input .entry)) steps) 11264 0 (now (out .entry)) r (now (out .exit)) ⌝ }
 {
-    let mut tags = [0u32; 8192];
-    read_cells(input, 2, n, &mut tags);
+    let mut tags = [0u8; 8192];
+    read_tags(input, 2, n, &mut tags);
     let mut values = [0u32; 8192];
     read_cells(input, 2 + n, n, &mut values);
     let mut index = [0u32; 12288];

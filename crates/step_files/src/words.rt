@@ -24,7 +24,7 @@ pub fn word(bytes: &[u8], i: usize) -> u32
 }
 
 // The same where the sum of two positions may pass usize.
-fn word_after(bytes: &[u8], start: usize, i: usize) -> u32
+pub(crate) fn word_after(bytes: &[u8], start: usize, i: usize) -> u32
     ensures { λ r. ⌜ r ≡ wordAt (now (bytes .entry)) (start + i) ⌝ }
 {
     if bytes.len() < start {

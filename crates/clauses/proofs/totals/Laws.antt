@@ -23,6 +23,10 @@ use Rattle.clauses.specs.ClauseWalk.{formAt, asTotals, memoAt, runTotals
 use Rattle.formulas.proofs.Totals.{totals-are, cut-add, cap-combine}
 use Rattle.clauses.proofs.Reading.{no-literal, no-forall, before-at, run-split, rest-before, zeros, read-literal, read-forall, read-connective, run-before, connective-within}
 
+-- a run that has an operand
+pub some-operand : (k : ℕ) → (k ≡ 0 → ⊥) → 0 < k
+some-operand k h = omega arith
+
 -- ---- one step
 -- a product of two u32 fits u64
 pub product-fits : (a b : ℕ) → a < 2 ^ 32 → b < 2 ^ 32 → a * b < 2 ^ 64

@@ -1,6 +1,7 @@
 -- Two pools whose cells below n are the same: headers below n pass check 14 in both, and sorts and terms below n have the same trees.
 --     formed-kept     the second pool passes check 14 if the first does and no header from n on fails
 --     sort-kept, tree-kept     a sort, and a term, of the first pool has the same tree in the second
+--     every-same      a test at every position of a range, where two tests agree
 --     made-same       a tag and cells make the same term where the sorts and terms that the cells name have the same trees
 -- Assumes nothing.
 use Prim.Native.Nat.{ℕ, zero, suc, _+_, _-_, _≤_, _<_, _%_}
@@ -129,7 +130,7 @@ module _ (tags : List ℕ) (p : ℕ) (sortAt sortAt′ : ℕ → Sort) (same-sor
         k (length cells) t c c
 
 -- ---- a header below n
-every-same : (test test′ : ℕ → Bool) (f j : ℕ) → ((i : ℕ) → i < j + f → test′ i ≡ test i) → everyIn test′ f j ≡ everyIn test f j
+pub every-same : (test test′ : ℕ → Bool) (f j : ℕ) → ((i : ℕ) → i < j + f → test′ i ≡ test i) → everyIn test′ f j ≡ everyIn test f j
 unfolding everyIn
 every-same test test′ zero j a = refl
 every-same test test′ (suc f) j a = ap₂ _&&_ (a j (omega arith)) (every-same test test′ f (suc j) (λ i l. a i (omega arith)))

@@ -147,9 +147,9 @@ module _ (tags values : List ℕ) (s rule op : ℕ) (os : List ℕ) where
   rule-missing h n e l = rw (le-ltb _ _ h, ne-eqb _ _ n, eq-eqb _ _ e, drop-of-length-le os {i = 1} (omega arith))
 
   module _ (r : Bool) where
-    pub rule-plain : rule < 5 → r ≡ isAt tags values s (rule + 1) [] → r ≡ isSort tags values s (byRule tags values rule op os)
+    pub rule-plain : rule < 5 → (tag : ℕ) → tag ≡ rule + 1 → r ≡ isAt tags values s tag [] → r ≡ isSort tags values s (byRule tags values rule op os)
     unfolding byRule isSort
-    rule-plain h q = rw (lt-ltb _ _ h) q
+    rule-plain h tag e q = rw (lt-ltb _ _ h, ← e) q
 
     module _ (h : 5 ≤ rule) where
       pub rule-first : rule ≡ 5 → r ≡ isSort tags values s (firstSort values os) → r ≡ isSort tags values s (byRule tags values rule op os)

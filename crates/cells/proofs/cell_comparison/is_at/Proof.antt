@@ -3,8 +3,8 @@ use borrow.Author.Needs.{needs}
 use Rattle.cells.proofs.cell_comparison.is_at.Statement.{statement}
 use Rattle.cells.proofs.cell_comparison.is_at.Tie as tie
 
-cell-requires : tie.Need-cell-requires
-cell-requires c κs = search needs
+tag-at-requires : tie.Need-tag-at-requires
+tag-at-requires c κs = search needs
 
 returns : tie.Need-returns
 returns c = search descriptions
@@ -20,4 +20,4 @@ returns-2 c = search descriptions
 
 pub is-at-spec : {M : Type 1} → statement M
 is-at-spec =
-    tie.close (tie.spec cell-requires returns cells-requires same-cells-requires returns-2)
+    tie.close (tie.spec tag-at-requires returns cells-requires same-cells-requires returns-2)

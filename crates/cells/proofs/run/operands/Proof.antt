@@ -6,8 +6,8 @@ use Rattle.cells.proofs.run.operands.Tie as tie
 cast-at : tie.Need-cast-at
 cast-at c = search needs
 
-cell-requires : tie.Need-cell-requires
-cell-requires c κs = search needs
+tag-at-requires : tie.Need-tag-at-requires
+tag-at-requires c κs = search needs
 
 sub-result : tie.Need-sub-result
 sub-result c = search needs
@@ -44,7 +44,7 @@ operands-spec =
     tie.close
     (tie.spec
     cast-at
-    cell-requires
+    tag-at-requires
     sub-result
     part-result-start
     part-result-end

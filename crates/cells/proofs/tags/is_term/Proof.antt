@@ -7,8 +7,8 @@ use Rattle.cells.proofs.tags.is_term.Tie as tie
 cast-at : tie.Need-cast-at
 cast-at c = search needs
 
-cell-requires : tie.Need-cell-requires
-cell-requires c κs = search needs
+tag-at-requires : tie.Need-tag-at-requires
+tag-at-requires c κs = search needs
 
 is-term-tag-requires : tie.Need-is-term-tag-requires
 is-term-tag-requires c κs = search needs
@@ -22,4 +22,4 @@ unfolding isTerm
 returns-2 c = search (not-below isTermTag)
 
 pub is-term-spec : {M : Type 1} → statement M
-is-term-spec = tie.close (tie.spec cast-at cell-requires is-term-tag-requires returns returns-2)
+is-term-spec = tie.close (tie.spec cast-at tag-at-requires is-term-tag-requires returns returns-2)

@@ -3,8 +3,8 @@ use Rattle.clauses.proofs.clause_list.Laws.{list-answers, list-ready}
 use Rattle.clauses.proofs.clause_list.list_clauses.Statement.{statement}
 use Rattle.clauses.proofs.clause_list.list_clauses.Tie as tie
 
-cut-back-requires : tie.Need-cut-back-requires
-cut-back-requires c κs = search needs
+clear-list-requires : tie.Need-clear-list-requires
+clear-list-requires c κs = search needs
 
 empty-or-requires : tie.Need-empty-or-requires
 empty-or-requires c κs = search needs
@@ -25,7 +25,7 @@ list-counted-requires : tie.Need-list-counted-requires
 list-counted-requires c κs =
     let cut = c .before .before .before .before .before .before .before .before in
     let start = cut .before .before .before .before .before .before .before in
-    list-ready _ _ _ _ (cut .cut-back .ensures) _ (start .pre)
+    list-ready _ _ _ _ (cut .clear-list .ensures) _ (start .pre)
 
 same-length-3 : tie.Need-same-length-3
 same-length-3 c = search needs
@@ -40,7 +40,7 @@ pub list-clauses-spec : {M : Type 1} → statement M
 list-clauses-spec =
     tie.close
     (tie.spec
-    cut-back-requires
+    clear-list-requires
     empty-or-requires
     refused-requires
     same-length

@@ -2,7 +2,7 @@ use mathlib.Core.Path.{_∙_}
 use borrow.Author.Needs.{needs}
 use lib.ListN.{length}
 use Rattle.clauses.proofs.Reading.{head-falls}
-use Rattle.clauses.proofs.totals.Laws.{walks, term-operands, rest-ask, one-fits, run-fits}
+use Rattle.clauses.proofs.totals.Laws.{some-operand, walks, term-operands, rest-ask, one-fits, run-fits}
 use Prim.Native.Nat.{ℕ, _<_, _*_, _+_, _^_}
 use borrow.Fn.Kinds.{In}
 use borrow.Fn.PlainCycle.{Measures, is, falls, and}
@@ -65,17 +65,17 @@ count-operands-returns : (t : ℕ) → count-operands-lts.Need-returns (count-op
 count-operands-returns t c = search walks
 
 count-operands-shared-slice-read-t15 : (t : ℕ) → count-operands-lts.Need-shared-slice-read-t15 (count-operands-calls t) (count-operands-at t) count-operands.Post
-count-operands-shared-slice-read-t15 t c = search needs
+count-operands-shared-slice-read-t15 t c = search some-operand
 
 count-operands-list-totals-requires : (t : ℕ) → count-operands-lts.Need-list-totals-requires (count-operands-calls t) (count-operands-at t) count-operands.Post
 count-operands-list-totals-requires t c κs = (search head-falls, search needs)
 
 count-operands-sub-count-operands : (t : ℕ) → count-operands-lts.Need-sub-count-operands (count-operands-calls t) (count-operands-at t) count-operands.Post
-count-operands-sub-count-operands t c = search needs
+count-operands-sub-count-operands t c = search some-operand
 
 count-operands-part-count-operands-start :
     (t : ℕ) → count-operands-lts.Need-part-count-operands-start (count-operands-calls t) (count-operands-at t) count-operands.Post
-count-operands-part-count-operands-start t c = search needs
+count-operands-part-count-operands-start t c = search some-operand
 
 count-operands-part-count-operands-end : (t : ℕ) → count-operands-lts.Need-part-count-operands-end (count-operands-calls t) (count-operands-at t) count-operands.Post
 count-operands-part-count-operands-end t c = search needs

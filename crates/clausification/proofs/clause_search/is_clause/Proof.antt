@@ -12,8 +12,8 @@ returns c = search one-clause
 cast-at : tie.Need-cast-at
 cast-at c = search needs
 
-cell-requires : tie.Need-cell-requires
-cell-requires c κs = search needs
+tag-at-requires : tie.Need-tag-at-requires
+tag-at-requires c κs = search needs
 
 returns-2 : tie.Need-returns-2
 returns-2 c = search one-clause
@@ -34,7 +34,7 @@ is-clause-spec =
     shared-slice-read-result
     returns
     cast-at
-    cell-requires
+    tag-at-requires
     returns-2
     operands-requires
     same-cells-requires

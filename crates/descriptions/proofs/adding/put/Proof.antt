@@ -3,9 +3,6 @@ use borrow.Author.Needs.{needs}
 use Rattle.descriptions.proofs.adding.put.Statement.{statement}
 use Rattle.descriptions.proofs.adding.put.Tie as tie
 
-mul-tags : tie.Need-mul-tags
-mul-tags c = search needs
-
 slice-write-tags : tie.Need-slice-write-tags
 slice-write-tags c = search needs
 
@@ -43,7 +40,6 @@ pub put-spec : {M : Type 1} → statement M
 put-spec =
     tie.close
     (tie.spec
-    mul-tags
     slice-write-tags
     cast-values
     mul-values

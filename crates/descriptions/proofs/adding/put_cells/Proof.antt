@@ -17,9 +17,6 @@ loop-holds c = search puts
 add-i : tie.Need-add-i Inv-loop μ-loop
 add-i c = search needs
 
-mul-tags : tie.Need-mul-tags Inv-loop μ-loop
-mul-tags c = search needs
-
 slice-write-tags : tie.Need-slice-write-tags Inv-loop μ-loop
 slice-write-tags c = search needs
 
@@ -61,7 +58,6 @@ put-cells-spec =
     μ-loop
     loop-holds
     add-i
-    mul-tags
     slice-write-tags
     mul-values
     shared-slice-read-values

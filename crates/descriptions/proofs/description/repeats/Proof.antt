@@ -3,8 +3,8 @@ use borrow.Author.Needs.{needs}
 use Rattle.descriptions.proofs.description.repeats.Statement.{statement}
 use Rattle.descriptions.proofs.description.repeats.Tie as tie
 
-cell-requires : tie.Need-cell-requires
-cell-requires c κs = search needs
+tag-at-requires : tie.Need-tag-at-requires
+tag-at-requires c κs = search needs
 
 cells-requires : tie.Need-cells-requires
 cells-requires c κs = search needs
@@ -27,4 +27,4 @@ returns-2 c = search repetition
 pub repeats-spec : {M : Type 1} → statement M
 repeats-spec =
     tie.close
-    (tie.spec cell-requires cells-requires find-requires enum-told enum-told-2 returns returns-2)
+    (tie.spec tag-at-requires cells-requires find-requires enum-told enum-told-2 returns returns-2)

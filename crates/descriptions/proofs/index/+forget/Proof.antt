@@ -8,6 +8,7 @@ use Rattle.descriptions.proofs.index.forget.Kinds as forget-kinds
 use Rattle.descriptions.proofs.index.+forget.Lts-forget as forget-lts
 use Rattle.cells.proofs.run.cell.Reads as cell-reads
 use Rattle.cells.proofs.run.cells.Reads as cells-reads
+use Rattle.cells.proofs.tags.tag_at.Reads as tag-at-reads
 use Rattle.descriptions.proofs.index.bucket.Reads as bucket-reads
 use Rattle.descriptions.proofs.index.leave.Reads as leave-reads
 use Rattle.descriptions.proofs.index.+forget.{statement}
@@ -23,12 +24,14 @@ abbrev forget-below : ℕ → In 3 forget-kinds.ps
 forget-below t = and 3 forget-kinds.ps (falls 3 forget-kinds.ps _<_ μ-forget t) forget.Pre
 
 forget-returns : (t : ℕ) → forget-lts.Need-returns (
-  cell-reads.Asked,
-  cell-reads.Learnt,
+  tag-at-reads.Asked,
+  tag-at-reads.Learnt,
   cells-reads.Asked,
   cells-reads.Learnt,
   bucket-reads.Asked,
   bucket-reads.Learnt,
+  cell-reads.Asked,
+  cell-reads.Learnt,
   forget-below t,
   forget.Post,
   leave-reads.Asked,
@@ -36,27 +39,31 @@ forget-returns : (t : ℕ) → forget-lts.Need-returns (
 ) (forget-at t) forget.Post
 forget-returns t c = search (forgets, needs)
 
-forget-cell-requires : (t : ℕ) → forget-lts.Need-cell-requires (
-  cell-reads.Asked,
-  cell-reads.Learnt,
+forget-tag-at-requires : (t : ℕ) → forget-lts.Need-tag-at-requires (
+  tag-at-reads.Asked,
+  tag-at-reads.Learnt,
   cells-reads.Asked,
   cells-reads.Learnt,
   bucket-reads.Asked,
   bucket-reads.Learnt,
+  cell-reads.Asked,
+  cell-reads.Learnt,
   forget-below t,
   forget.Post,
   leave-reads.Asked,
   leave-reads.Learnt,
 ) (forget-at t) forget.Post
-forget-cell-requires t c κs = search (forgets, needs)
+forget-tag-at-requires t c κs = search (forgets, needs)
 
 forget-cells-requires : (t : ℕ) → forget-lts.Need-cells-requires (
-  cell-reads.Asked,
-  cell-reads.Learnt,
+  tag-at-reads.Asked,
+  tag-at-reads.Learnt,
   cells-reads.Asked,
   cells-reads.Learnt,
   bucket-reads.Asked,
   bucket-reads.Learnt,
+  cell-reads.Asked,
+  cell-reads.Learnt,
   forget-below t,
   forget.Post,
   leave-reads.Asked,
@@ -65,12 +72,14 @@ forget-cells-requires : (t : ℕ) → forget-lts.Need-cells-requires (
 forget-cells-requires t c κs = search (forgets, needs)
 
 forget-bucket-requires : (t : ℕ) → forget-lts.Need-bucket-requires (
-  cell-reads.Asked,
-  cell-reads.Learnt,
+  tag-at-reads.Asked,
+  tag-at-reads.Learnt,
   cells-reads.Asked,
   cells-reads.Learnt,
   bucket-reads.Asked,
   bucket-reads.Learnt,
+  cell-reads.Asked,
+  cell-reads.Learnt,
   forget-below t,
   forget.Post,
   leave-reads.Asked,
@@ -78,27 +87,31 @@ forget-bucket-requires : (t : ℕ) → forget-lts.Need-bucket-requires (
 ) (forget-at t) forget.Post
 forget-bucket-requires t c κs = search (forgets, needs)
 
-forget-cell-requires-2 : (t : ℕ) → forget-lts.Need-cell-requires-2 (
-  cell-reads.Asked,
-  cell-reads.Learnt,
+forget-cell-requires : (t : ℕ) → forget-lts.Need-cell-requires (
+  tag-at-reads.Asked,
+  tag-at-reads.Learnt,
   cells-reads.Asked,
   cells-reads.Learnt,
   bucket-reads.Asked,
   bucket-reads.Learnt,
+  cell-reads.Asked,
+  cell-reads.Learnt,
   forget-below t,
   forget.Post,
   leave-reads.Asked,
   leave-reads.Learnt,
 ) (forget-at t) forget.Post
-forget-cell-requires-2 t c κs = search (forgets, needs)
+forget-cell-requires t c κs = search (forgets, needs)
 
 forget-cast-k : (t : ℕ) → forget-lts.Need-cast-k (
-  cell-reads.Asked,
-  cell-reads.Learnt,
+  tag-at-reads.Asked,
+  tag-at-reads.Learnt,
   cells-reads.Asked,
   cells-reads.Learnt,
   bucket-reads.Asked,
   bucket-reads.Learnt,
+  cell-reads.Asked,
+  cell-reads.Learnt,
   forget-below t,
   forget.Post,
   leave-reads.Asked,
@@ -107,12 +120,14 @@ forget-cast-k : (t : ℕ) → forget-lts.Need-cast-k (
 forget-cast-k t c = search (forgets, needs)
 
 forget-add-forget : (t : ℕ) → forget-lts.Need-add-forget (
-  cell-reads.Asked,
-  cell-reads.Learnt,
+  tag-at-reads.Asked,
+  tag-at-reads.Learnt,
   cells-reads.Asked,
   cells-reads.Learnt,
   bucket-reads.Asked,
   bucket-reads.Learnt,
+  cell-reads.Asked,
+  cell-reads.Learnt,
   forget-below t,
   forget.Post,
   leave-reads.Asked,
@@ -121,12 +136,14 @@ forget-add-forget : (t : ℕ) → forget-lts.Need-add-forget (
 forget-add-forget t c = search (forgets, needs)
 
 forget-add-forget-2 : (t : ℕ) → forget-lts.Need-add-forget-2 (
-  cell-reads.Asked,
-  cell-reads.Learnt,
+  tag-at-reads.Asked,
+  tag-at-reads.Learnt,
   cells-reads.Asked,
   cells-reads.Learnt,
   bucket-reads.Asked,
   bucket-reads.Learnt,
+  cell-reads.Asked,
+  cell-reads.Learnt,
   forget-below t,
   forget.Post,
   leave-reads.Asked,
@@ -135,12 +152,14 @@ forget-add-forget-2 : (t : ℕ) → forget-lts.Need-add-forget-2 (
 forget-add-forget-2 t c = search (forgets, needs)
 
 forget-forget-requires : (t : ℕ) → forget-lts.Need-forget-requires (
-  cell-reads.Asked,
-  cell-reads.Learnt,
+  tag-at-reads.Asked,
+  tag-at-reads.Learnt,
   cells-reads.Asked,
   cells-reads.Learnt,
   bucket-reads.Asked,
   bucket-reads.Learnt,
+  cell-reads.Asked,
+  cell-reads.Learnt,
   forget-below t,
   forget.Post,
   leave-reads.Asked,
@@ -149,12 +168,14 @@ forget-forget-requires : (t : ℕ) → forget-lts.Need-forget-requires (
 forget-forget-requires t c κs = search (forgets, needs)
 
 forget-leave-requires : (t : ℕ) → forget-lts.Need-leave-requires (
-  cell-reads.Asked,
-  cell-reads.Learnt,
+  tag-at-reads.Asked,
+  tag-at-reads.Learnt,
   cells-reads.Asked,
   cells-reads.Learnt,
   bucket-reads.Asked,
   bucket-reads.Learnt,
+  cell-reads.Asked,
+  cell-reads.Learnt,
   forget-below t,
   forget.Post,
   leave-reads.Asked,
@@ -163,12 +184,14 @@ forget-leave-requires : (t : ℕ) → forget-lts.Need-leave-requires (
 forget-leave-requires t c κs = search (forgets, needs)
 
 forget-returns-2 : (t : ℕ) → forget-lts.Need-returns-2 (
-  cell-reads.Asked,
-  cell-reads.Learnt,
+  tag-at-reads.Asked,
+  tag-at-reads.Learnt,
   cells-reads.Asked,
   cells-reads.Learnt,
   bucket-reads.Asked,
   bucket-reads.Learnt,
+  cell-reads.Asked,
+  cell-reads.Learnt,
   forget-below t,
   forget.Post,
   leave-reads.Asked,
@@ -178,12 +201,14 @@ forget-returns-2 t c = search (forgets, needs)
 
 pub +forget-spec : {M : Type 1} → statement M
 +forget-spec = close μ-forget λ t. forget-lts.spec (
-  cell-reads.Asked,
-  cell-reads.Learnt,
+  tag-at-reads.Asked,
+  tag-at-reads.Learnt,
   cells-reads.Asked,
   cells-reads.Learnt,
   bucket-reads.Asked,
   bucket-reads.Learnt,
+  cell-reads.Asked,
+  cell-reads.Learnt,
   forget-below t,
   forget.Post,
   leave-reads.Asked,
@@ -192,10 +217,10 @@ pub +forget-spec : {M : Type 1} → statement M
     (forget-at t)
     forget.Post
     (forget-returns t)
-    (forget-cell-requires t)
+    (forget-tag-at-requires t)
     (forget-cells-requires t)
     (forget-bucket-requires t)
-    (forget-cell-requires-2 t)
+    (forget-cell-requires t)
     (forget-cast-k t)
     (forget-add-forget t)
     (forget-add-forget-2 t)

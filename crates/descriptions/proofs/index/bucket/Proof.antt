@@ -11,9 +11,6 @@ Inv-loop tag cells h₀ i₀ h i = Hashing tag cells h i
 abbrev μ-loop : tie.MeasureT-loop
 μ-loop tag cells h₀ i₀ h i = length cells - i
 
-wide-requires : tie.Need-wide-requires Inv-loop μ-loop
-wide-requires c κs = search needs
-
 loop-holds : tie.Need-loop-holds Inv-loop μ-loop
 loop-holds c = search hashes
 
@@ -26,8 +23,8 @@ mul-wide c = search needs
 shared-slice-read-wide : tie.Need-shared-slice-read-wide Inv-loop μ-loop
 shared-slice-read-wide c = search needs
 
-wide-requires-2 : tie.Need-wide-requires-2 Inv-loop μ-loop
-wide-requires-2 c κs = search needs
+wide-requires : tie.Need-wide-requires Inv-loop μ-loop
+wide-requires c κs = search needs
 
 add-h : tie.Need-add-h Inv-loop μ-loop
 add-h c = search needs
@@ -50,12 +47,11 @@ bucket-spec =
     (tie.spec
     Inv-loop
     μ-loop
-    wide-requires
     loop-holds
     mul-h
     mul-wide
     shared-slice-read-wide
-    wide-requires-2
+    wide-requires
     add-h
     add-i
     loop-less

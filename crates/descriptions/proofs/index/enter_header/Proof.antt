@@ -3,8 +3,8 @@ use borrow.Author.Needs.{needs}
 use Rattle.descriptions.proofs.index.enter_header.Statement.{statement}
 use Rattle.descriptions.proofs.index.enter_header.Tie as tie
 
-cell-requires : tie.Need-cell-requires
-cell-requires c κs = search needs
+tag-at-requires : tie.Need-tag-at-requires
+tag-at-requires c κs = search needs
 
 cells-requires : tie.Need-cells-requires
 cells-requires c κs = search needs
@@ -34,7 +34,7 @@ pub enter-header-spec : {M : Type 1} → statement M
 enter-header-spec =
     tie.close
     (tie.spec
-    cell-requires
+    tag-at-requires
     cells-requires
     bucket-requires
     first-in-requires

@@ -6,14 +6,14 @@ use Rattle.formulas.proofs.matching.quantified_at.Tie as tie
 cast-at : tie.Need-cast-at
 cast-at c = search needs
 
-cell-requires : tie.Need-cell-requires
-cell-requires c κs = search needs
+tag-at-requires : tie.Need-tag-at-requires
+tag-at-requires c κs = search needs
 
 operands-requires : tie.Need-operands-requires
 operands-requires c κs = search needs
 
-cell-requires-2 : tie.Need-cell-requires-2
-cell-requires-2 c κs = search needs
+cell-requires : tie.Need-cell-requires
+cell-requires c κs = search needs
 
 returns : tie.Need-returns
 returns c = search quantifiers
@@ -27,4 +27,4 @@ returns-3 c = search quantifiers
 pub quantified-at-spec : {M : Type 1} → statement M
 quantified-at-spec =
     tie.close
-    (tie.spec cast-at cell-requires operands-requires cell-requires-2 returns returns-2 returns-3)
+    (tie.spec cast-at tag-at-requires operands-requires cell-requires returns returns-2 returns-3)

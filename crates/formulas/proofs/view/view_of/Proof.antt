@@ -6,14 +6,14 @@ use Rattle.formulas.proofs.view.view_of.Tie as tie
 cast-at : tie.Need-cast-at
 cast-at c = search needs
 
-cell-requires : tie.Need-cell-requires
-cell-requires c κs = search needs
+tag-at-requires : tie.Need-tag-at-requires
+tag-at-requires c κs = search needs
 
 operands-requires : tie.Need-operands-requires
 operands-requires c κs = search needs
 
-cell-requires-2 : tie.Need-cell-requires-2
-cell-requires-2 c κs = search needs
+cell-requires : tie.Need-cell-requires
+cell-requires c κs = search needs
 
 returns : tie.Need-returns
 returns c = search views
@@ -41,9 +41,9 @@ view-of-spec =
     tie.close
     (tie.spec
     cast-at
-    cell-requires
+    tag-at-requires
     operands-requires
-    cell-requires-2
+    cell-requires
     returns
     quantifier-requires
     returns-2

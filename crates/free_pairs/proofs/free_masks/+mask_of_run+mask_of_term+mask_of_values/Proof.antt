@@ -16,6 +16,7 @@ use Rattle.free_pairs.proofs.free_masks.mask_of_values.Kinds as mask-of
 use Rattle.free_pairs.proofs.free_masks.+mask_of_run+mask_of_term+mask_of_values.Lts-mask_of_values as mask-of-values-lts
 use Rattle.cells.proofs.run.cell.Reads as cell-reads
 use Rattle.cells.proofs.run.operands.Reads as operands-reads
+use Rattle.cells.proofs.tags.tag_at.Reads as tag-at-reads
 use Rattle.free_pairs.proofs.free_masks.note_mask.Reads as note-mask-reads
 use Rattle.free_pairs.proofs.free_masks.unbound_pairs.Reads as unbound-pairs-reads
 use Rattle.free_pairs.proofs.free_masks.variable_mask.Reads as variable-mask-reads
@@ -74,7 +75,7 @@ mask-of-run-calls t = (mask-of-run-below t, mask-of-run.Post, mask-of-term-below
 
 -- what the calls in `mask-of-term` ask and tell, below the measure t
 abbrev mask-of-term-calls : ℕ → mask-of-term-lts.Claims
-mask-of-term-calls t = (cell-reads.Asked, cell-reads.Learnt, free-from-reads.Asked, free-from-reads.Learnt, note-mask-reads.Asked, note-mask-reads.Learnt, variable-mask-reads.Asked, variable-mask-reads.Learnt, mask-of-term-below t, mask-of-term.Post, operands-reads.Asked, operands-reads.Learnt, unbound-pairs-reads.Asked, unbound-pairs-reads.Learnt, mask-of-run-below t, mask-of-run.Post, mask-of-values-below t, mask-of-values.Post)
+mask-of-term-calls t = (cell-reads.Asked, cell-reads.Learnt, free-from-reads.Asked, free-from-reads.Learnt, note-mask-reads.Asked, note-mask-reads.Learnt, variable-mask-reads.Asked, variable-mask-reads.Learnt, mask-of-term-below t, mask-of-term.Post, operands-reads.Asked, operands-reads.Learnt, tag-at-reads.Asked, tag-at-reads.Learnt, unbound-pairs-reads.Asked, unbound-pairs-reads.Learnt, mask-of-run-below t, mask-of-run.Post, mask-of-values-below t, mask-of-values.Post)
 
 -- what the calls in `mask-of-values` ask and tell, below the measure t
 abbrev mask-of-values-calls : ℕ → mask-of-values-lts.Claims
@@ -171,8 +172,8 @@ mask-of-term-mask-of-term-requires t c κs =
 mask-of-term-operands-requires : (t : ℕ) → mask-of-term-lts.Need-operands-requires (mask-of-term-calls t) (mask-of-term-at t) mask-of-term.Post
 mask-of-term-operands-requires t c κs = search needs
 
-mask-of-term-cell-requires-2 : (t : ℕ) → mask-of-term-lts.Need-cell-requires-2 (mask-of-term-calls t) (mask-of-term-at t) mask-of-term.Post
-mask-of-term-cell-requires-2 t c κs = search needs
+mask-of-term-tag-at-requires : (t : ℕ) → mask-of-term-lts.Need-tag-at-requires (mask-of-term-calls t) (mask-of-term-at t) mask-of-term.Post
+mask-of-term-tag-at-requires t c κs = search needs
 
 mask-of-term-unbound-pairs-requires : (t : ℕ) → mask-of-term-lts.Need-unbound-pairs-requires (mask-of-term-calls t) (mask-of-term-at t) mask-of-term.Post
 mask-of-term-unbound-pairs-requires t c κs = search needs
@@ -225,8 +226,8 @@ mask-of-term-mask-of-term-requires-2 t c κs =
     let start = c .before .before .before .before .before .before .before .before .before .before .before .before .before .before .before .before .before .before in
     (omega arith, (start .pre .1 .0, c .before .before .before .mask-of-values2 .ensures .right))
 
-mask-of-term-cell-requires-3 : (t : ℕ) → mask-of-term-lts.Need-cell-requires-3 (mask-of-term-calls t) (mask-of-term-at t) mask-of-term.Post
-mask-of-term-cell-requires-3 t c κs = search needs
+mask-of-term-tag-at-requires-2 : (t : ℕ) → mask-of-term-lts.Need-tag-at-requires-2 (mask-of-term-calls t) (mask-of-term-at t) mask-of-term.Post
+mask-of-term-tag-at-requires-2 t c κs = search needs
 
 mask-of-term-unbound-pairs-requires-2 : (t : ℕ) → mask-of-term-lts.Need-unbound-pairs-requires-2 (mask-of-term-calls t) (mask-of-term-at t) mask-of-term.Post
 mask-of-term-unbound-pairs-requires-2 t c κs = search needs
@@ -278,7 +279,7 @@ mask-of-term-returns-7 t c =
     let at-values = c .before .before .before .before .before .before .before .before .before .before .before .before in
     let at-place = c .before .before .before .before .before .before .before .before .before .before .before .before .before .before .before .before in
     walk-let _ _ _ _ _ _ (at-place .before .before .free-from .ensures) _ (at-place .place2 .given .1) _ (at-values .before .before .operands4 .ensures) _ _ (at-values .mask-of-values2 .ensures)
-    _ _ (at-term .mask-of-term2 .ensures) _ (at-unbound .before .cell3 .ensures) _ (at-unbound .unbound-pairs2 .ensures) _ _ (c .before .before .note-mask6 .ensures)
+    _ _ (at-term .mask-of-term2 .ensures) _ (at-unbound .before .tag-at2 .ensures) _ (at-unbound .unbound-pairs2 .ensures) _ _ (c .before .before .note-mask6 .ensures)
 
 mask-of-values-returns : (t : ℕ) → mask-of-values-lts.Need-returns (mask-of-values-calls t) (mask-of-values-at t) mask-of-values.Post
 mask-of-values-returns t c = search walks
@@ -366,7 +367,7 @@ pub +mask-of-run+mask-of-term+mask-of-values-spec : {M : Type 1} → statement M
     (mask-of-term-enum-known-place t)
     (mask-of-term-mask-of-term-requires t)
     (mask-of-term-operands-requires t)
-    (mask-of-term-cell-requires-2 t)
+    (mask-of-term-tag-at-requires t)
     (mask-of-term-unbound-pairs-requires t)
     (mask-of-term-note-mask-requires-3 t)
     (mask-of-term-enum-told-3 t)
@@ -381,7 +382,7 @@ pub +mask-of-run+mask-of-term+mask-of-values-spec : {M : Type 1} → statement M
     (mask-of-term-operands-requires-4 t)
     (mask-of-term-mask-of-values-requires-2 t)
     (mask-of-term-mask-of-term-requires-2 t)
-    (mask-of-term-cell-requires-3 t)
+    (mask-of-term-tag-at-requires-2 t)
     (mask-of-term-unbound-pairs-requires-2 t)
     (mask-of-term-note-mask-requires-6 t)
     (mask-of-term-same-length-2 t)

@@ -15,8 +15,8 @@ returns c = search looks
 returns-2 : tie.Need-returns-2
 returns-2 c = search looks
 
-cell-requires : tie.Need-cell-requires
-cell-requires c κs = search needs
+tag-at-requires : tie.Need-tag-at-requires
+tag-at-requires c κs = search needs
 
 returns-3 : tie.Need-returns-3
 returns-3 c = search looks
@@ -33,8 +33,8 @@ operands-requires c κs = search needs
 pairs-bind-requires : tie.Need-pairs-bind-requires
 pairs-bind-requires c κs = search needs
 
-cell-requires-2 : tie.Need-cell-requires-2
-cell-requires-2 c κs = search needs
+cell-requires : tie.Need-cell-requires
+cell-requires c κs = search needs
 
 returns-6 : tie.Need-returns-6
 returns-6 c = search looks
@@ -62,13 +62,13 @@ look-spec =
     mark-at-requires
     returns
     returns-2
-    cell-requires
+    tag-at-requires
     returns-3
     returns-4
     returns-5
     operands-requires
     pairs-bind-requires
-    cell-requires-2
+    cell-requires
     returns-6
     returns-7
     returns-8

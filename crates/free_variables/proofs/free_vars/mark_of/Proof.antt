@@ -6,8 +6,8 @@ use Rattle.free_variables.proofs.free_vars.mark_of.Tie as tie
 returns : tie.Need-returns
 returns c = search mark
 
-cell-requires : tie.Need-cell-requires
-cell-requires c κs = search needs
+tag-at-requires : tie.Need-tag-at-requires
+tag-at-requires c κs = search needs
 
 returns-2 : tie.Need-returns-2
 returns-2 c = search mark
@@ -18,8 +18,8 @@ cast-if3 c = search needs
 returns-3 : tie.Need-returns-3
 returns-3 c = search mark
 
-cast-t7 : tie.Need-cast-t7
-cast-t7 c = search needs
+cast-t10 : tie.Need-cast-t10
+cast-t10 c = search needs
 
 is-free-requires : tie.Need-is-free-requires
 is-free-requires c κs = search needs
@@ -35,11 +35,11 @@ mark-of-spec =
     tie.close
     (tie.spec
     returns
-    cell-requires
+    tag-at-requires
     returns-2
     cast-if3
     returns-3
-    cast-t7
+    cast-t10
     is-free-requires
     returns-4
     returns-5)

@@ -6,14 +6,14 @@ use Rattle.free_variables.proofs.term_names.free_from.Tie as tie
 cast-at : tie.Need-cast-at
 cast-at c = search needs
 
-cell-requires : tie.Need-cell-requires
-cell-requires c κs = search needs
+tag-at-requires : tie.Need-tag-at-requires
+tag-at-requires c κs = search needs
 
 returns : tie.Need-returns
 returns c = search finds
 
 returns-2 : tie.Need-returns-2
-returns-2 c = find-variable _ _ _ _ (c .before .before .cell .ensures) (c .before .if1 .left) (c .if2 .taken)
+returns-2 c = find-variable _ _ _ _ (c .before .before .tag-at .ensures) (c .before .if1 .left) (c .if2 .taken)
 
 returns-3 : tie.Need-returns-3
 returns-3 c = search finds
@@ -24,8 +24,8 @@ returns-4 c = search finds
 operands-requires : tie.Need-operands-requires
 operands-requires c κs = search needs
 
-cell-requires-2 : tie.Need-cell-requires-2
-cell-requires-2 c κs = search needs
+cell-requires : tie.Need-cell-requires
+cell-requires c κs = search needs
 
 returns-5 : tie.Need-returns-5
 returns-5 c = search finds
@@ -44,13 +44,13 @@ free-from-spec =
     tie.close
     (tie.spec
     cast-at
-    cell-requires
+    tag-at-requires
     returns
     returns-2
     returns-3
     returns-4
     operands-requires
-    cell-requires-2
+    cell-requires
     returns-5
     returns-6
     returns-7

@@ -3,8 +3,8 @@ use borrow.Author.Needs.{needs}
 use Rattle.headers.proofs.well_formed.bool_first.Statement.{statement}
 use Rattle.headers.proofs.well_formed.bool_first.Tie as tie
 
-cell-requires : tie.Need-cell-requires
-cell-requires c κs = search needs
+tag-at-requires : tie.Need-tag-at-requires
+tag-at-requires c κs = search needs
 
 returns : tie.Need-returns
 returns c = search bool-first
@@ -13,4 +13,4 @@ returns-2 : tie.Need-returns-2
 returns-2 c = search bool-first
 
 pub bool-first-spec : {M : Type 1} → statement M
-bool-first-spec = tie.close (tie.spec cell-requires returns returns-2)
+bool-first-spec = tie.close (tie.spec tag-at-requires returns returns-2)

@@ -9,8 +9,8 @@ add-at c = search needs
 add-at-2 : tie.Need-add-at-2
 add-at-2 c = search needs
 
-cell-requires : tie.Need-cell-requires
-cell-requires c κs = search needs
+tag-at-requires : tie.Need-tag-at-requires
+tag-at-requires c κs = search needs
 
 returns : tie.Need-returns
 returns c = search cell
@@ -18,8 +18,8 @@ returns c = search cell
 kind-at-requires : tie.Need-kind-at-requires
 kind-at-requires c κs = search needs
 
-cell-requires-2 : tie.Need-cell-requires-2
-cell-requires-2 c κs = search needs
+cell-requires : tie.Need-cell-requires
+cell-requires c κs = search needs
 
 value-fits-requires : tie.Need-value-fits-requires
 value-fits-requires c κs = search needs
@@ -33,9 +33,9 @@ cell-fits-spec =
     (tie.spec
     add-at
     add-at-2
-    cell-requires
+    tag-at-requires
     returns
     kind-at-requires
-    cell-requires-2
+    cell-requires
     value-fits-requires
     returns-2)

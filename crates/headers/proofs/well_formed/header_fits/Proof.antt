@@ -21,8 +21,8 @@ sub-if2 c = search needs
 returns-2 : tie.Need-returns-2
 returns-2 c = search header
 
-cell-requires-2 : tie.Need-cell-requires-2
-cell-requires-2 c κs = search needs
+tag-at-requires : tie.Need-tag-at-requires
+tag-at-requires c κs = search needs
 
 shape-of-requires : tie.Need-shape-of-requires
 shape-of-requires c κs = search needs
@@ -49,7 +49,7 @@ header-fits-spec =
     cast-k
     sub-if2
     returns-2
-    cell-requires-2
+    tag-at-requires
     shape-of-requires
     count-fits-requires
     returns-3

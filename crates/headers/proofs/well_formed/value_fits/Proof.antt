@@ -11,8 +11,8 @@ enum-told c = search needs
 enum-told-2 : tie.Need-enum-told-2
 enum-told-2 c = search needs
 
-cell-requires : tie.Need-cell-requires
-cell-requires c κs = search needs
+tag-at-requires : tie.Need-tag-at-requires
+tag-at-requires c κs = search needs
 
 is-sort-tag-requires : tie.Need-is-sort-tag-requires
 is-sort-tag-requires c κs = search needs
@@ -20,8 +20,8 @@ is-sort-tag-requires c κs = search needs
 enum-told-3 : tie.Need-enum-told-3
 enum-told-3 c = search needs
 
-cell-requires-2 : tie.Need-cell-requires-2
-cell-requires-2 c κs = search needs
+tag-at-requires-2 : tie.Need-tag-at-requires-2
+tag-at-requires-2 c κs = search needs
 
 is-term-tag-requires : tie.Need-is-term-tag-requires
 is-term-tag-requires c κs = search needs
@@ -52,10 +52,10 @@ value-fits-spec =
     (tie.spec
     enum-told
     enum-told-2
-    cell-requires
+    tag-at-requires
     is-sort-tag-requires
     enum-told-3
-    cell-requires-2
+    tag-at-requires-2
     is-term-tag-requires
     returns
     returns-2

@@ -30,8 +30,8 @@ returns-2 c = search sides
 cast-body-at : tie.Need-cast-body-at
 cast-body-at c = search needs
 
-cell-requires : tie.Need-cell-requires
-cell-requires c κs = search needs
+tag-at-requires : tie.Need-tag-at-requires
+tag-at-requires c κs = search needs
 
 returns-3 : tie.Need-returns-3
 returns-3 c = search sides
@@ -39,15 +39,15 @@ returns-3 c = search sides
 cast-right-at : tie.Need-cast-right-at
 cast-right-at c = search needs
 
-cell-requires-2 : tie.Need-cell-requires-2
-cell-requires-2 c κs = search needs
+tag-at-requires-2 : tie.Need-tag-at-requires-2
+tag-at-requires-2 c κs = search needs
 
 returns-4 : tie.Need-returns-4
 returns-4 c = search sides
 
 returns-5 : tie.Need-returns-5
 returns-5 c =
-    sides-are _ _ _ _ _ _ (c .before .before .before .before .before .before .before .before .before .before .before .before .before .equality-at .ensures) _ _ (c .before .before .before .before .before .before .before .before .before .before .before .left .given .1) _ (c .before .before .before .before .before .before .before .before .before .of-kind .ensures) _ _ (c .before .before .before .before .before .before .before .body .given .1) _ (c .before .before .before .before .cell .ensures) (c .before .before .before .if1 .left) _ (c .before .cell2 .ensures) (c .if2 .left)
+    sides-are _ _ _ _ _ _ (c .before .before .before .before .before .before .before .before .before .before .before .before .before .equality-at .ensures) _ _ (c .before .before .before .before .before .before .before .before .before .before .before .left .given .1) _ (c .before .before .before .before .before .before .before .before .before .of-kind .ensures) _ _ (c .before .before .before .before .before .before .before .body .given .1) _ (c .before .before .before .before .tag-at .ensures) (c .before .before .before .if1 .left) _ (c .before .tag-at2 .ensures) (c .if2 .left)
 
 pub sides-of-spec : {M : Type 1} → statement M
 sides-of-spec =
@@ -62,9 +62,9 @@ sides-of-spec =
     enum-told-2
     returns-2
     cast-body-at
-    cell-requires
+    tag-at-requires
     returns-3
     cast-right-at
-    cell-requires-2
+    tag-at-requires-2
     returns-4
     returns-5)

@@ -43,8 +43,8 @@ returns-3 c = clause-list-promise (search checks)
 cut-back-requires : tie.Need-cut-back-requires
 cut-back-requires c κs = search needs
 
-cut-back-requires-2 : tie.Need-cut-back-requires-2
-cut-back-requires-2 c κs = search needs
+clear-list-requires : tie.Need-clear-list-requires
+clear-list-requires c κs = search needs
 
 refused-requires-6 : tie.Need-refused-requires-6
 refused-requires-6 c κs = search needs
@@ -84,14 +84,14 @@ same-length-6 c = search needs
 
 returns-4 : tie.Need-returns-4
 returns-4 c =
-    let at-cut-back2 = c .before .before .before .before .before in
-    let at-cut-back = at-cut-back2 .before .before .before .before .before .before .before in
+    let at-clear-list = c .before .before .before .before .before in
+    let at-cut-back = at-clear-list .before .before .before .before .before .before .before in
     let at-if3 = at-cut-back .before .before .before in
     let at-built = at-if3 .before .before .before in
     let at-clausal-of = at-built .before .before .before .before .before .before in
     let at-if2 = at-clausal-of .before .before .before in
     clause-list-promise (list-stopped _ _ _ _ _ _ _ (at-if2 .before .if1 .left) (at-if2 .if2 .left) _ _ _ (at-clausal-of .clausal-of .ensures) _ (at-built .built .given .1)
-    (at-if3 .if3 .left) _ _ _ _ (at-cut-back .cut-back .ensures) (at-cut-back2 .cut-back2 .ensures) _ (c .refused6 .ensures))
+    (at-if3 .if3 .left) _ _ _ _ (at-cut-back .cut-back .ensures) (at-clear-list .clear-list .ensures) _ (c .refused6 .ensures))
 
 same-length-7 : tie.Need-same-length-7
 same-length-7 c = search needs
@@ -134,7 +134,7 @@ clause-list-spec =
     same-length-2
     returns-3
     cut-back-requires
-    cut-back-requires-2
+    clear-list-requires
     refused-requires-6
     enum-known-built-2
     slice-reshare-prefix-list-clauses

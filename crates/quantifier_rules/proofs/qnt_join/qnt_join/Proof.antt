@@ -65,31 +65,31 @@ returns-4 : tie.Need-returns-4
 returns-4 c =
     answers-refused _ _ _ _ _ (c .refused4 .ensures) (join-right _ _ _ _ (c .before .before .before .before .before .before .before .before .before .before .before .before .before .before .before .equality-at .ensures) _ _ (c .before .before .before .before .before .before .before .before .before .before .before .before .before .l .given .1) _ (c .before .before .before .before .before .before .before .before .before .before .before .quantified-at .ensures) _ _ (c .before .before .before .before .before .before .before .before .before .kind .given .1) _ (c .before .before .before .before .before .before .before .quantified-at2 .ensures) _ _ (c .before .before .before .before .before .inner-kind .given .1) _ (c .before .before .before .quantified-at3 .ensures) (c .before .enum-told4 .given .1))
 
-quantifier-tag-requires : tie.Need-quantifier-tag-requires
-quantifier-tag-requires c κs = search needs
+carried-tag-requires : tie.Need-carried-tag-requires
+carried-tag-requires c κs = search needs
 
-quantifier-tag-requires-2 : tie.Need-quantifier-tag-requires-2
-quantifier-tag-requires-2 c κs = search needs
+carried-tag-requires-2 : tie.Need-carried-tag-requires-2
+carried-tag-requires-2 c κs = search needs
 
 refused-requires-5 : tie.Need-refused-requires-5
 refused-requires-5 c κs = search needs
 
 returns-5 : tie.Need-returns-5
 returns-5 c =
-    answers-refused _ _ _ _ _ (c .refused5 .ensures) (join-kinds _ _ _ _ (c .before .before .before .before .before .before .before .before .before .before .before .before .before .before .before .before .before .before .before .equality-at .ensures) _ _ (c .before .before .before .before .before .before .before .before .before .before .before .before .before .before .before .before .before .l .given .1) _ (c .before .before .before .before .before .before .before .before .before .before .before .before .before .before .before .quantified-at .ensures) _ _ (c .before .before .before .before .before .before .before .before .before .before .before .before .before .kind .given .1) _ (c .before .before .before .before .before .before .before .before .before .before .before .quantified-at2 .ensures) _ _ (c .before .before .before .before .before .before .before .before .before .inner-kind .given .1) _ (c .before .before .before .before .before .before .before .quantified-at3 .ensures) _ _ (c .before .before .before .before .before .right-kind .given .1) (c .before .before .before .if1 .taken) _ _ (c .before .before .quantifier-tag .ensures) (c .before .quantifier-tag2 .ensures))
+    answers-refused _ _ _ _ _ (c .refused5 .ensures) (join-kinds _ _ _ _ (c .before .before .before .before .before .before .before .before .before .before .before .before .before .before .before .before .before .before .before .equality-at .ensures) _ _ (c .before .before .before .before .before .before .before .before .before .before .before .before .before .before .before .before .before .l .given .1) _ (c .before .before .before .before .before .before .before .before .before .before .before .before .before .before .before .quantified-at .ensures) _ _ (c .before .before .before .before .before .before .before .before .before .before .before .before .before .kind .given .1) _ (c .before .before .before .before .before .before .before .before .before .before .before .quantified-at2 .ensures) _ _ (c .before .before .before .before .before .before .before .before .before .inner-kind .given .1) _ (c .before .before .before .before .before .before .before .quantified-at3 .ensures) _ _ (c .before .before .before .before .before .right-kind .given .1) (c .before .before .before .if1 .taken) _ _ (c .before .before .carried-tag .ensures) (c .before .carried-tag2 .ensures))
 
-quantifier-tag-requires-3 : tie.Need-quantifier-tag-requires-3
-quantifier-tag-requires-3 c κs = search needs
+carried-tag-requires-3 : tie.Need-carried-tag-requires-3
+carried-tag-requires-3 c κs = search needs
 
-quantifier-tag-requires-4 : tie.Need-quantifier-tag-requires-4
-quantifier-tag-requires-4 c κs = search needs
+carried-tag-requires-4 : tie.Need-carried-tag-requires-4
+carried-tag-requires-4 c κs = search needs
 
 refused-requires-6 : tie.Need-refused-requires-6
 refused-requires-6 c κs = search needs
 
 returns-6 : tie.Need-returns-6
 returns-6 c =
-    answers-refused _ _ _ _ _ (c .refused6 .ensures) (join-kinds-right _ _ _ _ (c .before .before .before .before .before .before .before .before .before .before .before .before .before .before .before .before .before .before .before .before .equality-at .ensures) _ _ (c .before .before .before .before .before .before .before .before .before .before .before .before .before .before .before .before .before .before .l .given .1) _ (c .before .before .before .before .before .before .before .before .before .before .before .before .before .before .before .before .quantified-at .ensures) _ _ (c .before .before .before .before .before .before .before .before .before .before .before .before .before .before .kind .given .1) _ (c .before .before .before .before .before .before .before .before .before .before .before .before .quantified-at2 .ensures) _ _ (c .before .before .before .before .before .before .before .before .before .before .inner-kind .given .1) _ (c .before .before .before .before .before .before .before .before .quantified-at3 .ensures) _ _ (c .before .before .before .before .before .before .right-kind .given .1) (c .before .before .before .before .if1 .left) (c .before .before .before .if2 .taken) _ _ (c .before .before .quantifier-tag3 .ensures) (c .before .quantifier-tag4 .ensures))
+    answers-refused _ _ _ _ _ (c .refused6 .ensures) (join-kinds-right _ _ _ _ (c .before .before .before .before .before .before .before .before .before .before .before .before .before .before .before .before .before .before .before .before .equality-at .ensures) _ _ (c .before .before .before .before .before .before .before .before .before .before .before .before .before .before .before .before .before .before .l .given .1) _ (c .before .before .before .before .before .before .before .before .before .before .before .before .before .before .before .before .quantified-at .ensures) _ _ (c .before .before .before .before .before .before .before .before .before .before .before .before .before .before .kind .given .1) _ (c .before .before .before .before .before .before .before .before .before .before .before .before .quantified-at2 .ensures) _ _ (c .before .before .before .before .before .before .before .before .before .before .inner-kind .given .1) _ (c .before .before .before .before .before .before .before .before .quantified-at3 .ensures) _ _ (c .before .before .before .before .before .before .right-kind .given .1) (c .before .before .before .before .if1 .left) (c .before .before .before .if2 .taken) _ _ (c .before .before .carried-tag3 .ensures) (c .before .carried-tag4 .ensures))
 
 refused-requires-7 : tie.Need-refused-requires-7
 refused-requires-7 c κs = search needs
@@ -148,12 +148,12 @@ qnt-join-spec =
     enum-told-4
     refused-requires-4
     returns-4
-    quantifier-tag-requires
-    quantifier-tag-requires-2
+    carried-tag-requires
+    carried-tag-requires-2
     refused-requires-5
     returns-5
-    quantifier-tag-requires-3
-    quantifier-tag-requires-4
+    carried-tag-requires-3
+    carried-tag-requires-4
     refused-requires-6
     returns-6
     refused-requires-7

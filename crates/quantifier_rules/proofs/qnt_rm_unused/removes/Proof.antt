@@ -18,11 +18,11 @@ refused-requires c κs = search needs
 returns : tie.Need-returns
 returns c = search right-side
 
-quantifier-tag-requires : tie.Need-quantifier-tag-requires
-quantifier-tag-requires c κs = search needs
+carried-tag-requires : tie.Need-carried-tag-requires
+carried-tag-requires c κs = search needs
 
-quantifier-tag-requires-2 : tie.Need-quantifier-tag-requires-2
-quantifier-tag-requires-2 c κs = search needs
+carried-tag-requires-2 : tie.Need-carried-tag-requires-2
+carried-tag-requires-2 c κs = search needs
 
 refused-requires-2 : tie.Need-refused-requires-2
 refused-requires-2 c κs = search needs
@@ -84,8 +84,8 @@ removes-spec =
     enum-told
     refused-requires
     returns
-    quantifier-tag-requires
-    quantifier-tag-requires-2
+    carried-tag-requires
+    carried-tag-requires-2
     refused-requires-2
     returns-2
     refused-requires-3

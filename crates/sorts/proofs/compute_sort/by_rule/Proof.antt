@@ -3,8 +3,8 @@ use borrow.Author.Needs.{needs}
 use Rattle.sorts.proofs.compute_sort.by_rule.Statement.{statement}
 use Rattle.sorts.proofs.compute_sort.by_rule.Tie as tie
 
-add-is-plain : tie.Need-add-is-plain
-add-is-plain c = search needs
+plain-tag-requires : tie.Need-plain-tag-requires
+plain-tag-requires c κs = search needs
 
 is-plain-requires : tie.Need-is-plain-requires
 is-plain-requires c κs = search needs
@@ -49,7 +49,7 @@ pub by-rule-spec : {M : Type 1} → statement M
 by-rule-spec =
     tie.close
     (tie.spec
-    add-is-plain
+    plain-tag-requires
     is-plain-requires
     returns
     first-sort-requires

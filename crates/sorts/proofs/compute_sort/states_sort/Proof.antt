@@ -7,8 +7,8 @@ use Rattle.sorts.proofs.compute_sort.states_sort.Tie as tie
 cast-at : tie.Need-cast-at
 cast-at c = search needs
 
-cell-requires : tie.Need-cell-requires
-cell-requires c κs = search needs
+tag-at-requires : tie.Need-tag-at-requires
+tag-at-requires c κs = search needs
 
 sort-of-requires : tie.Need-sort-of-requires
 sort-of-requires c κs = search needs
@@ -25,8 +25,8 @@ returns c = search term-sorts
 add-cell : tie.Need-add-cell
 add-cell c = search needs
 
-cell-requires-2 : tie.Need-cell-requires-2
-cell-requires-2 c κs = search needs
+cell-requires : tie.Need-cell-requires
+cell-requires c κs = search needs
 
 is-single-requires : tie.Need-is-single-requires
 is-single-requires c κs = search needs
@@ -89,13 +89,13 @@ states-sort-spec =
     tie.close
     (tie.spec
     cast-at
-    cell-requires
+    tag-at-requires
     sort-of-requires
     after-requires
     is-plain-requires
     returns
     add-cell
-    cell-requires-2
+    cell-requires
     is-single-requires
     returns-2
     returns-3

@@ -6,8 +6,8 @@ use Rattle.sorts.proofs.compute_sort.states_wrong.Tie as tie
 cast-at : tie.Need-cast-at
 cast-at c = search needs
 
-cell-requires : tie.Need-cell-requires
-cell-requires c κs = search needs
+tag-at-requires : tie.Need-tag-at-requires
+tag-at-requires c κs = search needs
 
 returns : tie.Need-returns
 returns c = search wrong
@@ -20,4 +20,4 @@ returns-2 c = search wrong
 
 pub states-wrong-spec : {M : Type 1} → statement M
 states-wrong-spec =
-    tie.close (tie.spec cast-at cell-requires returns states-sort-requires returns-2)
+    tie.close (tie.spec cast-at tag-at-requires returns states-sort-requires returns-2)

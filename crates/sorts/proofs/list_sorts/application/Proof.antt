@@ -6,8 +6,8 @@ use Rattle.sorts.proofs.list_sorts.application.Tie as tie
 returns : tie.Need-returns
 returns c = search applications
 
-shared-slice-read-if2 : tie.Need-shared-slice-read-if2
-shared-slice-read-if2 c = search needs
+shared-slice-read-t10 : tie.Need-shared-slice-read-t10
+shared-slice-read-t10 c = search needs
 
 sort-of-requires : tie.Need-sort-of-requires
 sort-of-requires c κs = search needs
@@ -15,8 +15,8 @@ sort-of-requires c κs = search needs
 cast-at : tie.Need-cast-at
 cast-at c = search needs
 
-cell-requires : tie.Need-cell-requires
-cell-requires c κs = search needs
+tag-at-requires : tie.Need-tag-at-requires
+tag-at-requires c κs = search needs
 
 returns-2 : tie.Need-returns-2
 returns-2 c = search applications
@@ -38,10 +38,10 @@ application-spec =
     tie.close
     (tie.spec
     returns
-    shared-slice-read-if2
+    shared-slice-read-t10
     sort-of-requires
     cast-at
-    cell-requires
+    tag-at-requires
     returns-2
     sub-apply
     cells-requires

@@ -9,8 +9,8 @@ sort-of-requires c κs = search needs
 cast-at : tie.Need-cast-at
 cast-at c = search needs
 
-cell-requires : tie.Need-cell-requires
-cell-requires c κs = search needs
+tag-at-requires : tie.Need-tag-at-requires
+tag-at-requires c κs = search needs
 
 returns : tie.Need-returns
 returns c = search related
@@ -18,14 +18,14 @@ returns c = search related
 add-cell : tie.Need-add-cell
 add-cell c = search needs
 
-cell-requires-2 : tie.Need-cell-requires-2
-cell-requires-2 c κs = search needs
+cell-requires : tie.Need-cell-requires
+cell-requires c κs = search needs
 
 cast-part : tie.Need-cast-part
 cast-part c = search needs
 
-cell-requires-3 : tie.Need-cell-requires-3
-cell-requires-3 c κs = search needs
+tag-at-requires-2 : tie.Need-tag-at-requires-2
+tag-at-requires-2 c κs = search needs
 
 returns-2 : tie.Need-returns-2
 returns-2 c = search related
@@ -36,10 +36,10 @@ is-relation-spec =
     (tie.spec
     sort-of-requires
     cast-at
-    cell-requires
+    tag-at-requires
     returns
     add-cell
-    cell-requires-2
+    cell-requires
     cast-part
-    cell-requires-3
+    tag-at-requires-2
     returns-2)

@@ -21,11 +21,11 @@ is-at-requires c κs = search needs
 returns : tie.Need-returns
 returns c = search tuple-sets
 
-cast-cell : tie.Need-cast-cell
-cast-cell c = search needs
+cast-tag-at : tie.Need-cast-tag-at
+cast-tag-at c = search needs
 
-cell-requires-2 : tie.Need-cell-requires-2
-cell-requires-2 c κs = search needs
+tag-at-requires : tie.Need-tag-at-requires
+tag-at-requires c κs = search needs
 
 returns-2 : tie.Need-returns-2
 returns-2 c = search tuple-sets
@@ -40,6 +40,6 @@ is-tuple-set-spec =
     slice-aggregate-is-at
     is-at-requires
     returns
-    cast-cell
-    cell-requires-2
+    cast-tag-at
+    tag-at-requires
     returns-2)

@@ -6,8 +6,8 @@ use Rattle.sorts.proofs.list_sorts.lambda.Tie as tie
 cast-at : tie.Need-cast-at
 cast-at c = search needs
 
-cell-requires : tie.Need-cell-requires
-cell-requires c κs = search needs
+tag-at-requires : tie.Need-tag-at-requires
+tag-at-requires c κs = search needs
 
 returns : tie.Need-returns
 returns c = search lambdas
@@ -21,11 +21,11 @@ returns-2 c = search lambdas
 but-last-requires : tie.Need-but-last-requires
 but-last-requires c κs = search needs
 
+cell-requires : tie.Need-cell-requires
+cell-requires c κs = search needs
+
 cell-requires-2 : tie.Need-cell-requires-2
 cell-requires-2 c κs = search needs
-
-cell-requires-3 : tie.Need-cell-requires-3
-cell-requires-3 c κs = search needs
 
 sort-of-requires : tie.Need-sort-of-requires
 sort-of-requires c κs = search needs
@@ -47,13 +47,13 @@ lambda-spec =
     tie.close
     (tie.spec
     cast-at
-    cell-requires
+    tag-at-requires
     returns
     cells-requires
     returns-2
     but-last-requires
+    cell-requires
     cell-requires-2
-    cell-requires-3
     sort-of-requires
     returns-3
     past-requires

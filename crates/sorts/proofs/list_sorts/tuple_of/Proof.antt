@@ -7,8 +7,8 @@ use Rattle.sorts.proofs.list_sorts.tuple_of.Tie as tie
 cast-at : tie.Need-cast-at
 cast-at c = search needs
 
-cell-requires : tie.Need-cell-requires
-cell-requires c κs = search needs
+tag-at-requires : tie.Need-tag-at-requires
+tag-at-requires c κs = search needs
 
 returns : tie.Need-returns
 unfolding isSort
@@ -26,4 +26,4 @@ returns-2 c = search descriptions
 
 pub tuple-of-spec : {M : Type 1} → statement M
 tuple-of-spec =
-    tie.close (tie.spec cast-at cell-requires returns cells-requires same-sorts-requires returns-2)
+    tie.close (tie.spec cast-at tag-at-requires returns cells-requires same-sorts-requires returns-2)

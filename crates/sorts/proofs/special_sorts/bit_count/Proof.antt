@@ -6,8 +6,8 @@ use Rattle.sorts.proofs.special_sorts.bit_count.Tie as tie
 cast-at : tie.Need-cast-at
 cast-at c = search needs
 
-cell-requires : tie.Need-cell-requires
-cell-requires c κs = search needs
+tag-at-requires : tie.Need-tag-at-requires
+tag-at-requires c κs = search needs
 
 returns : tie.Need-returns
 returns c = search widths
@@ -32,7 +32,7 @@ bit-count-spec =
     tie.close
     (tie.spec
     cast-at
-    cell-requires
+    tag-at-requires
     returns
     cells-requires
     returns-2

@@ -13,14 +13,14 @@ shared-slice-read-at c = search needs
 cast-at : tie.Need-cast-at
 cast-at c = omega (arith, c .shared-slice-known4 .given 1)
 
-cell-requires : tie.Need-cell-requires
-cell-requires c κs = search needs
+tag-at-requires : tie.Need-tag-at-requires
+tag-at-requires c κs = search needs
 
 add-cell : tie.Need-add-cell
 add-cell c = omega (arith, c .before .before .shared-slice-known4 .given 1)
 
-cell-requires-2 : tie.Need-cell-requires-2
-cell-requires-2 c κs = search needs
+cell-requires : tie.Need-cell-requires
+cell-requires c κs = search needs
 
 is-single-requires : tie.Need-is-single-requires
 is-single-requires c κs = search needs
@@ -41,9 +41,9 @@ bv-const-spec =
     returns
     shared-slice-read-at
     cast-at
-    cell-requires
+    tag-at-requires
     add-cell
-    cell-requires-2
+    cell-requires
     is-single-requires
     returns-2
     is-plain-requires

@@ -15,8 +15,8 @@ sort-tag-requires c κs = search needs
 returns-2 : tie.Need-returns-2
 returns-2 c = search selects
 
-shared-slice-read-t9 : tie.Need-shared-slice-read-t9
-shared-slice-read-t9 c = search needs
+shared-slice-read-result-2 : tie.Need-shared-slice-read-result-2
+shared-slice-read-result-2 c = search needs
 
 sort-of-requires : tie.Need-sort-of-requires
 sort-of-requires c κs = search needs
@@ -41,7 +41,7 @@ selected-spec =
     shared-slice-read-result
     sort-tag-requires
     returns-2
-    shared-slice-read-t9
+    shared-slice-read-result-2
     sort-of-requires
     cast-at
     add-cell

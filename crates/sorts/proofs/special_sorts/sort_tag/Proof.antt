@@ -9,11 +9,11 @@ sort-of-requires c κs = search needs
 cast-at : tie.Need-cast-at
 cast-at c = search needs
 
-cell-requires : tie.Need-cell-requires
-cell-requires c κs = search needs
+tag-at-requires : tie.Need-tag-at-requires
+tag-at-requires c κs = search needs
 
 returns : tie.Need-returns
 returns c = search tag-is
 
 pub sort-tag-spec : {M : Type 1} → statement M
-sort-tag-spec = tie.close (tie.spec sort-of-requires cast-at cell-requires returns)
+sort-tag-spec = tie.close (tie.spec sort-of-requires cast-at tag-at-requires returns)

@@ -1,7 +1,7 @@
 use Rattle.calls.proofs.call_files.Laws.{whole-bounded}
 use borrow.Author.Needs.{needs}
-use Rattle.calls.proofs.one_call.run.Statement.{statement}
-use Rattle.calls.proofs.one_call.run.Tie as tie
+use Rattle.calls.proofs.one_call.run_call.Statement.{statement}
+use Rattle.calls.proofs.one_call.run_call.Tie as tie
 
 bad-file-requires : tie.Need-bad-file-requires
 bad-file-requires c κs = search needs
@@ -57,8 +57,8 @@ returns-7 c = search needs
 returns-8 : tie.Need-returns-8
 returns-8 c = search needs
 
-pub run-spec : {M : Type 1} → statement M
-run-spec =
+pub run-call-spec : {M : Type 1} → statement M
+run-call-spec =
     tie.close
     (tie.spec
     bad-file-requires

@@ -1,0 +1,17 @@
+pub mod Tags
+pub mod WellFormed
+pub mod PoolCheck
+pub mod UsedCells
+pub mod Rules
+pub mod Answers
+pub mod FreeVars
+pub mod Alike
+pub mod SameOutcomes
+pub mod Arrays
+pub mod WrittenBack
+pub mod Building
+pub mod Steps
+pub mod Unequal
+pub mod SmallTags
+pub mod Calls
+pub mod Exits

@@ -1,0 +1,4 @@
+pub mod Narrowed
+pub mod WrittenBack
+pub mod SameOutcomes
+pub mod NarrowedCases
