@@ -6,6 +6,7 @@ use crate::build::put;
 use formulas::view::connective_tag;
 use formulas::view::quantifier_tag;
 use pool::TermPlace;
+use pool::description::zero_from;
 use pool::index::INDEX;
 use pool::limits::CELLS;
 use pool::run::cell;
@@ -14,7 +15,7 @@ use pool::tags::NOT;
 ghost use mathlib.Core.Path.{_≡_};
 ghost use mathlib.Core.List.{_∷_, []};
 ghost use Prim.Native.Nat.{_-_, _<_};
-ghost use lib.ListN.{length, getD, drop};
+ghost use lib.ListN.{length, getD, drop, replicate};
 ghost use Rattle.formulas.specs.Normal.{flip, lit};
 ghost use Rattle.formulas.specs.Built.{put, intern};
 ghost use Rattle.formulas.specs.Formula.{quantifierTag, connectiveTag};
@@ -26,6 +27,13 @@ ghost use Rattle.building.specs.Walk.{State, Indexed, Puts, slotOf, plac
 pub const WORK: usize = 24576;
 
 const ROW: usize = 16384;
+
+// Makes the array of a walk empty.
+pub fn clear_work(work: &mut [u32; WORK])
+    ensures { λ _. ⌜ now (work .exit) ≡ replicate 24576 0 ⌝ }
+{
+    zero_from(work, 0);
+}
 
 // The memo's index of a term and a polarity: the forms at true polarity come first.
 pub fn slot(t: TermPlace, polarity: bool) -> usize

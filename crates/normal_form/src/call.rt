@@ -4,6 +4,7 @@ use crate::clausal_forms::ClausalForms;
 use crate::clausal_forms::build_forms;
 use crate::negation_normal_form::build_normal_form;
 use building::build::Built;
+use building::terms::WORK;
 use clauses::clause_list::clear_list;
 use clauses::clause_list::list_clauses;
 use pool::Answer;
@@ -39,7 +40,8 @@ pub fn normal_form(
         cut_back(tags, values, n);
         return checked;
     }
-    let Built::At(p, m) = build_normal_form(tags, values, &mut index, n, t, polarity) else {
+    let mut work = [0u32; WORK];
+    let Built::At(p, m) = build_normal_form(tags, values, &mut work, &mut index, n, t, polarity) else {
         cut_back(tags, values, n);
         return Answer::refused(31, 0, 0);
     };

@@ -3,6 +3,7 @@
 use crate::negation_normal_form::build_normal_form;
 use crate::prenex_forall::build_taken_out;
 use building::build::Built;
+use building::terms::WORK;
 use pool::TermPlace;
 use pool::index::INDEX;
 use pool::index::forget;
@@ -32,11 +33,12 @@ pub fn build_forms(
     ensures { λ r. ⌜ FormsBuilt n (t .0) (now (tags .entry)) (now (values .entry)) r (now (tags .exit)) (now (values .exit)) ⌝ }
     ensures { λ _. ⌜ Index (now (tags .entry)) (now (values .entry)) n (now (index .exit)) ⌝ }
 {
-    let Built::At(x, m) = build_normal_form(tags, values, index, n, t, true) else {
+    let mut work = [0u32; WORK];
+    let Built::At(x, m) = build_normal_form(tags, values, &mut work, index, n, t, true) else {
         index_headers(tags, values, n, index);
         return ClausalForms::Full;
     };
-    let Built::At(y, k) = build_taken_out(tags, values, index, m, x) else {
+    let Built::At(y, k) = build_taken_out(tags, values, &mut work, index, m, x) else {
         index_headers(tags, values, n, index);
         return ClausalForms::Full;
     };

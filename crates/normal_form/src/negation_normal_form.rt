@@ -16,7 +16,7 @@ use pool::run::operands;
 ghost use mathlib.Core.Path.{_≡_};
 ghost use mathlib.Core.Bool.{not};
 ghost use Prim.Native.Nat.{_<_};
-ghost use lib.ListN.{take};
+ghost use lib.ListN.{take, replicate};
 ghost use Rattle.formulas.specs.declared.view.View.the-variants.{AndOr, Quantifier};
 ghost use Rattle.formulas.specs.Formula.{viewOf};
 ghost use Rattle.formulas.specs.Normal.{pair};
@@ -244,10 +244,11 @@ fn two_pairs(
     put_pair(tags, values, index, l, polarity, p, q)
 }
 
-// The normal form of the term at t at a polarity, put into the pool of n cells.
+// The normal form of the term at t at a polarity, put into the pool of n cells, with an empty array for the walk.
 pub fn build_normal_form(
     tags: &mut [u8],
     values: &mut [u32],
+    work: &mut [u32; WORK],
     index: &mut [u32; INDEX],
     n: usize,
     t: TermPlace,
@@ -256,9 +257,9 @@ pub fn build_normal_form(
     requires { ⌜ State n n (now tags) (now values) ⌝ }
     requires { ⌜ t .0 < n ⌝ }
     requires { ⌜ Index (now tags) (now values) n (now index) ⌝ }
+    requires { ⌜ now work ≡ replicate 24576 0 ⌝ }
     ensures { λ r. ⌜ NormalBuilt n (now (tags .entry)) (now (values .entry)) (normalForm (poolOf (now (tags .entry)) (now (values .entry)) n) (t .0) polarity) r (now (tags .exit)) (now (values .exit)) ⌝ }
     ensures { λ r. ⌜ Indexed r (now (tags .exit)) (now (values .exit)) (now (index .exit)) ⌝ }
 {
-    let mut work = [0u32; WORK];
-    negation_normal_form(tags, values, &mut work, index, n, n, t, polarity)
+    negation_normal_form(tags, values, work, index, n, n, t, polarity)
 }

@@ -2,6 +2,7 @@
 // The source pool is the cells before `end`. The array `work` is as for the normal form, at true polarity alone.
 use building::build::Built;
 use building::terms::WORK;
+use building::terms::clear_work;
 use building::terms::put_connective;
 use building::terms::slot;
 use formulas::view::NormalView;
@@ -110,6 +111,7 @@ fn operand_forms(
 pub fn build_taken_out(
     tags: &mut [u8],
     values: &mut [u32],
+    work: &mut [u32; WORK],
     index: &mut [u32; INDEX],
     n: usize,
     x: TermPlace,
@@ -120,6 +122,6 @@ pub fn build_taken_out(
     ensures { λ r. ⌜ NormalBuilt n (now (tags .entry)) (now (values .entry)) (takenOut (poolOf (now (tags .entry)) (now (values .entry)) n) (x .0)) r (now (tags .exit)) (now (values .exit)) ⌝ }
     ensures { λ r. ⌜ Indexed r (now (tags .exit)) (now (values .exit)) (now (index .exit)) ⌝ }
 {
-    let mut work = [0u32; WORK];
-    prenex_forall(tags, values, &mut work, index, n, n, x)
+    clear_work(work);
+    prenex_forall(tags, values, work, index, n, n, x)
 }

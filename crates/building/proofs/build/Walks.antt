@@ -278,7 +278,7 @@ zeros-none (suc n) (suc k) zero p e = omega arith
 zeros-none (suc n) (suc k) (suc i) p e = zeros-none n k i p e
 
 -- a memo that has nothing
-pub ready-first : (n : ℕ) (tags values : List ℕ) → State n n tags values → (w : Walk) → WalkReady w n n tags values (replicate 24576 0)
+ready-first : (n : ℕ) (tags values : List ℕ) → State n n tags values → (w : Walk) → WalkReady w n n tags values (replicate 24576 0)
 unfolding memoOf
 ready-first n tags values s w = record {
   state = s;
@@ -288,6 +288,9 @@ ready-first n tags values s w = record {
     below = λ i p e. absurd (zeros-none 16384 24576 i p e);
   };
 }
+
+pub ready-empty : (n : ℕ) (tags values work : List ℕ) → State n n tags values → work ≡ replicate 24576 0 → (w : Walk) → WalkReady w n n tags values work
+ready-empty n tags values work s e w = rw e (ready-first n tags values s w)
 
 module _ (w : Walk) (n : ℕ) (tags values work : List ℕ) (t : ℕ) (polarity : Bool) where
   pub whole-built : (r : Built) (tags′ values′ work′ : List ℕ) → Known w n n tags values work t polarity r tags′ values′ work′

@@ -4,7 +4,7 @@ use Prim.Native.Nat.{ℕ, suc, _+_, _-_, _≤_, _<_}
 use mathlib.Core.Path.{_≡_, refl, sym, ap, _∙_}
 use mathlib.Core.Bool.{Bool, true, false}
 use mathlib.Core.List.{List, [], _∷_, _++_, map}
-use lib.ListN.{length, getD, take, drop, set, length-set, length-drop, length-take}
+use lib.ListN.{length, getD, take, drop, set, replicate, length-set, length-drop, length-take}
 use lib.Seq.{getD-set-same, take-suc, take-suc-set, take-set-le, take-all, getD-drop, drop-set-add, length-take-le}
 use lib.Dec.{ltb}
 use native.Mathlib.Omega.{arith}
@@ -12,6 +12,7 @@ use native.Mathlib.Numerals.{add-one}
 use Rattle.cells.specs.Place.{termAt}
 use Rattle.cells.specs.ByPlace.{by-test}
 use Rattle.cells.specs.Cell.{cellsOf, operandsOf}
+use Rattle.descriptions.specs.Description.{zeroFrom}
 use Rattle.building.specs.declared.build.Built.{Built}
 use Rattle.building.specs.declared.build.Built.the-variants.{At}
 use Rattle.formulas.specs.Normal.{lit, flip}
@@ -19,6 +20,11 @@ use Rattle.formulas.specs.Built.{put, intern}
 use Rattle.formulas.specs.Formula.{quantifierTag, connectiveTag}
 use Rattle.building.specs.Arrays.{poolOf}
 use Rattle.building.specs.Walk.{State, Puts, memoOf, RowHolds, slotOf, placesIn, runOf}
+
+-- ---- an empty array
+pub cleared : (work work′ : List ℕ) → work′ ≡ zeroFrom 0 work → length work ≡ 24576 → work′ ≡ replicate 24576 0
+unfolding zeroFrom
+cleared work work′ e l = rw (e, l)
 
 -- ---- the memo's index
 module _ (t : ℕ) (polarity : Bool) where

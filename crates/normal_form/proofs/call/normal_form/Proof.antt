@@ -1,4 +1,4 @@
-use mathlib.Core.Path.{_∙_}
+use mathlib.Core.Path.{refl, _∙_}
 use Rattle.normal_form.proofs.Promises.{normal-form-promise}
 use Rattle.normal_form.proofs.call.Laws.{normals, checked-ready, count-fits}
 use borrow.Author.Needs.{needs}
@@ -31,10 +31,10 @@ returns-2 c = normal-form-promise (search normals)
 
 build-normal-form-requires : tie.Need-build-normal-form-requires
 build-normal-form-requires c κs =
-    let at-if2 = c .before .before .before in
+    let at-if2 = c .before .before .before .before in
     let at-index-term = at-if2 .before .before .before .before in
     let (state, within) = checked-ready _ _ _ _ _ _ (at-index-term .index-term .ensures .0) (at-if2 .if2 .left) in
-    (state, (within, at-index-term .index-term .ensures .1 .passed (at-if2 .if2 .left)))
+    (state, (within, (at-index-term .index-term .ensures .1 .passed (at-if2 .if2 .left), refl)))
 
 enum-known-p : tie.Need-enum-known-p
 enum-known-p c = search needs

@@ -1,12 +1,15 @@
 use borrow.Author.Needs.{needs}
 use Rattle.building.proofs.build.Indexing.{indexings}
-use Rattle.building.proofs.build.Walks.{ready-first}
+use Rattle.building.proofs.build.Walks.{ready-empty}
 use Rattle.normal_form.proofs.prenex_forall.Laws.{taken-built}
 use Rattle.normal_form.proofs.prenex_forall.build_taken_out.Statement.{statement}
 use Rattle.normal_form.proofs.prenex_forall.build_taken_out.Tie as tie
 
+clear-work-requires : tie.Need-clear-work-requires
+clear-work-requires c κs = search needs
+
 prenex-forall-requires : tie.Need-prenex-forall-requires
-prenex-forall-requires c κs = search ready-first
+prenex-forall-requires c κs = search ready-empty
 
 same-length : tie.Need-same-length
 same-length c = search needs
@@ -19,4 +22,4 @@ returns c = search (taken-built, indexings)
 
 pub build-taken-out-spec : {M : Type 1} → statement M
 build-taken-out-spec =
-    tie.close (tie.spec prenex-forall-requires same-length same-length-2 returns)
+    tie.close (tie.spec clear-work-requires prenex-forall-requires same-length same-length-2 returns)
