@@ -2,19 +2,22 @@
 """Writes the test files of the program `calls`: the collections crates/calls/data/*.calls, args, and stdout, what it must print.
 
 What is expected comes from the reference, held against the answers that the cases state by hand. Files of calls that
-are not BUILT (reference_program.py) are left out.
+are not BUILT (reference_program.py) are left out. Every collection has another one beside it, of the same calls with tags lent as
+bytes.
 """
 import pathlib
 
 from call_collections import packed
-from cases import (cases_checks, cases_clauses, cases_clausification, cases_examples, cases_files, cases_free, cases_long_lists,
-                   cases_miniscope, cases_normal, cases_rules, cases_sorts)
-from references.reference_program import is_tried, run
+from cases import (cases_checks, cases_clauses, cases_clausification, cases_examples, cases_files, cases_free, cases_layouts,
+                   cases_long_lists, cases_miniscope, cases_normal, cases_rules, cases_sorts)
+from pools.layouts import in_bytes, narrowed, narrowed_lines
+from references.reference_program import is_tried, lent_in_bytes, run
 
 CASES = (cases_files, cases_checks, cases_sorts, cases_free, cases_normal, cases_clauses, cases_rules, cases_miniscope, cases_long_lists,
-         cases_clausification, cases_examples)
+         cases_clausification, cases_examples, cases_layouts)
 CRATE = pathlib.Path(__file__).resolve().parent.parent / 'crates' / 'calls'
 MISSING = 'no-such-file.call'
+BAD = 'bad file\n'
 
 
 def held(name, text, answer, more=None):
@@ -41,25 +44,49 @@ def texts(groups):
     return found
 
 
+def byte_calls(name, file, text):
+    """The call with tags lent as bytes, which prints the same. Where a tag is over 255 it is a bad file, and there is one more, in
+    which such tags are 255."""
+    small = file if text == BAD else narrowed(file)
+    found = {name + '-bytes.call': (in_bytes(file), text if small == file else BAD)}
+    if small != file:
+        found[name + '-narrowed.call'] = in_bytes(small), '\n'.join(narrowed_lines(text.splitlines())) + '\n'
+    for made, (given, expected) in found.items():
+        assert run(given) == expected, made
+    return found
+
+
+def byte_texts(calls):
+    """The same calls with tags lent as bytes, but for those that are."""
+    found = {}
+    for name, (file, text) in calls.items():
+        if not lent_in_bytes(file):
+            found.update(byte_calls(name.removesuffix('.call'), file, text))
+    return found
+
+
+def collections():
+    """The names of the collections, and their calls."""
+    in_words = {topic: texts(groups) for cases in CASES for topic, groups in cases.COLLECTIONS.items()}
+    return {**in_words, **{topic + '-bytes': byte_texts(calls) for topic, calls in in_words.items()}}
+
+
 def main():
     data = CRATE / 'data'
     data.mkdir(parents=True, exist_ok=True)
     for old in data.glob('*.calls'):
         old.unlink()
     names, printed = [], {}
-    for cases in CASES:
-        for topic, groups in cases.COLLECTIONS.items():
-            calls = texts(groups)
-            assert not calls.keys() & printed.keys(), topic
-            names.append(topic + '.calls')
-            (data / names[-1]).write_bytes(packed([(name, file) for name, (file, _) in calls.items()]))
-            printed.update((name, text) for name, (_, text) in calls.items())
-    collections, calls = len(names), len(printed)
+    for topic, calls in collections().items():
+        assert not calls.keys() & printed.keys(), topic
+        names.append(topic + '.calls')
+        (data / names[-1]).write_bytes(packed([(name, file) for name, (file, _) in calls.items()]))
+        printed.update((name, text) for name, (_, text) in calls.items())
+    print('%d collections of %d calls' % (len(names), len(printed)))
     names.append(MISSING)
-    printed[MISSING] = 'bad file\n'
+    printed[MISSING] = BAD
     (CRATE / 'args').write_text(''.join(name + '\n' for name in names))
     (CRATE / 'stdout').write_text(''.join(name + ':\n' + text for name, text in printed.items()))
-    print('%d collections of %d calls' % (collections, calls))
 
 
 if __name__ == '__main__':

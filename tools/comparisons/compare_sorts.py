@@ -9,6 +9,7 @@ to `calls` on standard input.
 import subprocess
 
 from comparisons.comparison import BATCH, Compared, cells_of, has_let, loader_stops, test_files
+from pools.layouts import in_bytes
 from pools.packed_pool import call_file, step_file
 from random_inputs.random_pools import RandomPool, damaged
 from references import reference, reference_program
@@ -93,8 +94,9 @@ class ComparedSorts(Compared):
 
     def standard_input(self):
         file = next(file for name, file, *_ in test_files(2) if name == 'free-forall.call')
-        printed = subprocess.run([self.calls], input=file, capture_output=True, check=True).stdout.decode()
-        assert printed == reference_program.run(file), 'standard input'
+        for given in (file, in_bytes(file)):
+            printed = subprocess.run([self.calls], input=given, capture_output=True, check=True).stdout.decode()
+            assert printed == reference_program.run(given), 'standard input'
 
 
 def compare(options):

@@ -13,7 +13,8 @@ import subprocess
 import tempfile
 
 from call_collections import unpacked
-from references.reference_program import BUILT, call_of, run
+from pools.layouts import in_bytes, narrowed, narrowed_lines
+from references.reference_program import BUILT, call_of, lent_in_bytes, run
 
 DATA = pathlib.Path(__file__).resolve().parents[2] / 'crates' / 'calls' / 'data'
 BATCH = 20  # pools to a run of `calls`
@@ -21,9 +22,9 @@ LET = 27
 
 
 def test_files(*calls):
-    """The test files of these calls: name, bytes, and of the head the count and the word after it."""
+    """The test files of these calls with u32 tags: name, bytes, and of the head the count and the word after it."""
     for name, file in sorted(call for path in DATA.glob('*.calls') for call in unpacked(path.read_bytes())):
-        if call_of(file) in calls and run(file) != 'bad file\n':
+        if not lent_in_bytes(file) and call_of(file) in calls and run(file) != 'bad file\n':
             yield name, file, *struct.unpack('<2I', file[12:20])
 
 
@@ -59,7 +60,14 @@ class Compared:
         return done.stdout.decode().splitlines()
 
     def replay(self, files):
-        """What `calls` prints on each file, by lines."""
+        """What `calls` prints on each file, by lines. With tags in bytes it must print the same."""
+        texts = self.printed(files)
+        for file, text, ours in zip(files, texts, self.printed([in_bytes(narrowed(file)) for file in files])):
+            self.same('outputs in bytes', ours, narrowed_lines(text), struct.unpack('<%dI' % (len(file) // 4), file), 0)
+        return texts
+
+    def printed(self, files):
+        """The same for one layout."""
         with tempfile.TemporaryDirectory() as folder:
             names = [str(i) for i in range(len(files))]
             for name, file in zip(names, files):

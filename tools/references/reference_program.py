@@ -1,8 +1,9 @@
 """What the program `calls` prints on a call file, by the reference.
 
-    run(file)        the text
-    is_tried(file)   whether the program is tried on the file
-    BUILT            the calls that the program has: the test files of other calls are written but not tried
+    run(file)              the text
+    is_tried(file)         whether the program is tried on the file
+    lent_in_bytes(file)    whether the file has block 102, by which tags are lent as bytes
+    BUILT                  the calls that the program has: the test files of other calls are written but not tried
 """
 import struct
 
@@ -13,10 +14,20 @@ from references.reference_clauses import clause_call, normal_call
 CALLS = (0, 1, 2, 3, 4)
 BUILT = (0, 1, 2, 3, 4)
 MOST = 9000  # of each array of a call file
+BYTE_TAGS = 102  # the only block that the program has
+
+
+def lent_in_bytes(file):
+    return file[:4] == struct.pack('<I', BYTE_TAGS)
+
+
+def without_block(file):
+    return file[4:] if lent_in_bytes(file) else file
 
 
 def call_of(file):
     """The call of a file, or None."""
+    file = without_block(file)
     return struct.unpack('<I', file[:4])[0] if len(file) >= 32 else None
 
 
@@ -25,6 +36,7 @@ def is_tried(file):
 
 
 def run(file):
+    in_bytes, file = lent_in_bytes(file), without_block(file)
     if len(file) < 32:
         return 'bad file\n'
     call, t, v, n, place, polarity, x, y = struct.unpack('<8I', file[:32])
@@ -34,6 +46,8 @@ def run(file):
         return 'bad file\n'
     cells = list(struct.unpack('<%dI' % (t + v + given), file[32:]))
     tags, values, conclusion = cells[:t], cells[t:t + v], cells[t + v:]
+    if in_bytes and any(tag > 255 for tag in tags):
+        return 'bad file\n'
     names = {2: ('marks',), 4: ('literals', 'ends')}.get(call, ())
     lent = [[7] * size for size, _ in zip(sizes, names)]
     if call == 0:
