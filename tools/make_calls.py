@@ -44,16 +44,17 @@ def texts(groups):
     return found
 
 
-def byte_calls(name, file, text):
-    """The call with tags lent as bytes, which prints the same. Where a tag is over 255 it is a bad file, and there is one more, in
-    which such tags are 255."""
+def byte_call(name, file, text):
+    """The call with tags lent as bytes, which prints the same. Where a tag is over 255 that is a bad file (the collection layouts tries
+    some), and the call has 255 for such tags."""
     small = file if text == BAD else narrowed(file)
-    found = {name + '-bytes.call': (in_bytes(file), text if small == file else BAD)}
-    if small != file:
-        found[name + '-narrowed.call'] = in_bytes(small), '\n'.join(narrowed_lines(text.splitlines())) + '\n'
-    for made, (given, expected) in found.items():
-        assert run(given) == expected, made
-    return found
+    if small == file:
+        made, given, expected = name + '-bytes.call', in_bytes(file), text
+    else:
+        assert run(in_bytes(file)) == BAD, name
+        made, given, expected = name + '-narrowed.call', in_bytes(small), '\n'.join(narrowed_lines(text.splitlines())) + '\n'
+    assert run(given) == expected, made
+    return made, (given, expected)
 
 
 def byte_texts(calls):
@@ -61,7 +62,8 @@ def byte_texts(calls):
     found = {}
     for name, (file, text) in calls.items():
         if not lent_in_bytes(file):
-            found.update(byte_calls(name.removesuffix('.call'), file, text))
+            made, call = byte_call(name.removesuffix('.call'), file, text)
+            found[made] = call
     return found
 
 

@@ -58,13 +58,7 @@ pub fn clause_list(
 }
 
 // The check of a step whose conclusion is given by its places.
-pub fn check(
-    tags: &mut [u8],
-    values: &mut [u32],
-    n: usize,
-    rule: u32,
-    conclusion: &[u32],
-) -> Answer
+pub fn check(tags: &mut [u8], values: &mut [u32], n: usize, rule: u32, conclusion: &[u32]) -> Answer
     ensures { λ r. ⌜ Step (now (tags .entry)) (now (values .entry)) builtIn n rule (now (conclusion .entry)) r (now (tags .exit)) (now (values .exit)) ⌝ }
 {
     rules::check::check(tags, values, n, rule, conclusion)

@@ -21,7 +21,14 @@ fn normal_in(bytes: &[u8], head: Head, in_bytes: bool, tags: &mut [u32], values:
         return;
     }
     let polarity = head.polarity != 0;
-    let answer = layouts::normal_form(in_bytes, tags, values, head.n, TermPlace(head.place), polarity);
+    let answer = layouts::normal_form(
+        in_bytes,
+        tags,
+        values,
+        head.n,
+        TermPlace(head.place),
+        polarity,
+    );
     report::pool_after(answer, 0, tags, values);
 }
 
@@ -52,7 +59,15 @@ fn clauses_in(
         report::bad_file();
         return;
     }
-    let listed = layouts::clause_list(in_bytes, tags, values, head.n, TermPlace(head.place), literals, ends);
+    let listed = layouts::clause_list(
+        in_bytes,
+        tags,
+        values,
+        head.n,
+        TermPlace(head.place),
+        literals,
+        ends,
+    );
     report::pool_after(listed.answer, listed.count, tags, values);
     report::line(b"literals", literals);
     report::line(b"ends", ends);

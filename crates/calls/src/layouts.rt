@@ -3,9 +3,9 @@ ghost use Prim.Native.Nat.{_≤_};
 ghost use mathlib.Core.Path.{_≡_};
 ghost use lib.ListN.{length};
 use crate::arrays::byte_cells;
+use normal_form::call::Listed;
 use pool::Answer;
 use pool::TermPlace;
-use normal_form::call::Listed;
 
 // Whether every tag fits a byte.
 fn fit_bytes(tags: &[u32]) -> bool {

@@ -12,7 +12,14 @@ use crate::report;
 use step_files::words::read_words;
 
 // On arrays of the file's lengths.
-fn check_in(bytes: &[u8], head: Head, in_bytes: bool, tags: &mut [u32], values: &mut [u32], conclusion: &mut [u32])
+fn check_in(
+    bytes: &[u8],
+    head: Head,
+    in_bytes: bool,
+    tags: &mut [u32],
+    values: &mut [u32],
+    conclusion: &mut [u32],
+)
     requires { ⌜ (length (now tags) ≤ 9000) × (length (now values) ≤ 9000) ⌝ }
 {
     let t = tags.len();

@@ -35,7 +35,14 @@ pub fn sort(bytes: &[u8], head: Head, in_bytes: bool)
 }
 
 // On arrays of the file's lengths.
-fn free_vars_in(bytes: &[u8], head: Head, in_bytes: bool, tags: &mut [u32], values: &mut [u32], marks: &mut [u8])
+fn free_vars_in(
+    bytes: &[u8],
+    head: Head,
+    in_bytes: bool,
+    tags: &mut [u32],
+    values: &mut [u32],
+    marks: &mut [u8],
+)
     requires { ⌜ length (now tags) ≤ 9000 ⌝ }
 {
     read_pool(bytes, tags, values);

@@ -119,12 +119,7 @@ fn enter_header(tags: &[u8], values: &[u32], p: usize, index: &mut [u32; INDEX])
 }
 
 // Check 15, with an index that is empty at first.
-pub(crate) fn first_repeat(
-    tags: &[u8],
-    values: &[u32],
-    n: usize,
-    index: &mut [u32; INDEX],
-) -> Found
+pub(crate) fn first_repeat(tags: &[u8], values: &[u32], n: usize, index: &mut [u32; INDEX]) -> Found
     requires { ⌜ Index (now tags) (now values) 0 (now index) ⌝ }
     requires { ⌜ n ≤ cellLimit ⌝ }
     ensures { λ r. ⌜ r ≡ firstRepeat (now (tags .entry)) (now (values .entry)) n ⌝ }

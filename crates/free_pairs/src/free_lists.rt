@@ -2,13 +2,13 @@
 // not free that they are not; for a pair that it leaves open, and the 30 after it, one more walk says which are free.
 use crate::free_masks::free_mask;
 use crate::free_masks::group;
-use free_variables::term_names::mark_names;
-use free_variables::term_names::may_be_free;
 use bindings::binding::FirstName;
 use bindings::binding::has;
 use cells::SortPlace;
 use cells::TermPlace;
 use cells::limits::CELLS;
+use free_variables::term_names::mark_names;
+use free_variables::term_names::may_be_free;
 ghost use mathlib.Core.Path.{_≡_};
 ghost use mathlib.Core.Bool.{not, _&&_};
 ghost use lib.ListN.{take};

@@ -1,9 +1,6 @@
 // Which pairs of a binding list are free in a term, for up to 31 pairs by one walk. The answer is a mask: bit i is set where pair i
 // is free. A memo keeps for each place its mask plus 1, so that each place is visited once however terms are shared. A place
 // past the memo's end is walked anew.
-use free_variables::free_vars::has_pair;
-use free_variables::term_names::FreeFrom;
-use free_variables::term_names::free_from;
 use bindings::binding::same_pair;
 use cells::Found;
 use cells::SortPlace;
@@ -14,8 +11,11 @@ use cells::run::operands;
 use cells::run::sort_of;
 use cells::tags::LET;
 use cells::tags::VARIABLE;
-use descriptions::description::find;
 use cells::tags::tag_at;
+use descriptions::description::find;
+use free_variables::free_vars::has_pair;
+use free_variables::term_names::FreeFrom;
+use free_variables::term_names::free_from;
 ghost use mathlib.Core.Path.{_≡_};
 ghost use Prim.Native.Nat.{_≤_, _<_};
 ghost use lib.ListN.{length, getD, take};

@@ -41,7 +41,8 @@ pub fn normal_form(
         return checked;
     }
     let mut work = [0u32; WORK];
-    let Built::At(p, m) = build_normal_form(tags, values, &mut work, &mut index, n, t, polarity) else {
+    let Built::At(p, m) = build_normal_form(tags, values, &mut work, &mut index, n, t, polarity)
+    else {
         cut_back(tags, values, n);
         return Answer::refused(31, 0, 0);
     };

@@ -1,14 +1,14 @@
 // The check of a step: 30, 14, 15, 16, 18, 1, 17, and then its rule.
 use clausification::qnt_cnf::qnt_cnf;
+use miniscoping::miniscope_distribute::miniscope_distribute;
+use miniscoping::miniscope_ite::miniscope_ite;
+use miniscoping::miniscope_split::miniscope_split;
 use pool::Answer;
 use pool::TermPlace;
 use pool::call::index_pool;
 use pool::description::cut_back;
 use pool::index::INDEX;
 use pool::well_formed::is_term;
-use miniscoping::miniscope_distribute::miniscope_distribute;
-use miniscoping::miniscope_ite::miniscope_ite;
-use miniscoping::miniscope_split::miniscope_split;
 use quantifier_rules::qnt_join::qnt_join;
 use quantifier_rules::qnt_rm_unused::qnt_rm_unused;
 ghost use Prim.Native.Nat.{min};

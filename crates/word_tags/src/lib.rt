@@ -97,7 +97,14 @@ pub fn clause_list(
     }
     let mut bytes = [0u8; CELLS];
     let k = narrow_into(tags, &mut bytes);
-    let listed = normal_form::call::clause_list(&mut bytes[..k], &mut values[..k], n, t, literals, ends);
+    let listed = normal_form::call::clause_list(
+        &mut bytes[..k],
+        &mut values[..k],
+        n,
+        t,
+        literals,
+        ends,
+    );
     if listed.answer.code == 30 {
         return listed;
     }
