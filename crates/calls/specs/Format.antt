@@ -3,7 +3,7 @@
 --     call, T, V, N, rule or place, polarity, X, Y; then T tags and V values, and in a call 0 the X places of the conclusion
 -- Rests on step_files' Words and on the struct `Head`.
 use Prim.Native.Nat.{ℕ, _+_, _*_, _≤_}
-use mathlib.Core.Bool.{Bool, _&&_, cond}
+use mathlib.Core.Bool.{Bool, _&&_, _||_, cond}
 use mathlib.Core.List.{List}
 use lib.ListN.{length}
 use lib.Dec.{leb, eqb}
@@ -28,18 +28,27 @@ headOf bytes =
       ends = wordAt bytes 7;
     }
 
--- the places of the conclusion, in a call 0
+-- X: the places of the conclusion in a call 0, and the length of a lent array in the calls 2 and 4
 unfoldable pub conclusionCount : Head → ℕ
 conclusionCount head = cond (eqb (head .call) 0) (head .lent) 0
 
--- each array has at most 9,000 elements, and the file ends with the last of them
+unfoldable pub lentCount : Head → ℕ
+lentCount head = cond (eqb (head .call) 2 || eqb (head .call) 4) (head .lent) 0
+
+-- Y: the length of the array of ends in a call 4
+unfoldable pub endsCount : Head → ℕ
+endsCount head = cond (eqb (head .call) 4) (head .ends) 0
+
+-- each array has at most 9,000 elements, and the file ends with the last of those that stand in it
 unfoldable pub isWhole : List ℕ → Head → Bool
 isWhole bytes head =
-    leb (head .tags) 9000 && (leb (head .values) 9000 && (leb (conclusionCount head) 9000
-    && eqb (length bytes) (4 * (8 + head .tags + head .values + conclusionCount head))))
+    leb (head .tags) 9000 && (leb (head .values) 9000 && (leb (lentCount head) 9000 && (leb (endsCount head) 9000
+    && (leb (conclusionCount head) 9000 && eqb (length bytes) (4 * (8 + head .tags + head .values + conclusionCount head))))))
 
 -- the arrays' bounds as facts
 pub record Bounded (head : Head) : Type 0 where
   pub tags : head .tags ≤ 9000
   pub values : head .values ≤ 9000
+  pub lent : lentCount head ≤ 9000
+  pub ends : endsCount head ≤ 9000
   pub conclusion : conclusionCount head ≤ 9000

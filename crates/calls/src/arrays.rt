@@ -1,10 +1,18 @@
-// Arrays that are filled from a call file or lent to a call. Those that are made say only how long they are.
+// Arrays that are filled from a call file or lent to a call: each as long as any that a file may name.
 ghost use Prim.Native.Nat.{_≤_};
 ghost use mathlib.Core.Path.{_≡_};
 ghost use lib.ListN.{length};
+use crate::call_files::HEAD;
 use step_files::words::read_words;
+use step_files::words::word;
 
-pub fn cells() -> [u32; 9000]
+fn cells() -> [u32; 9000]
+    ensures { λ r. ⌜ 9000 ≡ length r ⌝ }
+{
+    [0; 9000]
+}
+
+fn byte_cells() -> [u8; 9000]
     ensures { λ r. ⌜ 9000 ≡ length r ⌝ }
 {
     [0; 9000]
@@ -30,18 +38,30 @@ pub fn file_bytes() -> [u8; 108037]
     [0; 108037]
 }
 
-// Tags in bytes.
-pub fn byte_cells() -> [u8; 9000]
+// The k words from position start on, at the front of an array.
+pub fn read_array(bytes: &[u8], start: usize, k: usize) -> [u32; 9000]
+    requires { ⌜ k ≤ 9000 ⌝ }
     ensures { λ r. ⌜ 9000 ≡ length r ⌝ }
 {
-    [0; 9000]
+    let mut array = cells();
+    read_words(bytes, start, &mut array[..k]);
+    array
 }
 
-// Reads a pool into arrays of the file's lengths.
-pub fn read_pool(bytes: &[u8], tags: &mut [u32], values: &mut [u32])
-    requires { ⌜ length (now tags) ≤ 9000 ⌝ }
+fn byte(tag: u32) -> u8 {
+    if tag < 256 { tag as u8 } else { 255 }
+}
+
+// The k tags after the head as bytes.
+pub fn read_byte_tags(bytes: &[u8], k: usize) -> [u8; 9000]
+    requires { ⌜ k ≤ 9000 ⌝ }
+    ensures { λ r. ⌜ 9000 ≡ length r ⌝ }
 {
-    let t = tags.len();
-    read_words(bytes, 8, tags);
-    read_words(bytes, 8 + t, values);
+    let mut tags = byte_cells();
+    let mut i = 0;
+    while i < k {
+        tags[i] = byte(word(bytes, HEAD + i));
+        i += 1;
+    }
+    tags
 }

@@ -1,7 +1,8 @@
 // The layout of a call file: u32 little-endian words. The word 102 may stand first, the block that has tags lent as bytes. Then eight words are
 // call, T, V, N, rule or place, polarity, X and Y. T tags and V values follow, and in a call 0 the X places of the conclusion.
+ghost use Prim.Native.Nat.{_≤_};
 ghost use mathlib.Core.Path.{_≡_};
-ghost use Rattle.calls.specs.Format.{lentInBytes, headOf, conclusionCount, isWhole};
+ghost use Rattle.calls.specs.Format.{lentInBytes, headOf, lentCount, endsCount, conclusionCount, isWhole};
 use pool::run::wide;
 use step_files::words::word;
 
@@ -17,6 +18,20 @@ pub struct Head {
     pub lent: usize,
     pub ends: usize,
 }
+
+// Its words.
+pub const HEAD: usize = 8;
+
+// The calls by their first word.
+pub const CHECK: u32 = 0;
+
+pub const SORT: u32 = 1;
+
+pub const FREE_VARS: u32 = 2;
+
+pub const NORMAL_FORM: u32 = 3;
+
+pub const CLAUSE_LIST: u32 = 4;
 
 // The block that has tags lent as bytes.
 const BYTE_TAGS: u32 = 102;
@@ -55,13 +70,36 @@ pub fn read_head(bytes: &[u8]) -> Head
 pub fn conclusion_count(head: Head) -> usize
     ensures { λ r. ⌜ r ≡ conclusionCount head ⌝ }
 {
-    if head.call == 0 {
+    if head.call == CHECK {
         return head.lent;
     }
     0
 }
 
-// Whether the arrays have at most 9,000 elements each and fill the file to its end.
+// The length of the array that X is of: calls 2 and 4 are lent one.
+pub fn lent_count(head: Head) -> usize
+    ensures { λ r. ⌜ r ≡ lentCount head ⌝ }
+{
+    if head.call == FREE_VARS {
+        return head.lent;
+    }
+    if head.call == CLAUSE_LIST {
+        return head.lent;
+    }
+    0
+}
+
+// The length of the array of clause ends.
+pub fn ends_count(head: Head) -> usize
+    ensures { λ r. ⌜ r ≡ endsCount head ⌝ }
+{
+    if head.call == CLAUSE_LIST {
+        return head.ends;
+    }
+    0
+}
+
+// Whether the arrays have at most 9,000 elements each, and those that stand in the file fill it to its end.
 pub fn is_whole(bytes: &[u8], head: Head) -> bool
     ensures { λ r. ⌜ r ≡ isWhole (now (bytes .entry)) head ⌝ }
 {
@@ -71,9 +109,29 @@ pub fn is_whole(bytes: &[u8], head: Head) -> bool
     if 9000 < head.values {
         return false;
     }
+    if 9000 < lent_count(head) {
+        return false;
+    }
+    if 9000 < ends_count(head) {
+        return false;
+    }
     let places = conclusion_count(head);
     if 9000 < places {
         return false;
     }
-    bytes.len() == 4 * (8 + head.tags + head.values + places)
+    bytes.len() == 4 * (HEAD + head.tags + head.values + places)
+}
+
+// Whether each of the k tags after the head fits a byte.
+pub fn fit_bytes(bytes: &[u8], k: usize) -> bool
+    requires { ⌜ k ≤ 9000 ⌝ }
+{
+    let mut i = 0;
+    while i < k {
+        if 255 < word(bytes, HEAD + i) {
+            return false;
+        }
+        i += 1;
+    }
+    true
 }

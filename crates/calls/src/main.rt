@@ -1,14 +1,12 @@
 // The check of a step and the public calls of the pool and of normal forms from a shell: a call file on standard input, or the call
 // files that the arguments name, each after a line with its name. An argument that ends in `.calls` names a collection of them.
 mod arrays;
+mod byte_calls;
 mod call_files;
 mod collections;
-mod formula_calls;
-mod layouts;
 mod one_call;
 mod report;
-mod rule_call;
-mod term_calls;
+mod word_calls;
 
 use crate::arrays::file_bytes;
 use crate::collections::is_collection;

@@ -111,3 +111,10 @@ pub fn pool_after(a: Answer, count: u32, tags: &[u32], values: &[u32]) {
     line(b"tags", tags);
     line(b"values", values);
 }
+
+// The same where the tags were lent as bytes.
+pub fn byte_pool_after(a: Answer, count: u32, tags: &[u8], values: &[u32]) {
+    answer_line(a, count);
+    byte_line(b"tags", tags);
+    line(b"values", values);
+}

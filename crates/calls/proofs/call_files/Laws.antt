@@ -9,7 +9,7 @@ use lib.Dec.{leb, eqb}
 use native.Mathlib.Omega.{arith}
 use borrow.Author.Tests.{lt-leb, le-leb, leb-true, eq-eqb, ne-eqb, not-false}
 use Rattle.step_files.specs.Words.{wordAt}
-use Rattle.calls.specs.Format.{headOf, conclusionCount, isWhole, Bounded}
+use Rattle.calls.specs.Format.{headOf, conclusionCount, lentCount, endsCount, isWhole, Bounded}
 use Rattle.calls.specs.declared.call_files.Head.{Head}
 
 -- ---- the lengths
@@ -27,35 +27,69 @@ module _ (bytes : List ℕ) (head : Head) where
     unfolding isWhole
     whole-values h = rw (le-leb _ _ t, lt-leb _ _ h)
 
-    module _ (v : head .values ≤ 9000) (x : ℕ) (is : x ≡ conclusionCount head) where
-      pub whole-places : 9000 < x → false ≡ isWhole bytes head
+    module _ (v : head .values ≤ 9000) (l : ℕ) (l-is : l ≡ lentCount head) where
+      pub whole-lent : 9000 < l → false ≡ isWhole bytes head
       unfolding isWhole
-      whole-places h = rw (le-leb _ _ t, le-leb _ _ v, ← is, lt-leb _ _ h)
+      whole-lent h = rw (le-leb _ _ t, le-leb _ _ v, ← l-is, lt-leb _ _ h)
 
-      pub whole-size : x ≤ 9000 → eqb (length bytes) (4 * (8 + head .tags + head .values + x)) ≡ isWhole bytes head
-      unfolding isWhole
-      whole-size h = rw (le-leb _ _ t, le-leb _ _ v, ← is, le-leb _ _ h)
+      module _ (g : l ≤ 9000) (e : ℕ) (e-is : e ≡ endsCount head) where
+        pub whole-ends : 9000 < e → false ≡ isWhole bytes head
+        unfolding isWhole
+        whole-ends h = rw (le-leb _ _ t, le-leb _ _ v, ← l-is, le-leb _ _ g, ← e-is, lt-leb _ _ h)
+
+        module _ (f : e ≤ 9000) (x : ℕ) (is : x ≡ conclusionCount head) where
+          pub whole-places : 9000 < x → false ≡ isWhole bytes head
+          unfolding isWhole
+          whole-places h = rw (le-leb _ _ t, le-leb _ _ v, ← l-is, le-leb _ _ g, ← e-is, le-leb _ _ f, ← is, lt-leb _ _ h)
+
+          pub whole-size : x ≤ 9000 → eqb (length bytes) (4 * (8 + head .tags + head .values + x)) ≡ isWhole bytes head
+          unfolding isWhole
+          whole-size h = rw (le-leb _ _ t, le-leb _ _ v, ← l-is, le-leb _ _ g, ← e-is, le-leb _ _ f, ← is, le-leb _ _ h)
 
   -- what a call may count on
   pub whole-bounded : (w : Bool) → w ≡ isWhole bytes head → not w ≡ false → Bounded head
   unfolding isWhole
   whole-bounded w is e =
       let (t, rest) = both (leb (head .tags) 9000) _ (sym is ∙ not-false w e) in
-      let (v, rest′) = both (leb (head .values) 9000) _ rest in
-      let (x, _) = both (leb (conclusionCount head) 9000) _ rest′ in
-      record { tags = leb-true _ _ t; values = leb-true _ _ v; conclusion = leb-true _ _ x }
+      let (v, rest₁) = both (leb (head .values) 9000) _ rest in
+      let (l, rest₂) = both (leb (lentCount head) 9000) _ rest₁ in
+      let (f, rest₃) = both (leb (endsCount head) 9000) _ rest₂ in
+      let (x, _) = both (leb (conclusionCount head) 9000) _ rest₃ in
+      record { tags = leb-true _ _ t; values = leb-true _ _ v; lent = leb-true _ _ l; ends = leb-true _ _ f; conclusion = leb-true _ _ x }
 
-pub count-none : (head : Head) → (head .call ≡ 0 → ⊥) → 0 ≡ conclusionCount head
-unfolding conclusionCount
-count-none head h = rw (ne-eqb _ _ h)
+module _ (head : Head) where
+  pub places-none : (head .call ≡ 0 → ⊥) → 0 ≡ conclusionCount head
+  unfolding conclusionCount
+  places-none h = rw (ne-eqb _ _ h)
 
-pub count-some : (head : Head) → head .call ≡ 0 → head .lent ≡ conclusionCount head
-unfolding conclusionCount
-count-some head e = rw (eq-eqb _ _ e)
+  pub places-some : head .call ≡ 0 → head .lent ≡ conclusionCount head
+  unfolding conclusionCount
+  places-some e = rw (eq-eqb _ _ e)
 
-pub ruleset counts = (count-none, count-some)
+  pub lent-marks : head .call ≡ 2 → head .lent ≡ lentCount head
+  unfolding lentCount
+  lent-marks e = rw (eq-eqb _ _ e)
 
-pub ruleset whole = (whole-tags, whole-values, whole-places, whole-size)
+  module _ (h : head .call ≡ 2 → ⊥) where
+    pub lent-literals : head .call ≡ 4 → head .lent ≡ lentCount head
+    unfolding lentCount
+    lent-literals e = rw (ne-eqb _ _ h, eq-eqb _ _ e)
+
+    pub lent-none : (head .call ≡ 4 → ⊥) → 0 ≡ lentCount head
+    unfolding lentCount
+    lent-none o = rw (ne-eqb _ _ h, ne-eqb _ _ o)
+
+  pub ends-some : head .call ≡ 4 → head .ends ≡ endsCount head
+  unfolding endsCount
+  ends-some e = rw (eq-eqb _ _ e)
+
+  pub ends-none : (head .call ≡ 4 → ⊥) → 0 ≡ endsCount head
+  unfolding endsCount
+  ends-none h = rw (ne-eqb _ _ h)
+
+pub ruleset counts = (places-none, places-some, lent-marks, lent-literals, lent-none, ends-some, ends-none)
+
+pub ruleset whole = (whole-tags, whole-values, whole-lent, whole-ends, whole-places, whole-size)
 
 -- ---- the first words
 pub head-read : (bytes : List ℕ) (k t v n p q x y t' v' n' x' y' : ℕ) → k ≡ wordAt bytes 0 → t' ≡ wordAt bytes 1 → v' ≡ wordAt bytes 2

@@ -1,3 +1,4 @@
+use borrow.Author.Needs.{needs}
 use Rattle.calls.proofs.call_files.Laws.{counts}
 use Rattle.calls.proofs.call_files.conclusion_count.Statement.{statement}
 use Rattle.calls.proofs.call_files.conclusion_count.Tie as tie

@@ -1,0 +1,13 @@
+use borrow.Author.Needs.{needs}
+use Rattle.calls.proofs.call_files.Laws.{counts}
+use Rattle.calls.proofs.call_files.ends_count.Statement.{statement}
+use Rattle.calls.proofs.call_files.ends_count.Tie as tie
+
+returns : tie.Need-returns
+returns c = search counts
+
+returns-2 : tie.Need-returns-2
+returns-2 c = search counts
+
+pub ends-count-spec : {M : Type 1} → statement M
+ends-count-spec = tie.close (tie.spec returns returns-2)
