@@ -68,6 +68,11 @@ workSize = 24576
 unfoldable pub memoOf : List ℕ → List ℕ
 memoOf work = take rowStart work
 
+-- an array of a walk whose memo has nothing
+pub record MemoEmpty (work : List ℕ) : Type 0 where
+  pub size : length work ≡ workSize
+  pub none : (i : ℕ) → getD (memoOf work) i 0 ≡ 0
+
 pub record MemoKept (work work′ : List ℕ) : Type 0 where
   pub size : length work′ ≡ length work
   pub same : memoOf work′ ≡ memoOf work

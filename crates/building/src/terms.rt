@@ -6,7 +6,6 @@ use crate::build::put;
 use formulas::view::connective_tag;
 use formulas::view::quantifier_tag;
 use pool::TermPlace;
-use pool::description::zero_from;
 use pool::index::INDEX;
 use pool::limits::CELLS;
 use pool::run::cell;
@@ -15,24 +14,36 @@ use pool::tags::NOT;
 ghost use mathlib.Core.Path.{_≡_};
 ghost use mathlib.Core.List.{_∷_, []};
 ghost use Prim.Native.Nat.{_-_, _<_};
-ghost use lib.ListN.{length, getD, drop, replicate};
+ghost use lib.ListN.{length, getD, drop};
 ghost use Rattle.formulas.specs.Normal.{flip, lit};
 ghost use Rattle.formulas.specs.Built.{put, intern};
 ghost use Rattle.formulas.specs.Formula.{quantifierTag, connectiveTag};
 ghost use Rattle.building.specs.Arrays.{poolOf};
 ghost use Rattle.descriptions.specs.Index.{Index};
-ghost use Rattle.building.specs.Walk.{State, Indexed, Puts, slotOf, placesIn, runOf, workSize, memoOf, MemoKept, RowHolds};
+ghost use Rattle.building.specs.Walk.{State, Indexed, Puts, slotOf, placesIn, runOf, workSize, memoOf, MemoEmpty, MemoKept, RowHolds};
 
 // The array of a walk: an entry for each cell and polarity, then the row.
 pub const WORK: usize = 24576;
 
 const ROW: usize = 16384;
 
-// Makes the array of a walk empty.
-pub fn clear_work(work: &mut [u32; WORK])
-    ensures { λ _. ⌜ now (work .exit) ≡ replicate 24576 0 ⌝ }
+// Writes 0 to the memo's cells. Of an array that is lent as a slice the prover knows the length.
+fn zero_memo(work: &mut [u32])
+    requires { ⌜ length (now work) ≡ workSize ⌝ }
+    ensures { λ _. ⌜ MemoEmpty (now (work .exit)) ⌝ }
 {
-    zero_from(work, 0);
+    let mut i: usize = 0;
+    while i < ROW {
+        work[i] = 0;
+        i += 1;
+    }
+}
+
+// Makes the memo of a walk's array empty. The row may hold anything: it is written before it is read.
+pub fn clear_memo(work: &mut [u32; WORK])
+    ensures { λ _. ⌜ MemoEmpty (now (work .exit)) ⌝ }
+{
+    zero_memo(work);
 }
 
 // The memo's index of a term and a polarity: the forms at true polarity come first.

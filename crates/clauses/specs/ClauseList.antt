@@ -1,7 +1,7 @@
 -- What the functions that write the clause list promise each other.
 -- 01, "Normal form and clauses": "an `and` joins lists, an `or` takes products, the first operand slowest."
--- Rests on answers' Answer and struct `Answer`, on cells' Limits and Place, on formulas' Formula, Normal, Built, Clauses and Totals, on ClauseWalk
--- and Lists, and on the structs `Totals`, `Chosen`, `Digits` and `Filled`.
+-- Rests on answers' Answer and struct `Answer`, on cells' Limits and Place, on formulas' Formula, Normal, Built and Clauses, on ClauseWalk and Lists, and
+-- on the structs `Chosen`, `Digits` and `Filled`.
 use Prim.Native.Nat.{ℕ, _+_, _-_, _/_, _%_, _≤_, _<_}
 use mathlib.Core.Path.{_≡_}
 use mathlib.Core.Bool.{true, cond, _&&_}
@@ -17,10 +17,8 @@ use Rattle.formulas.specs.Formula.{allBefore}
 use Rattle.formulas.specs.Normal.{Normal, Normals}
 use Rattle.formulas.specs.Clauses.{cnf, cnfAnd, cnfOr, literalTotal, emptyOr}
 use Rattle.formulas.specs.Built.{normalsOf}
-use Rattle.formulas.specs.Totals.{cap, totals}
 use Rattle.clauses.specs.Lists.{emptyOrReached, tooManyClauses, padded, clausePlaces, literalPlaces, clauseEnds}
-use Rattle.clauses.specs.ClauseWalk.{formAt, asTotals, Memo}
-use Rattle.clauses.specs.declared.totals.Totals as code
+use Rattle.clauses.specs.ClauseWalk.{formAt, clausesAt, Memo}
 use Rattle.clauses.specs.declared.conjunctive_normal_form.Chosen.{Chosen}
 use Rattle.clauses.specs.declared.conjunctive_normal_form.Digits.{Digits}
 use Rattle.clauses.specs.declared.clause_list.Filled.{Filled}
@@ -29,16 +27,15 @@ use Rattle.clauses.specs.declared.clause_list.Filled.{Filled}
 abbrev pub runOf : List ℕ → List ℕ → List ℕ → Normals (List ℕ) ℕ
 runOf tags values run = normalsOf (formAt tags values) run
 
--- the operand of an `and` that has its clause of number i, and that clause's number there, by the operands' counts
+-- the operand of an `and` that has its clause of number i, and that clause's number there, by the memo's clauses
 unfoldable pub choose : List ℕ → List ℕ → ℕ → Chosen
-choose counts [] i = record { place = termAt 0; index = 0 }
-choose counts (u ∷ us) i = cond (ltb i (getD counts u 0)) (record { place = termAt u; index = i }) (choose counts us (i - getD counts u 0))
+choose memo [] i = record { place = termAt 0; index = 0 }
+choose memo (u ∷ us) i = cond (ltb i (clausesAt memo u)) (record { place = termAt u; index = i }) (choose memo us (i - clausesAt memo u))
 
--- the counts of a right memo, in which every place of the run is counted that the pool has
-pub record ClauseCounts (tags values counts run : List ℕ) : Type 0 where
-  pub sizes : List ℕ
-  pub memo : Memo tags values counts sizes
-  pub all : (i : ℕ) → i < length run → getD run i 0 < length tags → 0 < getD sizes (getD run i 0) 0
+-- a right memo, in which every place of the run is counted that the pool has
+pub record ClauseCounts (tags values memo run : List ℕ) : Type 0 where
+  pub right : Memo tags values memo
+  pub all : (i : ℕ) → i < length run → getD run i 0 < length tags → 0 < getD memo (getD run i 0) 0
 
 -- the number i of a clause of a product of total clauses, whose first list has here: the first list is slowest
 pub record Apart (total here i : ℕ) (d : Digits) : Type 0 where
@@ -47,15 +44,15 @@ pub record Apart (total here i : ℕ) (d : Digits) : Type 0 where
   pub after : d .2 ≡ i % (total / here)
 
 -- the clause of number i of a short list is to be written to out, from at on; the places of the run are counted
-pub record Ask (tags values counts run : List ℕ) (cs : List (List (Normal (List ℕ) ℕ))) (i : ℕ) (out : List ℕ) (at : ℕ) : Type 0 where
-  pub counted : ClauseCounts tags values counts run
+pub record Ask (tags values memo run : List ℕ) (cs : List (List (Normal (List ℕ) ℕ))) (i : ℕ) (out : List ℕ) (at : ℕ) : Type 0 where
+  pub counted : ClauseCounts tags values memo run
   pub small : length cs ≤ clauseLimit
   pub index : i < length cs
   pub room : at + length (getD cs i []) ≤ length out
 
 -- the same of an `or` of the run's places, which stand before x; its list has as many clauses as total
-pub record AskRun (tags values counts : List ℕ) (x : ℕ) (run : List ℕ) (total i : ℕ) (out : List ℕ) (at : ℕ) : Type 0 where
-  pub ask : Ask tags values counts run (cnfOr (runOf tags values run)) i out at
+pub record AskRun (tags values memo : List ℕ) (x : ℕ) (run : List ℕ) (total i : ℕ) (out : List ℕ) (at : ℕ) : Type 0 where
+  pub ask : Ask tags values memo run (cnfOr (runOf tags values run)) i out at
   pub before : allBefore x run ≡ true
   pub within : x < length tags
   pub count : total ≡ length (cnfOr (runOf tags values run))
@@ -66,16 +63,16 @@ pub record Written (c : List (Normal (List ℕ) ℕ)) (out : List ℕ) (at : ℕ
   pub array : after ≡ sets out at (clausePlaces c)
 
 -- ---- a list is to be written after the first i ends and the first `at` literals; the places of the run are counted
-pub record AskMore (tags values counts run : List ℕ) (cs : List (List (Normal (List ℕ) ℕ))) (literals ends : List ℕ) (i at : ℕ) : Type 0 where
-  pub counted : ClauseCounts tags values counts run
+pub record AskMore (tags values memo run : List ℕ) (cs : List (List (Normal (List ℕ) ℕ))) (literals ends : List ℕ) (i at : ℕ) : Type 0 where
+  pub counted : ClauseCounts tags values memo run
   pub clauses : length cs ≤ clauseLimit
   pub clauses-room : i + length cs ≤ length ends
   pub literals-small : at + literalTotal cs ≤ literalLimit
   pub literals-room : at + literalTotal cs ≤ length literals
 
 -- the same of the joined lists of the run's places, which stand before x
-pub record AskLists (tags values counts : List ℕ) (x : ℕ) (run literals ends : List ℕ) (i at : ℕ) : Type 0 where
-  pub ask : AskMore tags values counts run (cnfAnd (runOf tags values run)) literals ends i at
+pub record AskLists (tags values memo : List ℕ) (x : ℕ) (run literals ends : List ℕ) (i at : ℕ) : Type 0 where
+  pub ask : AskMore tags values memo run (cnfAnd (runOf tags values run)) literals ends i at
   pub before : allBefore x run ≡ true
   pub within : x < length tags
 
@@ -122,8 +119,3 @@ pub record ListReady (tags literals ends : List ℕ) : Type 0 where
   pub lent : Lent (length tags) (length literals) (length ends)
   pub literals-zero : literals ≡ replicate (length literals) 0
   pub ends-zero : ends ≡ replicate (length ends) 0
-
--- the totals t of the list at x, cut at 8,193, and the counts that go with them
-pub record Counted (tags values : List ℕ) (x : ℕ) (counts : List ℕ) (t : code.Totals) : Type 0 where
-  pub is : asTotals t ≡ cap 8193 (totals (formAt tags values x))
-  pub counts-are : ClauseCounts tags values counts (x ∷ [])

@@ -1,9 +1,7 @@
 // The whole clause list of a term, as two arrays: the literal places, clause after clause, and each clause's end.
-ghost use Rattle.cells.specs.Limits.{cellLimit};
-use crate::conjunctive_normal_form::count_at;
 use crate::conjunctive_normal_form::write_clause;
 use crate::empty_or::empty_or;
-use crate::totals::Totals;
+use crate::totals::count_at;
 use crate::totals::list_totals;
 use formulas::view::NormalView;
 use formulas::view::normal_view;
@@ -16,12 +14,11 @@ use pool::limits::MAX_LITERALS;
 use pool::run::operands;
 ghost use mathlib.Core.Path.{_≡_};
 ghost use mathlib.Core.List.{[], _∷_};
-ghost use Prim.Native.Nat.{_≤_};
 ghost use lib.ListN.{length};
 ghost use Rattle.descriptions.specs.Description.{Cut};
 ghost use Rattle.formulas.specs.Clauses.{cnf, cnfAnd};
 ghost use Rattle.clauses.specs.ClauseWalk.{formAt};
-ghost use Rattle.clauses.specs.ClauseList.{runOf, AskMore, AskLists, Adds, Lent, Counted, countAnswer, listAnswer, ListAnswered, ListReady};
+ghost use Rattle.clauses.specs.ClauseList.{runOf, AskMore, AskLists, Adds, Lent, countAnswer, listAnswer, ListAnswered, ListReady};
 
 // How many cells of the two arrays are filled: the clauses' ends and the literals.
 pub struct Filled(pub usize, pub usize);
@@ -30,14 +27,14 @@ pub struct Filled(pub usize, pub usize);
 fn write_clauses(
     tags: &[u8],
     values: &[u32],
-    counts: &[u32],
+    memo: &[u32],
     x: TermPlace,
     total: u32,
     literals: &mut [u32],
     ends: &mut [u32],
     from: Filled,
 ) -> Filled
-    requires { ⌜ AskMore (now tags) (now values) (now counts) (x .0 ∷ []) (cnf (formAt (now tags) (now values) (x .0))) (now literals) (now ends) (from .0) (from .1) ⌝ }
+    requires { ⌜ AskMore (now tags) (now values) (now memo) (x .0 ∷ []) (cnf (formAt (now tags) (now values) (x .0))) (now literals) (now ends) (from .0) (from .1) ⌝ }
     requires { ⌜ total ≡ length (cnf (formAt (now tags) (now values) (x .0))) ⌝ }
     ensures { λ r. ⌜ Adds (cnf (formAt (now (tags .entry)) (now (values .entry)) (x .0))) (now (literals .entry)) (now (ends .entry)) (from .0) (from .1) (now (literals .exit)) (now (ends .exit)) r ⌝ }
 {
@@ -45,7 +42,7 @@ fn write_clauses(
     let mut i = from.0;
     let mut at = from.1;
     while k < total {
-        at = write_clause(tags, values, counts, x, k, literals, at);
+        at = write_clause(tags, values, memo, x, k, literals, at);
         ends[i] = at as u32;
         i += 1;
         k += 1;
@@ -58,29 +55,29 @@ fn write_clauses(
 fn write_list(
     tags: &[u8],
     values: &[u32],
-    counts: &[u32],
+    memo: &[u32],
     x: TermPlace,
     literals: &mut [u32],
     ends: &mut [u32],
     from: Filled,
 ) -> Filled
-    requires { ⌜ AskMore (now tags) (now values) (now counts) (x .0 ∷ []) (cnf (formAt (now tags) (now values) (x .0))) (now literals) (now ends) (from .0) (from .1) ⌝ }
+    requires { ⌜ AskMore (now tags) (now values) (now memo) (x .0 ∷ []) (cnf (formAt (now tags) (now values) (x .0))) (now literals) (now ends) (from .0) (from .1) ⌝ }
     ensures { λ r. ⌜ Adds (cnf (formAt (now (tags .entry)) (now (values .entry)) (x .0))) (now (literals .entry)) (now (ends .entry)) (from .0) (from .1) (now (literals .exit)) (now (ends .exit)) r ⌝ }
 {
     let view = normal_view(tags, values, x);
     match view {
-        NormalView::Literal => write_clauses(tags, values, counts, x, 1, literals, ends, from),
-        NormalView::Forall(_) => write_clauses(tags, values, counts, x, 1, literals, ends, from),
+        NormalView::Literal => write_clauses(tags, values, memo, x, 1, literals, ends, from),
+        NormalView::Forall(_) => write_clauses(tags, values, memo, x, 1, literals, ends, from),
         NormalView::Connective(all) => {
-            let total = count_at(counts, x);
+            let total = count_at(memo, x);
             if total == 0 {
                 return from;
             }
             if all {
                 let run = operands(tags, values, x);
-                return write_lists(tags, values, counts, x, run, literals, ends, from);
+                return write_lists(tags, values, memo, x, run, literals, ends, from);
             }
-            write_clauses(tags, values, counts, x, total, literals, ends, from)
+            write_clauses(tags, values, memo, x, total, literals, ends, from)
         }
     }
 }
@@ -89,32 +86,22 @@ fn write_list(
 fn write_lists(
     tags: &[u8],
     values: &[u32],
-    counts: &[u32],
+    memo: &[u32],
     x: TermPlace,
     run: &[u32],
     literals: &mut [u32],
     ends: &mut [u32],
     from: Filled,
 ) -> Filled
-    requires { ⌜ AskLists (now tags) (now values) (now counts) (x .0) (now run) (now literals) (now ends) (from .0) (from .1) ⌝ }
+    requires { ⌜ AskLists (now tags) (now values) (now memo) (x .0) (now run) (now literals) (now ends) (from .0) (from .1) ⌝ }
     ensures { λ r. ⌜ Adds (cnfAnd (runOf (now (tags .entry)) (now (values .entry)) (now (run .entry)))) (now (literals .entry)) (now (ends .entry)) (from .0) (from .1) (now (literals .exit)) (now (ends .exit)) r ⌝ }
 {
     if run.len() == 0 {
         return from;
     }
     let u = TermPlace(run[0]);
-    let next = write_list(tags, values, counts, u, literals, ends, from);
-    write_lists(tags, values, counts, x, &run[1..], literals, ends, next)
-}
-
-// The totals of the clause list of the term at x. The counts are then right of the terms that it reaches.
-fn count_clauses(tags: &[u8], values: &[u32], counts: &mut [u32], x: TermPlace) -> Totals
-    requires { ⌜ length (now tags) ≤ cellLimit ⌝ }
-    requires { ⌜ length (now counts) ≡ cellLimit ⌝ }
-    ensures { λ r. ⌜ Counted (now (tags .entry)) (now (values .entry)) (x .0) (now (counts .exit)) r ⌝ }
-{
-    let mut sizes = [0u32; CELLS];
-    list_totals(tags, values, counts, &mut sizes, x)
+    let next = write_list(tags, values, memo, u, literals, ends, from);
+    write_lists(tags, values, memo, x, &run[1..], literals, ends, next)
 }
 
 // The answer 32, or the two totals with the list, in arrays of zeroes.
@@ -128,8 +115,8 @@ fn list_counted(
     requires { ⌜ ListReady (now tags) (now literals) (now ends) ⌝ }
     ensures { λ r. ⌜ ListAnswered (countAnswer (cnf (formAt (now (tags .entry)) (now (values .entry)) (x .0)))) (cnf (formAt (now (tags .entry)) (now (values .entry)) (x .0))) (length (now (literals .entry))) (length (now (ends .entry))) r (now (literals .exit)) (now (ends .exit)) ⌝ }
 {
-    let mut counts = [0u32; CELLS];
-    let t = count_clauses(tags, values, &mut counts, x);
+    let mut memo = [0u32; CELLS];
+    let t = list_totals(tags, values, &mut memo, x);
     let clauses = t.clauses;
     let size = t.literals;
     if MAX_CLAUSES < clauses {
@@ -138,7 +125,7 @@ fn list_counted(
     if MAX_LITERALS < size {
         return Answer::refused(32, 0, 0);
     }
-    write_list(tags, values, &counts, x, literals, ends, Filled(0, 0));
+    write_list(tags, values, &memo, x, literals, ends, Filled(0, 0));
     Answer::accepted(clauses, size)
 }
 

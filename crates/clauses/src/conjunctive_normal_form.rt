@@ -1,9 +1,9 @@
 // The clause list of a term in normal form whose foralls are taken out, after `conjunctive_normal_form`. The clauses are
 // written one after another, each found by its number, so that the time goes with the output and the depth.
+use crate::totals::count_at;
 use formulas::view::NormalView;
 use formulas::view::normal_view;
 use pool::TermPlace;
-use pool::run::cell;
 use pool::run::operands;
 ghost use Prim.Native.Nat.{_+_, _/_, _<_};
 ghost use mathlib.Core.Path.{_≡_};
@@ -19,23 +19,15 @@ pub struct Chosen {
     pub index: u32,
 }
 
-// The number of clauses of the place u.
-pub(crate) fn count_at(counts: &[u32], u: TermPlace) -> u32
-    ensures { λ r. ⌜ r ≡ getD (now (counts .entry)) (u .0) 0 ⌝ }
-{
-    let at = u.0 as usize;
-    cell(counts, at)
-}
-
 // The operand of an `and` that has its clause of number i, and that clause's number there.
-fn choose(counts: &[u32], run: &[u32], i: u32) -> Chosen
-    ensures { λ r. ⌜ r ≡ choose (now (counts .entry)) (now (run .entry)) i ⌝ }
+fn choose(memo: &[u32], run: &[u32], i: u32) -> Chosen
+    ensures { λ r. ⌜ r ≡ choose (now (memo .entry)) (now (run .entry)) i ⌝ }
 {
     let mut left = i;
     let mut j: usize = 0;
     while j < run.len() {
         let u = TermPlace(run[j]);
-        let here = count_at(counts, u);
+        let here = count_at(memo, u);
         if left < here {
             return Chosen {
                 place: u,
@@ -77,13 +69,13 @@ fn put(out: &mut [u32], at: usize, place: TermPlace) -> usize
 pub(crate) fn write_clause(
     tags: &[u8],
     values: &[u32],
-    counts: &[u32],
+    memo: &[u32],
     x: TermPlace,
     i: u32,
     out: &mut [u32],
     at: usize,
 ) -> usize
-    requires { ⌜ Ask (now tags) (now values) (now counts) (x .0 ∷ []) (cnf (formAt (now tags) (now values) (x .0))) i (now out) at ⌝ }
+    requires { ⌜ Ask (now tags) (now values) (now memo) (x .0 ∷ []) (cnf (formAt (now tags) (now values) (x .0))) i (now out) at ⌝ }
     ensures { λ r. ⌜ Written (getD (cnf (formAt (now (tags .entry)) (now (values .entry)) (x .0))) i []) (now (out .entry)) at (now (out .exit)) r ⌝ }
 {
     let view = normal_view(tags, values, x);
@@ -93,11 +85,11 @@ pub(crate) fn write_clause(
         NormalView::Connective(all) => {
             let run = operands(tags, values, x);
             if all {
-                let c = choose(counts, run, i);
-                return write_clause(tags, values, counts, c.place, c.index, out, at);
+                let c = choose(memo, run, i);
+                return write_clause(tags, values, memo, c.place, c.index, out, at);
             }
-            let total = count_at(counts, x);
-            write_run(tags, values, counts, x, run, total, i, out, at)
+            let total = count_at(memo, x);
+            write_run(tags, values, memo, x, run, total, i, out, at)
         }
     }
 }
@@ -106,7 +98,7 @@ pub(crate) fn write_clause(
 fn write_run(
     tags: &[u8],
     values: &[u32],
-    counts: &[u32],
+    memo: &[u32],
     x: TermPlace,
     run: &[u32],
     total: u32,
@@ -114,15 +106,15 @@ fn write_run(
     out: &mut [u32],
     at: usize,
 ) -> usize
-    requires { ⌜ AskRun (now tags) (now values) (now counts) (x .0) (now run) total i (now out) at ⌝ }
+    requires { ⌜ AskRun (now tags) (now values) (now memo) (x .0) (now run) total i (now out) at ⌝ }
     ensures { λ r. ⌜ Written (getD (cnfOr (runOf (now (tags .entry)) (now (values .entry)) (now (run .entry)))) i []) (now (out .entry)) at (now (out .exit)) r ⌝ }
 {
     if run.len() == 0 {
         return at;
     }
     let u = TermPlace(run[0]);
-    let here = count_at(counts, u);
+    let here = count_at(memo, u);
     let d = take_apart(total, here, i);
-    let next = write_clause(tags, values, counts, u, d.1, out, at);
-    write_run(tags, values, counts, x, &run[1..], d.0, d.2, out, next)
+    let next = write_clause(tags, values, memo, u, d.1, out, at);
+    write_run(tags, values, memo, x, &run[1..], d.0, d.2, out, next)
 }

@@ -1,6 +1,6 @@
 // The totals of a clause list, cut at 8,193: more than 01 allows of clauses or literals, so that 32 is told exactly.
 // A memo keeps the totals of the places that are counted, so that each term that x reaches is counted once however terms are
-// shared: the clauses in `counts`, the literals in `sizes`. A size stands there one up: 0 is a place that is not counted.
+// shared. An entry is `ENTRY_BASE` times the clauses, plus the literals, plus one: 0 is a place that is not counted.
 use formulas::view::NormalView;
 use formulas::view::normal_view;
 use pool::TermPlace;
@@ -8,9 +8,12 @@ use pool::run::cell;
 use pool::run::operands;
 ghost use Prim.Native.Nat.{_+_, _*_, _≤_, _<_, min};
 ghost use mathlib.Core.Path.{_≡_};
-ghost use lib.ListN.{length, getD};
+ghost use lib.ListN.{getD};
 ghost use Rattle.formulas.specs.Totals.{oneLiteral, combine, cap, startOf};
-ghost use Rattle.clauses.specs.ClauseWalk.{asTotals, memoAt, runTotals, AllCounted, Memo, TotalsNoted, TermCounted, AskOperands, OperandsCounted};
+ghost use Rattle.clauses.specs.ClauseWalk.{asTotals, clausesAt, memoAt, runTotals, AllCounted, Memo, TotalsNoted, TermCounted, AskOperands, OperandsCounted};
+
+// A total is at most 8,193: one up, it is still below the base.
+const ENTRY_BASE: u32 = 16384;
 
 // The clauses and the literals of a list.
 pub struct Totals {
@@ -88,89 +91,85 @@ fn combine(all: bool, t: Totals, u: Totals) -> Totals
     }
 }
 
-// The memo's totals of the place u, which is counted.
-fn noted(counts: &[u32], sizes: &[u32], u: TermPlace) -> Totals
-    requires { ⌜ 0 < getD (now sizes) (u .0) 0 ⌝ }
-    ensures { λ r. ⌜ asTotals r ≡ memoAt (now (counts .entry)) (now (sizes .entry)) (u .0) ⌝ }
+// The memo's clauses of the place u: 0 where it is not counted.
+pub(crate) fn count_at(memo: &[u32], u: TermPlace) -> u32
+    ensures { λ r. ⌜ r ≡ clausesAt (now (memo .entry)) (u .0) ⌝ }
 {
     let at = u.0 as usize;
+    cell(memo, at) / ENTRY_BASE
+}
+
+// The memo's totals of the place u, which is counted.
+fn noted(memo: &[u32], u: TermPlace) -> Totals
+    requires { ⌜ 0 < getD (now memo) (u .0) 0 ⌝ }
+    ensures { λ r. ⌜ asTotals r ≡ memoAt (now (memo .entry)) (u .0) ⌝ }
+{
+    let at = u.0 as usize;
+    let entry = cell(memo, at);
     Totals {
-        clauses: cell(counts, at),
-        literals: cell(sizes, at) - 1,
+        clauses: entry / ENTRY_BASE,
+        literals: (entry - 1) % ENTRY_BASE,
     }
 }
 
 // Notes the totals t of the term at x, and hands them back. Past the memo's end nothing is noted.
-fn note(counts: &mut [u32], sizes: &mut [u32], x: TermPlace, t: Totals) -> Totals
-    requires { ⌜ (t .literals ≤ 8193) × (length (now counts) ≡ length (now sizes)) ⌝ }
-    ensures { λ r. ⌜ TotalsNoted (now (counts .entry)) (now (sizes .entry)) (x .0) t (now (counts .exit)) (now (sizes .exit)) r ⌝ }
+fn note(memo: &mut [u32], x: TermPlace, t: Totals) -> Totals
+    requires { ⌜ (t .clauses ≤ 8193) × (t .literals ≤ 8193) ⌝ }
+    ensures { λ r. ⌜ TotalsNoted (now (memo .entry)) (x .0) t (now (memo .exit)) r ⌝ }
 {
     let at = x.0 as usize;
-    if at < sizes.len() {
-        counts[at] = t.clauses;
-        sizes[at] = t.literals + 1;
+    if at < memo.len() {
+        memo[at] = ENTRY_BASE * t.clauses + t.literals + 1;
         return t;
     }
     t
 }
 
 // The totals of a run whose places are counted, from the last operand to the first.
-fn run_totals(all: bool, counts: &[u32], sizes: &[u32], run: &[u32]) -> Totals
-    requires { ⌜ AllCounted (now sizes) (now run) ⌝ }
-    ensures { λ r. ⌜ asTotals r ≡ runTotals all (memoAt (now (counts .entry)) (now (sizes .entry))) (now (run .entry)) ⌝ }
+fn run_totals(all: bool, memo: &[u32], run: &[u32]) -> Totals
+    requires { ⌜ AllCounted (now memo) (now run) ⌝ }
+    ensures { λ r. ⌜ asTotals r ≡ runTotals all (memoAt (now (memo .entry))) (now (run .entry)) ⌝ }
 {
     let mut sum = start(all);
     let mut i = run.len();
     while 0 < i {
         i -= 1;
-        sum = combine(all, noted(counts, sizes, TermPlace(run[i])), sum);
+        sum = combine(all, noted(memo, TermPlace(run[i])), sum);
     }
     sum
 }
 
 // The totals of the clause list of the term at x, which is then counted: the term walker.
-pub fn list_totals(
-    tags: &[u8],
-    values: &[u32],
-    counts: &mut [u32],
-    sizes: &mut [u32],
-    x: TermPlace,
-) -> Totals
-    requires { ⌜ Memo (now tags) (now values) (now counts) (now sizes) ⌝ }
-    ensures { λ r. ⌜ TermCounted (now (tags .entry)) (now (values .entry)) (x .0) (now (sizes .entry)) (now (counts .exit)) (now (sizes .exit)) r ⌝ }
+pub fn list_totals(tags: &[u8], values: &[u32], memo: &mut [u32], x: TermPlace) -> Totals
+    requires { ⌜ Memo (now tags) (now values) (now memo) ⌝ }
+    ensures { λ r. ⌜ TermCounted (now (tags .entry)) (now (values .entry)) (x .0) (now (memo .entry)) (now (memo .exit)) r ⌝ }
 {
-    let at = x.0 as usize;
-    if cell(sizes, at) != 0 {
-        return noted(counts, sizes, x);
-    }
     let view = normal_view(tags, values, x);
     match view {
-        NormalView::Literal => note(counts, sizes, x, one_literal()),
-        NormalView::Forall(_) => note(counts, sizes, x, one_literal()),
+        NormalView::Literal => note(memo, x, one_literal()),
+        NormalView::Forall(_) => note(memo, x, one_literal()),
         NormalView::Connective(all) => {
-            let run = operands(tags, values, x);
-            count_operands(tags, values, counts, sizes, x, run);
-            let t = run_totals(all, counts, sizes, run);
-            note(counts, sizes, x, t)
+            count_operands(tags, values, memo, x);
+            let t = run_totals(all, memo, operands(tags, values, x));
+            note(memo, x, t)
         }
     }
 }
 
-// Counts the terms of a run, which stand before x: the run walker.
-fn count_operands(
-    tags: &[u8],
-    values: &[u32],
-    counts: &mut [u32],
-    sizes: &mut [u32],
-    x: TermPlace,
-    run: &[u32],
-)
-    requires { ⌜ AskOperands (now tags) (now values) (now counts) (now sizes) (x .0) (now run) ⌝ }
-    ensures { λ _. ⌜ OperandsCounted (now (tags .entry)) (now (values .entry)) (now (run .entry)) (now (sizes .entry)) (now (counts .exit)) (now (sizes .exit)) ⌝ }
+// Counts the operands of the term at x that are not counted: the run walker.
+fn count_operands(tags: &[u8], values: &[u32], memo: &mut [u32], x: TermPlace)
+    requires { ⌜ AskOperands (now tags) (now values) (now memo) (x .0) ⌝ }
+    ensures { λ _. ⌜ OperandsCounted (now (tags .entry)) (now (values .entry)) (x .0) (now (memo .entry)) (now (memo .exit)) ⌝ }
 {
-    if run.len() == 0 {
-        return;
+    let run = operands(tags, values, x);
+    let mut i: usize = 0;
+    while i < run.len() {
+        let u = TermPlace(run[i]);
+        let at = u.0 as usize;
+        i += 1;
+        if cell(memo, at) != 0 {
+            continue;
+        }
+        list_totals(tags, values, memo, u);
     }
-    list_totals(tags, values, counts, sizes, TermPlace(run[0]));
-    count_operands(tags, values, counts, sizes, x, &run[1..])
 }

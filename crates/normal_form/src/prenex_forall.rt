@@ -2,7 +2,7 @@
 // The source pool is the cells before `end`. The array `work` is as for the normal form, at true polarity alone.
 use building::build::Built;
 use building::terms::WORK;
-use building::terms::clear_work;
+use building::terms::clear_memo;
 use building::terms::put_connective;
 use building::terms::slot;
 use formulas::view::NormalView;
@@ -122,6 +122,6 @@ pub fn build_taken_out(
     ensures { λ r. ⌜ NormalBuilt n (now (tags .entry)) (now (values .entry)) (takenOut (poolOf (now (tags .entry)) (now (values .entry)) n) (x .0)) r (now (tags .exit)) (now (values .exit)) ⌝ }
     ensures { λ r. ⌜ Indexed r (now (tags .exit)) (now (values .exit)) (now (index .exit)) ⌝ }
 {
-    clear_work(work);
+    clear_memo(work);
     prenex_forall(tags, values, work, index, n, n, x)
 }

@@ -17,7 +17,7 @@ use Rattle.formulas.specs.Normal.{Normal, Normals, nmany}
 use Rattle.formulas.specs.Built.{Pool, Placed, PlacedAll, count, put, intern, interns, normalsOf}
 use Rattle.formulas.specs.Formula.{connectiveTag}
 use Rattle.building.specs.Arrays.{poolOf}
-use Rattle.building.specs.Walk.{State, Left, Holds, Puts, Builds, memoOf, MemoKept, slotOf, placesIn, Walk, normal, taken-out, formOf, runOf, entryForm, Formed, Known, operandForms, OperandsKnown, Before, NormalBuilt, WalkReady}
+use Rattle.building.specs.Walk.{State, Left, Holds, Puts, Builds, memoOf, MemoEmpty, MemoKept, slotOf, placesIn, Walk, normal, taken-out, formOf, runOf, entryForm, Formed, Known, operandForms, OperandsKnown, Before, NormalBuilt, WalkReady}
 use Rattle.building.proofs.Interning.{becomes-longer, interns-becomes, put-becomes, put-goes-on}
 use Rattle.building.proofs.build.Laws.{fits-true, pool-count, pool-good}
 use Rattle.building.proofs.build.Building.{memo-read, memo-here, left-refl, builds-put, builds-stood, builds-full, builds-holds, builds-noted, builds-then, builds-kept}
@@ -271,26 +271,26 @@ module _ (w : Walk) (end n : ℕ) (tags values work : List ℕ) (t : ℕ) (polar
       (then-put w end tags values work _ r₁ tags₁ values₁ work₁ (j .builds) p m f (connectiveTag b) _ r₂ tags₂ values₂ work₂ y kept)
 
 -- ---- the whole
-zeros-none : (n k i p : ℕ) → getD (take n (replicate k 0)) i 0 ≡ suc p → ⊥
-zeros-none zero k i p e = omega arith
-zeros-none (suc n) zero i p e = omega arith
-zeros-none (suc n) (suc k) zero p e = omega arith
-zeros-none (suc n) (suc k) (suc i) p e = zeros-none n k i p e
-
 -- a memo that has nothing
-ready-first : (n : ℕ) (tags values : List ℕ) → State n n tags values → (w : Walk) → WalkReady w n n tags values (replicate 24576 0)
-unfolding memoOf
-ready-first n tags values s w = record {
+pub ready-empty : (n : ℕ) (tags values work : List ℕ) → State n n tags values → MemoEmpty work → (w : Walk) → WalkReady w n n tags values work
+ready-empty n tags values work s empty w = record {
   state = s;
   right = record {
-    size = rw length-replicate;
-    entry = λ i p e. absurd (zeros-none 16384 24576 i p e);
-    below = λ i p e. absurd (zeros-none 16384 24576 i p e);
+    size = empty .size;
+    entry = λ i p e. absurd (omega (arith, empty .none i));
+    below = λ i p e. absurd (omega (arith, empty .none i));
   };
 }
 
-pub ready-empty : (n : ℕ) (tags values work : List ℕ) → State n n tags values → work ≡ replicate 24576 0 → (w : Walk) → WalkReady w n n tags values work
-ready-empty n tags values work s e w = rw e (ready-first n tags values s w)
+take-zeros : (n k i : ℕ) → getD {A = ℕ} (take n (replicate k 0)) i 0 ≡ 0
+take-zeros zero k i = refl
+take-zeros (suc n) zero i = refl
+take-zeros (suc n) (suc k) zero = refl
+take-zeros (suc n) (suc k) (suc i) = take-zeros n k i
+
+pub zeros-empty : (work : List ℕ) → work ≡ replicate 24576 0 → MemoEmpty work
+unfolding memoOf
+zeros-empty work e = rw e record { size = length-replicate {A = ℕ} 24576 0; none = take-zeros 16384 24576 }
 
 module _ (w : Walk) (n : ℕ) (tags values work : List ℕ) (t : ℕ) (polarity : Bool) where
   pub whole-built : (r : Built) (tags′ values′ work′ : List ℕ) → Known w n n tags values work t polarity r tags′ values′ work′

@@ -1,30 +1,53 @@
--- Laws of the memo's indices, of gathering cells in the row, and of one new term.
+-- Laws of the memo made empty, of its indices, of gathering cells in the row, and of one new term.
 -- Assumes nothing.
 use Prim.Native.Nat.{ℕ, suc, _+_, _-_, _≤_, _<_}
 use mathlib.Core.Path.{_≡_, refl, sym, ap, _∙_}
 use mathlib.Core.Bool.{Bool, true, false}
 use mathlib.Core.List.{List, [], _∷_, _++_, map}
-use lib.ListN.{length, getD, take, drop, set, replicate, length-set, length-drop, length-take}
-use lib.Seq.{getD-set-same, take-suc, take-suc-set, take-set-le, take-all, getD-drop, drop-set-add, length-take-le}
-use lib.Dec.{ltb}
+use lib.ListN.{length, getD, take, drop, set, length-set, length-drop, length-take, List·getD-eq-default}
+use lib.Seq.{getD-set-same, getD-set-other, getD-take, take-suc, take-suc-set, take-set-le, take-all, getD-drop, drop-set-add, length-take-le}
+use lib.Dec.{ltb, eqb}
 use native.Mathlib.Omega.{arith}
 use native.Mathlib.Numerals.{add-one}
+use borrow.Author.Tests.{ltb-true, ltb-false, eqb-true, eqb-false}
 use Rattle.cells.specs.Place.{termAt}
 use Rattle.cells.specs.ByPlace.{by-test}
 use Rattle.cells.specs.Cell.{cellsOf, operandsOf}
-use Rattle.descriptions.specs.Description.{zeroFrom}
 use Rattle.building.specs.declared.build.Built.{Built}
 use Rattle.building.specs.declared.build.Built.the-variants.{At}
 use Rattle.formulas.specs.Normal.{lit, flip}
 use Rattle.formulas.specs.Built.{put, intern}
 use Rattle.formulas.specs.Formula.{quantifierTag, connectiveTag}
 use Rattle.building.specs.Arrays.{poolOf}
-use Rattle.building.specs.Walk.{State, Puts, memoOf, RowHolds, slotOf, placesIn, runOf}
+use Rattle.building.specs.Walk.{State, Puts, memoOf, MemoEmpty, RowHolds, slotOf, placesIn, runOf}
 
--- ---- an empty array
-pub cleared : (work work′ : List ℕ) → work′ ≡ zeroFrom 0 work → length work ≡ 24576 → work′ ≡ replicate 24576 0
-unfolding zeroFrom
-cleared work work′ e l = rw (e, l)
+-- ---- the memo made empty: the cells before i are 0
+pub record Clearing (work : List ℕ) (i : ℕ) : Type 0 where
+  pub size : length work ≡ 24576
+  pub none : (j : ℕ) → j < i → getD work j 0 ≡ 0
+
+pub clear-start : (work : List ℕ) → length work ≡ 24576 → Clearing work 0
+clear-start work e = record { size = e; none = λ j h. absurd (omega arith) }
+
+module _ (work : List ℕ) (i : ℕ) (c : Clearing work i) where
+  pub clear-next : i < 16384 → Clearing (set work i 0) (i + 1)
+  clear-next h = record {
+    size = length-set work i 0 ∙ c .size;
+    none = λ j l. by-test (eqb j i)
+        (λ q. rw (eqb-true j i q) (getD-set-same work i 0 0 (omega (arith, c .size))))
+        (λ q. let n : j ≡ i → ⊥ = eqb-false j i q in rw (getD-set-other work i j 0 0 n) (c .none j (omega arith)));
+  }
+
+  pub clear-end : 16384 ≤ i → MemoEmpty work
+  unfolding memoOf
+  clear-end h = record {
+    size = c .size;
+    none = λ j. by-test (ltb j 16384)
+        (λ q. let l : j < 16384 = ltb-true j 16384 q in rw (getD-take 16384 work j 0 l) (c .none j (omega arith)))
+        (λ q. let l : 16384 ≤ j = ltb-false j 16384 q in List·getD-eq-default (take 16384 work) 0 (rw (length-take 16384 work) (omega arith)));
+  }
+
+pub ruleset clears = (clear-start, clear-next, clear-end)
 
 -- ---- the memo's index
 module _ (t : ℕ) (polarity : Bool) where

@@ -18,7 +18,7 @@ use Rattle.formulas.specs.Normal.{Normal}
 use Rattle.formulas.specs.Clauses.{cnf, literalTotal, emptyOr}
 use Rattle.clauses.specs.Lists.{emptyOrReached, tooManyClauses, padded, clausePlaces, literalPlaces, clauseEnds}
 use Rattle.clauses.specs.ClauseWalk.{formAt, TermCounted}
-use Rattle.clauses.specs.ClauseList.{Ask, Written, AskMore, Adds, Lent, Counted, countAnswer, listAnswer, held, ListAnswered, ListReady, ClausesHeld}
+use Rattle.clauses.specs.ClauseList.{Ask, Written, AskMore, Adds, Lent, countAnswer, listAnswer, held, ListAnswered, ListReady, ClausesHeld}
 use Rattle.clauses.specs.declared.clause_list.Filled.{Filled}
 use Rattle.clauses.proofs.totals.Laws.{clauses-cut, literals-cut}
 use Rattle.clauses.proofs.conjunctive_normal_form.Laws.{places-length, counts-one}
@@ -99,8 +99,8 @@ pub record Wrote (cs : Clauses) (literals₀ ends₀ : List ℕ) (i₀ at₀ : �
   pub literals-size : length literals ≡ length literals₀
   pub ends-size : length ends ≡ length ends₀
 
-module _ (tags values counts : List ℕ) (x : ℕ) (literals₀ ends₀ : List ℕ) (i₀ at₀ : ℕ)
-    (ask : AskMore tags values counts (x ∷ []) (cnf (formAt tags values x)) literals₀ ends₀ i₀ at₀) where
+module _ (tags values memo : List ℕ) (x : ℕ) (literals₀ ends₀ : List ℕ) (i₀ at₀ : ℕ)
+    (ask : AskMore tags values memo (x ∷ []) (cnf (formAt tags values x)) literals₀ ends₀ i₀ at₀) where
   abbrev list : Clauses
   list = cnf (formAt tags values x)
 
@@ -123,7 +123,7 @@ module _ (tags values counts : List ℕ) (x : ℕ) (literals₀ ends₀ : List �
       inside : k < length list
       inside = omega (arith, all)
 
-      pub wrote-ask : Ask tags values counts (x ∷ []) (cnf (formAt tags values x)) k literals at
+      pub wrote-ask : Ask tags values memo (x ∷ []) (cnf (formAt tags values x)) k literals at
       wrote-ask = record {
         counted = ask .counted;
         small = ask .clauses;
@@ -186,12 +186,8 @@ refused : (defined : Answer) (cs : Clauses) (k m : ℕ) (r : Answer) (literals e
 unfolding held
 refused defined cs k m r literals ends e n p q = record { answer = e; literals-are = rw n p; ends-are = rw n q }
 
-pub counted : (tags values : List ℕ) (x : ℕ) (sizes₀ counts sizes : List ℕ) (t : code.Totals) → TermCounted tags values x sizes₀ counts sizes t
-    → Counted tags values x counts t
-counted tags values x sizes₀ counts sizes t is = record { is = is .is; counts-are = counts-one tags values counts x sizes (is .memo) (is .here) }
-
 module _ (tags values : List ℕ) (x : ℕ) (literals ends : List ℕ) (ready : ListReady tags literals ends)
-    (counts : List ℕ) (t : code.Totals) (is : Counted tags values x counts t) where
+    (memo₀ memo : List ℕ) (t : code.Totals) (is : TermCounted tags values x memo₀ memo t) where
   clauses-are-cut : t .clauses ≡ min 8193 (length (cnf (formAt tags values x)))
   clauses-are-cut = clauses-cut tags values x t (is .is)
 
@@ -220,9 +216,9 @@ module _ (tags values : List ℕ) (x : ℕ) (literals ends : List ℕ) (ready : 
       literals-are : t .literals ≡ literalTotal (cnf (formAt tags values x))
       literals-are = omega (arith, literals-are-cut)
 
-      pub fits-ask : AskMore tags values counts (x ∷ []) (cnf (formAt tags values x)) literals ends 0 0
+      pub fits-ask : AskMore tags values memo (x ∷ []) (cnf (formAt tags values x)) literals ends 0 0
       fits-ask = record {
-        counted = is .counts-are;
+        counted = counts-one tags values memo x (is .right) (is .here);
         clauses = omega (arith, clauses-are);
         clauses-room = omega (arith, clauses-are, ready .lent .ends);
         literals-small = omega (arith, literals-are);

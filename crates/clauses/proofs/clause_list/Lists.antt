@@ -15,7 +15,7 @@ use Rattle.formulas.specs.Normal.{Normal}
 use Rattle.formulas.specs.Clauses.{cnf, cnfAnd, literalTotal}
 use Rattle.formulas.specs.Built.{normalView}
 use Rattle.clauses.specs.Lists.{clausePlaces, literalPlaces, clauseEnds}
-use Rattle.clauses.specs.ClauseWalk.{formAt}
+use Rattle.clauses.specs.ClauseWalk.{formAt, clausesAt}
 use Rattle.clauses.specs.ClauseList.{runOf, AskMore, AskLists, Adds}
 use Rattle.clauses.specs.declared.clause_list.Filled.{Filled}
 use Rattle.clauses.proofs.Reading.{before-tail, read-literal, read-forall, read-connective, run-before, connective-within, run-split}
@@ -42,8 +42,8 @@ no-clause [] e literals ends f = record { ends-up-to = omega arith; literals-up-
 no-clause (c ∷ cs) e literals ends f = absurd (omega arith)
 
 -- ---- the term at x, as it is read
-module _ (tags values counts : List ℕ) (x : ℕ) (literals ends : List ℕ) (i at : ℕ)
-    (ask : AskMore tags values counts (x ∷ []) (cnf (formAt tags values x)) literals ends i at) (v : NormalView) (is : v ≡ normalView tags values x) where
+module _ (tags values memo : List ℕ) (x : ℕ) (literals ends : List ℕ) (i at : ℕ)
+    (ask : AskMore tags values memo (x ∷ []) (cnf (formAt tags values x)) literals ends i at) (v : NormalView) (is : v ≡ normalView tags values x) where
   pub one-literal : v ≡ Literal → 1 ≡ length (cnf (formAt tags values x))
   one-literal e = sym (ap (λ (f : Normal (List ℕ) ℕ). length (cnf f)) (read-literal tags values x v is e))
 
@@ -51,20 +51,20 @@ module _ (tags values counts : List ℕ) (x : ℕ) (literals ends : List ℕ) (i
   one-forall body e = sym (ap (λ (f : Normal (List ℕ) ℕ). length (cnf f)) (read-forall tags values x v is body e))
 
   module _ (b : Bool) (e : v ≡ Connective b) where
-    pub or-counted : (k : ℕ) → k ≡ getD counts x 0 → k ≡ length (cnf (formAt tags values x))
-    or-counted k c = c ∙ exact tags values counts x [] (ask .counted) (connective-within tags values x v is b e) (ask .clauses)
+    pub or-counted : (k : ℕ) → k ≡ clausesAt memo x → k ≡ length (cnf (formAt tags values x))
+    or-counted k c = c ∙ exact tags values memo x [] (ask .counted) (connective-within tags values x v is b e) (ask .clauses)
 
-    pub none-here : (k : ℕ) → k ≡ getD counts x 0 → k ≡ 0 → (f : Filled) → Adds (cnf (formAt tags values x)) literals ends (f .0) (f .1) literals ends f
+    pub none-here : (k : ℕ) → k ≡ clausesAt memo x → k ≡ 0 → (f : Filled) → Adds (cnf (formAt tags values x)) literals ends (f .0) (f .1) literals ends f
     none-here k c z f = no-clause (cnf (formAt tags values x)) (omega (arith, or-counted k c)) literals ends f
 
     module _ (t : b ≡ true) (run : List ℕ) (o : run ≡ operandsOf tags values x) where
       and-is : cnf (formAt tags values x) ≡ cnfAnd (runOf tags values run)
       and-is = rw (read-connective tags values x v is b e, t, o)
 
-      pub and-ask : AskLists tags values counts x run literals ends i at
+      pub and-ask : AskLists tags values memo x run literals ends i at
       and-ask = record {
         ask = record {
-          counted = rw o (counts-operands tags values counts x (ask .counted) (connective-within tags values x v is b e) b (sym e ∙ is));
+          counted = rw o (counts-operands tags values memo x (ask .counted) (connective-within tags values x v is b e) b (sym e ∙ is));
           clauses = rw and-is at (ask .clauses);
           clauses-room = rw and-is at (ask .clauses-room);
           literals-small = rw and-is at (ask .literals-small);
@@ -83,19 +83,19 @@ pub none-added : (tags values run literals ends : List ℕ) (f : Filled) → len
 none-added tags values [] literals ends f e = no-clause [] refl literals ends f
 none-added tags values (u ∷ us) literals ends f e = absurd (omega arith)
 
-module _ (tags values counts : List ℕ) (x u : ℕ) (us literals ends : List ℕ) (i at : ℕ) (ask : AskLists tags values counts x (u ∷ us) literals ends i at) where
+module _ (tags values memo : List ℕ) (x u : ℕ) (us literals ends : List ℕ) (i at : ℕ) (ask : AskLists tags values memo x (u ∷ us) literals ends i at) where
   abbrev first : Clauses
   first = cnf (formAt tags values u)
 
   abbrev rest : Clauses
   rest = cnfAnd (runOf tags values us)
 
-  head-ask : AskMore tags values counts (u ∷ []) first literals ends i at
+  head-ask : AskMore tags values memo (u ∷ []) first literals ends i at
   head-ask =
       let n : length (first ++ rest) ≡ length first + length rest = length-append first rest in
       let m : literalTotal (first ++ rest) ≡ literalTotal first + literalTotal rest = total-join first rest in
       record {
-        counted = counts-head tags values counts u us (ask .ask .counted);
+        counted = counts-head tags values memo u us (ask .ask .counted);
         clauses = omega (arith, ask .ask .clauses);
         clauses-room = omega (arith, ask .ask .clauses-room);
         literals-small = omega (arith, ask .ask .literals-small);
@@ -103,7 +103,7 @@ module _ (tags values counts : List ℕ) (x u : ℕ) (us literals ends : List �
       }
 
   module _ (literals₁ ends₁ : List ℕ) (f : Filled) (a : Adds first literals ends i at literals₁ ends₁ f) where
-    tail-ask : AskLists tags values counts x us literals₁ ends₁ (f .0) (f .1)
+    tail-ask : AskLists tags values memo x us literals₁ ends₁ (f .0) (f .1)
     tail-ask =
         let n : length (first ++ rest) ≡ length first + length rest = length-append first rest in
         let m : literalTotal (first ++ rest) ≡ literalTotal first + literalTotal rest = total-join first rest in
@@ -111,7 +111,7 @@ module _ (tags values counts : List ℕ) (x u : ℕ) (us literals ends : List �
         let k : length ends₁ ≡ length ends = ap length (a .ends-are) ∙ length-sets ends i (clauseEnds at first) in
         record {
           ask = record {
-            counted = counts-tail tags values counts u us (ask .ask .counted);
+            counted = counts-tail tags values memo u us (ask .ask .counted);
             clauses = omega (arith, ask .ask .clauses);
             clauses-room = omega (arith, ask .ask .clauses-room, a .ends-up-to);
             literals-small = omega (arith, ask .ask .literals-small, a .literals-up-to);
@@ -141,23 +141,23 @@ module _ (tags values counts : List ℕ) (x u : ℕ) (us literals ends : List �
         }
 
 -- the same of a run that is not empty
-module _ (tags values counts : List ℕ) (x : ℕ) (run literals ends : List ℕ) (i at : ℕ) (ask : AskLists tags values counts x run literals ends i at)
+module _ (tags values memo : List ℕ) (x : ℕ) (run literals ends : List ℕ) (i at : ℕ) (ask : AskLists tags values memo x run literals ends i at)
     (some : length run ≡ 0 → ⊥) where
   abbrev after : List ℕ
   after = take (length run - 1) (drop 1 run)
 
-  split : AskLists tags values counts x (getD run 0 0 ∷ after) literals ends i at
-  split = subst (λ (l : List ℕ). AskLists tags values counts x l literals ends i at) (run-split run some) ask
+  split : AskLists tags values memo x (getD run 0 0 ∷ after) literals ends i at
+  split = subst (λ (l : List ℕ). AskLists tags values memo x l literals ends i at) (run-split run some) ask
 
-  pub list-ask : AskMore tags values counts (getD run 0 0 ∷ []) (cnf (formAt tags values (getD run 0 0))) literals ends i at
-  list-ask = head-ask tags values counts x (getD run 0 0) after literals ends i at split
+  pub list-ask : AskMore tags values memo (getD run 0 0 ∷ []) (cnf (formAt tags values (getD run 0 0))) literals ends i at
+  list-ask = head-ask tags values memo x (getD run 0 0) after literals ends i at split
 
   module _ (literals₁ ends₁ : List ℕ) (f : Filled) (a : Adds (cnf (formAt tags values (getD run 0 0))) literals ends i at literals₁ ends₁ f) where
-    pub lists-ask : AskLists tags values counts x (take (length run - 1) (drop 1 run)) literals₁ ends₁ (f .0) (f .1)
-    lists-ask = tail-ask tags values counts x (getD run 0 0) after literals ends i at split literals₁ ends₁ f a
+    pub lists-ask : AskLists tags values memo x (take (length run - 1) (drop 1 run)) literals₁ ends₁ (f .0) (f .1)
+    lists-ask = tail-ask tags values memo x (getD run 0 0) after literals ends i at split literals₁ ends₁ f a
 
     pub lists-added : (literals₂ ends₂ : List ℕ) (g : Filled) → Adds (cnfAnd (runOf tags values (take (length run - 1) (drop 1 run)))) literals₁ ends₁ (f .0) (f .1) literals₂ ends₂ g
         → Adds (cnfAnd (runOf tags values run)) literals ends i at literals₂ ends₂ g
     lists-added literals₂ ends₂ g b =
         subst (λ (l : List ℕ). Adds (cnfAnd (runOf tags values l)) literals ends i at literals₂ ends₂ g) (sym (run-split run some))
-        (both-added tags values counts x (getD run 0 0) after literals ends i at split literals₁ ends₁ f a literals₂ ends₂ g b)
+        (both-added tags values memo x (getD run 0 0) after literals ends i at split literals₁ ends₁ f a literals₂ ends₂ g b)

@@ -25,86 +25,85 @@ use Rattle.formulas.specs.Built.{normalView}
 use Rattle.formulas.specs.Totals.{Totals}
 use Rattle.formulas.proofs.Totals.{totals-are}
 use Rattle.clauses.specs.Lists.{literalPlace, clausePlaces}
-use Rattle.clauses.specs.ClauseWalk.{formAt, Memo}
+use Rattle.clauses.specs.ClauseWalk.{formAt, clausesAt, Memo}
 use Rattle.clauses.specs.ClauseList.{runOf, choose, ClauseCounts, Ask, AskRun, Written}
 use Rattle.clauses.proofs.ClauseAt.{append-left, append-right, product-at, clauses-and, clauses-or}
 use Rattle.clauses.proofs.Reading.{before-head, before-tail, run-split, read-literal, read-forall, read-connective, run-before, connective-within}
 
 -- ---- the walk along the operands of an `and`: w is what it finds, from j on, for the number left
-module _ (w : Chosen) (counts run : List ℕ) (j left : ℕ) (inv : w ≡ choose counts (drop j run) left) where
+module _ (w : Chosen) (memo run : List ℕ) (j left : ℕ) (inv : w ≡ choose memo (drop j run) left) where
   pub choose-end : length run ≤ j → record { place = termAt 0; index = 0 } ≡ w
   unfolding choose
   choose-end h = rw (inv, drop-of-length-le run h)
 
-  module _ (h : j < length run) (here : ℕ) (is : here ≡ getD counts (getD run j 0) 0) where
+  module _ (h : j < length run) (here : ℕ) (is : here ≡ clausesAt memo (getD run j 0)) where
     pub choose-here : left < here → record { place = termAt (getD run j 0); index = left } ≡ w
     unfolding choose
     choose-here l = rw (inv, drop-cons run j 0 h, ← is, lt-ltb _ _ l)
 
-    pub choose-next : here ≤ left → w ≡ choose counts (drop (j + 1) run) (left - here)
+    pub choose-next : here ≤ left → w ≡ choose memo (drop (j + 1) run) (left - here)
     unfolding choose
     choose-next l = rw (inv, drop-cons run j 0 h, ← is, le-ltb _ _ l, add-one j)
 
 pub ruleset chooses = (choose-end, choose-here, choose-next)
 
--- ---- the counts of a run
-module _ (tags values counts : List ℕ) where
-  -- a count below the limit is exact
-  pub exact : (u : ℕ) (us : List ℕ) → ClauseCounts tags values counts (u ∷ us) → u < length tags → length (cnf (formAt tags values u)) ≤ 2048
-      → getD counts u 0 ≡ length (cnf (formAt tags values u))
-  exact u us right h l =
-      ap (λ (t : Totals). t .clauses) (right .memo .at u (right .all 0 (omega arith) h))
+-- ---- the clauses of a run
+module _ (tags values memo : List ℕ) where
+  -- a number of clauses below the limit is exact
+  pub exact : (u : ℕ) (us : List ℕ) → ClauseCounts tags values memo (u ∷ us) → u < length tags → length (cnf (formAt tags values u)) ≤ 2048
+      → clausesAt memo u ≡ length (cnf (formAt tags values u))
+  exact u us counted h l =
+      ap (λ (t : Totals). t .clauses) (counted .right .at u (counted .all 0 (omega arith) h))
       ∙ (ap (λ (t : Totals). min 8193 (t .clauses)) (totals-are (formAt tags values u)) ∙ omega arith)
 
-  pub counts-one : (x : ℕ) (sizes : List ℕ) → Memo tags values counts sizes → (x < length tags → 0 < getD sizes x 0) → ClauseCounts tags values counts (x ∷ [])
-  counts-one x sizes memo here = record { sizes = sizes; memo = memo; all = one }
+  pub counts-one : (x : ℕ) → Memo tags values memo → (x < length tags → 0 < getD memo x 0) → ClauseCounts tags values memo (x ∷ [])
+  counts-one x right here = record { right = right; all = one }
     where
-      one : (i : ℕ) → i < 1 → getD (x ∷ []) i 0 < length tags → 0 < getD sizes (getD (x ∷ []) i 0) 0
+      one : (i : ℕ) → i < 1 → getD (x ∷ []) i 0 < length tags → 0 < getD memo (getD (x ∷ []) i 0) 0
       one zero h l = here l
       one (suc i) h l = absurd (omega arith)
 
-  pub counts-head : (u : ℕ) (us : List ℕ) → ClauseCounts tags values counts (u ∷ us) → ClauseCounts tags values counts (u ∷ [])
-  counts-head u us right = counts-one u (right .sizes) (right .memo) (right .all 0 (omega arith))
+  pub counts-head : (u : ℕ) (us : List ℕ) → ClauseCounts tags values memo (u ∷ us) → ClauseCounts tags values memo (u ∷ [])
+  counts-head u us counted = counts-one u (counted .right) (counted .all 0 (omega arith))
 
-  pub counts-tail : (u : ℕ) (us : List ℕ) → ClauseCounts tags values counts (u ∷ us) → ClauseCounts tags values counts us
-  counts-tail u us right = record { sizes = right .sizes; memo = right .memo; all = λ i h. right .all (suc i) (omega arith) }
+  pub counts-tail : (u : ℕ) (us : List ℕ) → ClauseCounts tags values memo (u ∷ us) → ClauseCounts tags values memo us
+  counts-tail u us counted = record { right = counted .right; all = λ i h. counted .all (suc i) (omega arith) }
 
-  pub counts-operands : (x : ℕ) → ClauseCounts tags values counts (x ∷ []) → x < length tags → (b : Bool) → Connective b ≡ normalView tags values x
-      → ClauseCounts tags values counts (operandsOf tags values x)
-  counts-operands x right h b e = record {
-    sizes = right .sizes;
-    memo = right .memo;
-    all = λ i l w. right .memo .operands x (right .all 0 (omega arith) h) b e .at i l;
+  pub counts-operands : (x : ℕ) → ClauseCounts tags values memo (x ∷ []) → x < length tags → (b : Bool) → Connective b ≡ normalView tags values x
+      → ClauseCounts tags values memo (operandsOf tags values x)
+  counts-operands x counted h b e = record {
+    right = counted .right;
+    all = λ i l w. counted .right .operands x (counted .all 0 (omega arith) h) b e .at i l;
   }
 
 -- what the walk finds: an operand before x whose clause of that number is the clause of number i
-pub record Found (tags values counts : List ℕ) (x : ℕ) (cs : List (List (Normal (List ℕ) ℕ))) (i : ℕ) (c : Chosen) : Type 0 where
-  pub counted : ClauseCounts tags values counts (c .place .0 ∷ [])
+pub record Found (tags values memo : List ℕ) (x : ℕ) (cs : List (List (Normal (List ℕ) ℕ))) (i : ℕ) (c : Chosen) : Type 0 where
+  pub counted : ClauseCounts tags values memo (c .place .0 ∷ [])
   pub below : c .place .0 < x
   pub small : length (cnf (formAt tags values (c .place .0))) ≤ 2048
   pub index : c .index < length (cnf (formAt tags values (c .place .0)))
   pub same : getD (cnf (formAt tags values (c .place .0))) (c .index) [] ≡ getD cs i []
 
-module _ (tags values counts : List ℕ) (x : ℕ) (within : x < length tags) where
-  found : (run : List ℕ) → ClauseCounts tags values counts run → allBefore x run ≡ true → (i : ℕ) → length (cnfAnd (runOf tags values run)) ≤ 2048 → i < length (cnfAnd (runOf tags values run))
-      → Found tags values counts x (cnfAnd (runOf tags values run)) i (choose counts run i)
+module _ (tags values memo : List ℕ) (x : ℕ) (within : x < length tags) where
+  found : (run : List ℕ) → ClauseCounts tags values memo run → allBefore x run ≡ true → (i : ℕ) → length (cnfAnd (runOf tags values run)) ≤ 2048 → i < length (cnfAnd (runOf tags values run))
+      → Found tags values memo x (cnfAnd (runOf tags values run)) i (choose memo run i)
   unfolding choose
-  found [] right b i s h = absurd (omega arith)
-  found (u ∷ us) right b i s h =
+  found [] counted b i s h = absurd (omega arith)
+  found (u ∷ us) counted b i s h =
       let total = clauses-and (formAt tags values u) (runOf tags values us) in
       let less : u < x = before-head x u us b in
-      let here : getD counts u 0 ≡ length (cnf (formAt tags values u)) = exact tags values counts u us right (omega arith) (omega (arith, total)) in
-      by-test (ltb i (getD counts u 0))
-      (λ q. let l : i < getD counts u 0 = ltb-true i (getD counts u 0) q in
+      let here : clausesAt memo u ≡ length (cnf (formAt tags values u)) = exact tags values memo u us counted (omega arith) (omega (arith, total)) in
+      by-test (ltb i (clausesAt memo u))
+      (λ q. let l : i < clausesAt memo u = ltb-true i (clausesAt memo u) q in
       rw q record {
-        counted = counts-head tags values counts u us right;
+        counted = counts-head tags values memo u us counted;
         below = less;
         small = omega (arith, total);
         index = omega (arith, here);
         same = sym (append-left (cnf (formAt tags values u)) (cnfAnd (runOf tags values us)) [] i (omega (arith, here)));
       })
-      (λ q. let l : getD counts u 0 ≤ i = ltb-false i (getD counts u 0) q in
-      let f = found us (counts-tail tags values counts u us right) (before-tail x u us b) (i - getD counts u 0) (omega (arith, total)) (omega (arith, total, here)) in
+      (λ q. let l : clausesAt memo u ≤ i = ltb-false i (clausesAt memo u) q in
+      let f = found us (counts-tail tags values memo u us counted) (before-tail x u us b) (i - clausesAt memo u) (omega (arith, total)) (omega (arith, total, here)) in
       rw q record {
         counted = f .counted;
         below = f .below;
@@ -118,8 +117,8 @@ one-at : (l : Normal (List ℕ) ℕ) (i : ℕ) → i < 1 → getD ((l ∷ []) �
 one-at l zero h = refl
 one-at l (suc i) h = absurd (omega arith)
 
-module _ (tags values counts run : List ℕ) (cs : List (List (Normal (List ℕ) ℕ))) (l : Normal (List ℕ) ℕ) (e : cs ≡ (l ∷ []) ∷ [])
-    (i : ℕ) (out : List ℕ) (at : ℕ) (ask : Ask tags values counts run cs i out at) where
+module _ (tags values memo run : List ℕ) (cs : List (List (Normal (List ℕ) ℕ))) (l : Normal (List ℕ) ℕ) (e : cs ≡ (l ∷ []) ∷ [])
+    (i : ℕ) (out : List ℕ) (at : ℕ) (ask : Ask tags values memo run cs i out at) where
   one-is : getD cs i [] ≡ l ∷ []
   one-is = rw e (one-at l i (omega (arith, ask .index, ap length e)))
 
@@ -130,21 +129,21 @@ module _ (tags values counts run : List ℕ) (cs : List (List (Normal (List ℕ)
   one-written after r p = rw one-is record { end = p .0; array = p .1 }
 
 -- ---- the term at x
-module _ (tags values counts : List ℕ) (x i : ℕ) (out : List ℕ) (at : ℕ) (ask : Ask tags values counts (x ∷ []) (cnf (formAt tags values x)) i out at)
+module _ (tags values memo : List ℕ) (x i : ℕ) (out : List ℕ) (at : ℕ) (ask : Ask tags values memo (x ∷ []) (cnf (formAt tags values x)) i out at)
     (v : NormalView) (is : v ≡ normalView tags values x) where
   module _ (e : v ≡ Literal) where
     pub literal-room : at < length out
-    literal-room = one-room tags values counts _ _ _ (ap cnf (read-literal tags values x v is e)) i out at ask
+    literal-room = one-room tags values memo _ _ _ (ap cnf (read-literal tags values x v is e)) i out at ask
 
     pub literal-written : (after : List ℕ) (r : ℕ) → (r ≡ at + 1) × (after ≡ set out at x) → Written (getD (cnf (formAt tags values x)) i []) out at after r
-    literal-written = one-written tags values counts _ _ _ (ap cnf (read-literal tags values x v is e)) i out at ask
+    literal-written = one-written tags values memo _ _ _ (ap cnf (read-literal tags values x v is e)) i out at ask
 
   module _ (body : TermPlace) (e : v ≡ Forall body) where
     pub forall-room : at < length out
-    forall-room = one-room tags values counts _ _ _ (ap cnf (read-forall tags values x v is body e)) i out at ask
+    forall-room = one-room tags values memo _ _ _ (ap cnf (read-forall tags values x v is body e)) i out at ask
 
     pub forall-written : (after : List ℕ) (r : ℕ) → (r ≡ at + 1) × (after ≡ set out at 0) → Written (getD (cnf (formAt tags values x)) i []) out at after r
-    forall-written = one-written tags values counts _ _ _ (ap cnf (read-forall tags values x v is body e)) i out at ask
+    forall-written = one-written tags values memo _ _ _ (ap cnf (read-forall tags values x v is body e)) i out at ask
 
   module _ (b : Bool) (e : v ≡ Connective b) (run : List ℕ) (o : run ≡ operandsOf tags values x) where
     run-here : allBefore x run ≡ true
@@ -153,24 +152,24 @@ module _ (tags values counts : List ℕ) (x i : ℕ) (out : List ℕ) (at : ℕ)
     within : x < length tags
     within = connective-within tags values x v is b e
 
-    run-counts : ClauseCounts tags values counts run
-    run-counts = rw o (counts-operands tags values counts x (ask .counted) within b (sym e ∙ is))
+    run-counts : ClauseCounts tags values memo run
+    run-counts = rw o (counts-operands tags values memo x (ask .counted) within b (sym e ∙ is))
 
     module _ (t : b ≡ true) where
       and-is : cnf (formAt tags values x) ≡ cnfAnd (runOf tags values run)
       and-is = rw (read-connective tags values x v is b e, t, o)
 
-      module _ (c : Chosen) (k : c ≡ choose counts run i) where
-        chosen : Found tags values counts x (cnf (formAt tags values x)) i c
+      module _ (c : Chosen) (k : c ≡ choose memo run i) where
+        chosen : Found tags values memo x (cnf (formAt tags values x)) i c
         chosen =
             rw (k, and-is)
-            (found tags values counts x within run run-counts run-here i (omega (arith, ask .small, ap length and-is)) (omega (arith, ask .index, ap length and-is)))
+            (found tags values memo x within run run-counts run-here i (omega (arith, ask .small, ap length and-is)) (omega (arith, ask .index, ap length and-is)))
 
         -- the measure falls
         pub and-falls : (m : ℕ) → x * 2 ^ 65 + 2 ^ 64 ≡ m → c .place .0 * 2 ^ 65 + 2 ^ 64 < m
         and-falls m q = omega (arith, chosen .below)
 
-        pub and-ask : Ask tags values counts (c .place .0 ∷ []) (cnf (formAt tags values (c .place .0))) (c .index) out at
+        pub and-ask : Ask tags values memo (c .place .0 ∷ []) (cnf (formAt tags values (c .place .0))) (c .index) out at
         and-ask = record {
           counted = chosen .counted;
           small = chosen .small;
@@ -186,7 +185,7 @@ module _ (tags values counts : List ℕ) (x i : ℕ) (out : List ℕ) (at : ℕ)
       or-is : cnf (formAt tags values x) ≡ cnfOr (runOf tags values run)
       or-is = rw (read-connective tags values x v is b e, f, o)
 
-      pub or-ask : (total : ℕ) → total ≡ getD counts x 0 → AskRun tags values counts x run total i out at
+      pub or-ask : (total : ℕ) → total ≡ clausesAt memo x → AskRun tags values memo x run total i out at
       or-ask total q = record {
         ask = record {
           counted = run-counts;
@@ -196,7 +195,7 @@ module _ (tags values counts : List ℕ) (x i : ℕ) (out : List ℕ) (at : ℕ)
         };
         before = run-here;
         within = within;
-        count = q ∙ (exact tags values counts x [] (ask .counted) within (ask .small) ∙ ap length or-is);
+        count = q ∙ (exact tags values memo x [] (ask .counted) within (ask .small) ∙ ap length or-is);
       }
 
       pub or-written : (after : List ℕ) (r : ℕ) → Written (getD (cnfOr (runOf tags values run)) i []) out at after r
@@ -246,8 +245,8 @@ factor-right a zero i h = absurd (omega (arith, mul-zero a))
 factor-right a (suc b) i h = omega arith
 
 -- the first operand u, with the clauses here, and the rest us
-module _ (tags values counts : List ℕ) (x u : ℕ) (us : List ℕ) (total i : ℕ) (out : List ℕ) (at : ℕ)
-    (ask : AskRun tags values counts x (u ∷ us) total i out at) (here : ℕ) (is : here ≡ getD counts u 0) where
+module _ (tags values memo : List ℕ) (x u : ℕ) (us : List ℕ) (total i : ℕ) (out : List ℕ) (at : ℕ)
+    (ask : AskRun tags values memo x (u ∷ us) total i out at) (here : ℕ) (is : here ≡ clausesAt memo u) where
   total-is : total ≡ length (cnf (formAt tags values u)) * length (cnfOr (runOf tags values us))
   total-is = ask .count ∙ clauses-or (formAt tags values u) (runOf tags values us)
 
@@ -277,7 +276,7 @@ module _ (tags values counts : List ℕ) (x u : ℕ) (us : List ℕ) (total i : 
   here-is : here ≡ length (cnf (formAt tags values u))
   here-is =
       let less : u < x = before-head x u us (ask .before) in
-      is ∙ exact tags values counts u us (ask .ask .counted) (omega (arith, ask .within)) small-here
+      is ∙ exact tags values memo u us (ask .ask .counted) (omega (arith, ask .within)) small-here
 
   rest-is : total / here ≡ length (cnfOr (runOf tags values us))
   rest-is = rw (total-is, here-is) (mul-div-cancel-left (length (cnfOr (runOf tags values us))) some-here)
@@ -292,19 +291,19 @@ module _ (tags values counts : List ℕ) (x u : ℕ) (us : List ℕ) (total i : 
       rw (← length-append (getD (cnf (formAt tags values u)) (i / (total / here)) []) (getD (cnfOr (runOf tags values us)) (i % (total / here)) []), ← clause-is)
       (ask .ask .room)
 
-  first-ask : Ask tags values counts (u ∷ []) (cnf (formAt tags values u)) (i / (total / here)) out at
+  first-ask : Ask tags values memo (u ∷ []) (cnf (formAt tags values u)) (i / (total / here)) out at
   first-ask = record {
-    counted = counts-head tags values counts u us (ask .ask .counted);
+    counted = counts-head tags values memo u us (ask .ask .counted);
     small = small-here;
     index = rw rest-is (div-lt-iff-lt-mul some-rest .1 index-is);
     room = omega (arith, room-is);
   }
 
   module _ (mid : List ℕ) (next : ℕ) (w : Written (getD (cnf (formAt tags values u)) (i / (total / here)) []) out at mid next) where
-    rest-ask : AskRun tags values counts x us (total / here) (i % (total / here)) mid next
+    rest-ask : AskRun tags values memo x us (total / here) (i % (total / here)) mid next
     rest-ask = record {
       ask = record {
-        counted = counts-tail tags values counts u us (ask .ask .counted);
+        counted = counts-tail tags values memo u us (ask .ask .counted);
         small = small-rest;
         index = rw rest-is (mod-lt i some-rest);
         room = omega (
@@ -325,42 +324,42 @@ module _ (tags values counts : List ℕ) (x u : ℕ) (us : List ℕ) (total i : 
     both-written after r q = rw clause-is (written-both _ _ out at mid next after r w q)
 
 -- the same of a run, whose rest is `&run[1..]`
-module _ (tags values counts : List ℕ) (x : ℕ) (run : List ℕ) (total i : ℕ) (out : List ℕ) (at : ℕ)
-    (ask : AskRun tags values counts x run total i out at) where
+module _ (tags values memo : List ℕ) (x : ℕ) (run : List ℕ) (total i : ℕ) (out : List ℕ) (at : ℕ)
+    (ask : AskRun tags values memo x run total i out at) where
   pub run-none : length run ≡ 0 → Written (getD (cnfOr (runOf tags values run)) i []) out at out at
   run-none e = rw (no-operand tags values run i e (ask .ask .index)) record { end = omega arith; array = refl }
 
-  module _ (some : length run ≡ 0 → ⊥) (here : ℕ) (is : here ≡ getD counts (getD run 0 0) 0) where
-    split-ask : AskRun tags values counts x (getD run 0 0 ∷ take (length run - 1) (drop 1 run)) total i out at
-    split-ask = subst (λ (l : List ℕ). AskRun tags values counts x l total i out at) (run-split run some) ask
+  module _ (some : length run ≡ 0 → ⊥) (here : ℕ) (is : here ≡ clausesAt memo (getD run 0 0)) where
+    split-ask : AskRun tags values memo x (getD run 0 0 ∷ take (length run - 1) (drop 1 run)) total i out at
+    split-ask = subst (λ (l : List ℕ). AskRun tags values memo x l total i out at) (run-split run some) ask
 
     pub run-here-some : 0 < here
-    run-here-some = omega (arith, some-here tags values counts x _ _ total i out at split-ask here is, here-is tags values counts x _ _ total i out at split-ask here is)
+    run-here-some = omega (arith, some-here tags values memo x _ _ total i out at split-ask here is, here-is tags values memo x _ _ total i out at split-ask here is)
 
     pub run-rest-some : 0 < total / here
-    run-rest-some = rw (rest-is tags values counts x _ _ total i out at split-ask here is) (some-rest tags values counts x _ _ total i out at split-ask here is)
+    run-rest-some = rw (rest-is tags values memo x _ _ total i out at split-ask here is) (some-rest tags values memo x _ _ total i out at split-ask here is)
 
     pub run-falls : (m : ℕ) → x * 2 ^ 65 + length run ≡ m → getD run 0 0 * 2 ^ 65 + 2 ^ 64 < m
     run-falls m q = let less : getD run 0 0 < x = before-head x _ _ (split-ask .before) in omega arith
 
     -- a, d: the clause's number in the first list, and in the rest
     module _ (a : ℕ) (is-a : a ≡ i / (total / here)) where
-      pub run-first : Ask tags values counts (getD run 0 0 ∷ []) (cnf (formAt tags values (getD run 0 0))) a out at
-      run-first = rw is-a (first-ask tags values counts x _ _ total i out at split-ask here is)
+      pub run-first : Ask tags values memo (getD run 0 0 ∷ []) (cnf (formAt tags values (getD run 0 0))) a out at
+      run-first = rw is-a (first-ask tags values memo x _ _ total i out at split-ask here is)
 
       module _ (mid : List ℕ) (next : ℕ) (w : Written (getD (cnf (formAt tags values (getD run 0 0))) a []) out at mid next)
           (d : ℕ) (is-d : d ≡ i % (total / here)) where
         first-written : Written (getD (cnf (formAt tags values (getD run 0 0))) (i / (total / here)) []) out at mid next
         first-written = rw is-a at w
 
-        pub run-rest : (rest : ℕ) → rest ≡ total / here → AskRun tags values counts x (take (length run - 1) (drop 1 run)) rest d mid next
-        run-rest rest e = rw (e, is-d) (rest-ask tags values counts x _ _ total i out at split-ask here is mid next first-written)
+        pub run-rest : (rest : ℕ) → rest ≡ total / here → AskRun tags values memo x (take (length run - 1) (drop 1 run)) rest d mid next
+        run-rest rest e = rw (e, is-d) (rest-ask tags values memo x _ _ total i out at split-ask here is mid next first-written)
 
         pub run-written : (after : List ℕ) (r : ℕ)
             → Written (getD (cnfOr (runOf tags values (take (length run - 1) (drop 1 run)))) d []) mid next after r
             → Written (getD (cnfOr (runOf tags values run)) i []) out at after r
         run-written after r q =
             subst (λ (l : List ℕ). Written (getD (cnfOr (runOf tags values l)) i []) out at after r) (sym (run-split run some))
-            (both-written tags values counts x _ _ total i out at split-ask here is mid next first-written after r (rw is-d at q))
+            (both-written tags values memo x _ _ total i out at split-ask here is mid next first-written after r (rw is-d at q))
 
 pub ruleset writes = (literal-written, forall-written, and-written, or-written, run-none, run-written)

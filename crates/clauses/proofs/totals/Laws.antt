@@ -1,10 +1,10 @@
 -- Laws of the totals and of their memo, one for each way out of the code.
 -- Assumes nothing.
-use Prim.Native.Nat.{ℕ, zero, suc, _+_, _-_, _*_, _^_, _≤_, _<_, min}
-use mathlib.Core.Path.{_≡_, refl, sym, ap, ap₂, subst, _∙_}
+use Prim.Native.Nat.{ℕ, suc, _+_, _-_, _*_, _/_, _%_, _^_, _≤_, _<_, min}
+use mathlib.Core.Path.{_≡_, refl, sym, ap, ap₂, _∙_}
 use mathlib.Core.Bool.{Bool, true, false}
 use mathlib.Core.List.{List, [], _∷_}
-use lib.ListN.{length, getD, take, drop, set, replicate, length-set, length-replicate, List·getD-eq-default}
+use lib.ListN.{length, getD, drop, set, replicate, length-set, length-replicate, List·getD-eq-default}
 use lib.Seq.{drop-cons, drop-length, getD-set-same, getD-set-other, set-out}
 use lib.Dec.{leb, eqb}
 use native.Mathlib.Nat.{mul-le-mul}
@@ -19,13 +19,9 @@ use Rattle.clauses.specs.declared.totals.Totals as code
 use Rattle.formulas.specs.Clauses.{cnf, literalTotal}
 use Rattle.formulas.specs.Built.{normalView, normalsOf}
 use Rattle.formulas.specs.Totals.{Totals, startOf, combine, oneLiteral, cap, totals, totalsOf}
-use Rattle.clauses.specs.ClauseWalk.{formAt, asTotals, memoAt, runTotals, AllCounted, Memo, TotalsNoted, TermCounted, AskOperands, OperandsCounted, SizesKept}
+use Rattle.clauses.specs.ClauseWalk.{formAt, asTotals, entryBase, entryOf, memoAt, runTotals, AllCounted, CountedKept, Memo, TotalsNoted, TermCounted, AskOperands, OperandsCounted}
 use Rattle.formulas.proofs.Totals.{totals-are, cut-add, cap-combine}
-use Rattle.clauses.proofs.Reading.{no-literal, no-forall, before-at, run-split, rest-before, zeros, read-literal, read-forall, read-connective, run-before, connective-within}
-
--- a run that has an operand
-pub some-operand : (k : ℕ) → (k ≡ 0 → ⊥) → 0 < k
-some-operand k h = omega arith
+use Rattle.clauses.proofs.Reading.{no-literal, no-forall, before-at, zeros, read-literal, read-forall, read-connective, run-before, connective-within}
 
 -- ---- one step
 -- a product of two u32 fits u64
@@ -40,8 +36,8 @@ start-and b e = rw e
 pub start-or : (b : Bool) → b ≡ false → record { clauses = 1; literals = 0 } ≡ cap 8193 (startOf b)
 start-or b e = rw e
 
-pub noted-is : (counts sizes : List ℕ) (u c l : ℕ) → c ≡ getD counts u 0 → l ≡ getD sizes u 0 → record { clauses = c; literals = l - 1 } ≡ memoAt counts sizes u
-noted-is counts sizes u c l p q = rw (p, q)
+pub noted-is : (memo : List ℕ) (u e : ℕ) → e ≡ getD memo u 0 → record { clauses = e / entryBase; literals = (e - 1) % entryBase } ≡ memoAt memo u
+noted-is memo u e p = rw p
 
 module _ (all : Bool) (t u : code.Totals) (c l : ℕ) where
   pub combine-sums : all ≡ true → c ≡ min 8193 (t .clauses + u .clauses) → l ≡ min 8193 (t .literals + u .literals)
@@ -75,95 +71,103 @@ module _ (b : Bool) (at : ℕ → Totals) (run : List ℕ) where
         drop-cons run (i - 1) 0 (omega (arith, f .within)) ∙ ap (λ (k : ℕ). getD run (i - 1) 0 ∷ drop k run) n in
         record { within = omega (arith, f .within); is = rw (d, ← f .is, ← em) er }
 
-    pub fold-counted : 0 < i → (sizes : List ℕ) → AllCounted sizes run → 0 < getD sizes (getD run (i - 1) 0) 0
-    fold-counted h sizes all = all .at (i - 1) (omega (arith, f .within))
+    pub fold-counted : 0 < i → (memo : List ℕ) → AllCounted memo run → 0 < getD memo (getD run (i - 1) 0) 0
+    fold-counted h memo all = all .at (i - 1) (omega (arith, f .within))
 
     pub fold-end : i ≤ 0 → asTotals s ≡ runTotals b at run
     fold-end h = let z : i ≡ 0 = omega arith in rw z at (f .is)
 
 pub ruleset folds = (fold-start, fold-next, fold-end)
 
--- ---- noting totals; past the end of the memo nothing is set
-module _ (counts sizes : List ℕ) (x : ℕ) (t : code.Totals) where
-  pub note-set : TotalsNoted counts sizes x t (set counts x (t .clauses)) (set sizes x (t .literals + 1)) t
-  note-set = record { same = refl; counts-are = refl; sizes-are = refl }
+-- ---- an entry, read back
+module _ (c l : ℕ) (small : l ≤ 8193) where
+  clauses-back : (entryBase * c + l + 1) / entryBase ≡ c
+  clauses-back = omega arith
 
-  pub note-past : length counts ≡ length sizes → length sizes ≤ x → TotalsNoted counts sizes x t counts sizes t
-  note-past e h = record { same = refl; counts-are = sym (set-out counts x _ (omega arith)); sizes-are = sym (set-out sizes x _ h) }
+  literals-back : (entryBase * c + l + 1 - 1) % entryBase ≡ l
+  literals-back = omega arith
+
+-- ---- noting totals; past the end of the memo nothing is set
+module _ (memo : List ℕ) (x : ℕ) (t : code.Totals) where
+  pub note-set : TotalsNoted memo x t (set memo x (entryOf t)) t
+  note-set = record { same = refl; memo-is = refl }
+
+  pub note-past : length memo ≤ x → TotalsNoted memo x t memo t
+  note-past h = record { same = refl; memo-is = sym (set-out memo x _ h) }
 
 pub ruleset notes = (note-set, note-past)
 
 -- a place that is counted stands in the memo
-counted-within : (sizes : List ℕ) (x : ℕ) → 0 < getD sizes x 0 → x < length sizes
-counted-within sizes x h =
-    by-test (leb (length sizes) x)
-    (λ q. absurd (omega (arith, List·getD-eq-default sizes 0 (leb-true (length sizes) x q))))
-    (λ q. leb-false (length sizes) x q)
+counted-within : (memo : List ℕ) (x : ℕ) → 0 < getD memo x 0 → x < length memo
+counted-within memo x h =
+    by-test (leb (length memo) x)
+    (λ q. absurd (omega (arith, List·getD-eq-default memo 0 (leb-true (length memo) x q))))
+    (λ q. leb-false (length memo) x q)
 
-kept-all : (sizes after run : List ℕ) → SizesKept sizes after → AllCounted sizes run → AllCounted after run
-kept-all sizes after run kept all = record { at = λ i h. kept .at _ (all .at i h) }
+kept-all : (memo memo′ run : List ℕ) → CountedKept memo memo′ → AllCounted memo run → AllCounted memo′ run
+kept-all memo memo′ run kept all = record { at = λ i h. kept .at _ (all .at i h) }
 
-kept-set : (sizes : List ℕ) (x n : ℕ) → SizesKept sizes (set sizes x (n + 1))
-kept-set sizes x n = record {
+kept-same : (memo : List ℕ) → CountedKept memo memo
+kept-same memo = record { size = refl; at = λ u h. h }
+
+kept-both : (memo₀ memo₁ memo₂ : List ℕ) → CountedKept memo₀ memo₁ → CountedKept memo₁ memo₂ → CountedKept memo₀ memo₂
+kept-both memo₀ memo₁ memo₂ p q = record { size = q .size ∙ p .size; at = λ u h. q .at u (p .at u h) }
+
+kept-set : (memo : List ℕ) (x n : ℕ) → CountedKept memo (set memo x (n + 1))
+kept-set memo x n = record {
+  size = length-set memo x (n + 1);
   at = λ u h. by-test (eqb u x)
-      (λ q. rw (eqb-true u x q) (omega (arith, getD-set-same sizes x (n + 1) 0 (rw (eqb-true u x q) at (counted-within sizes u h)))))
-      (λ q. rw (getD-set-other sizes x u (n + 1) 0 (eqb-false u x q)) h);
+      (λ q. rw (eqb-true u x q) (omega (arith, getD-set-same memo x (n + 1) 0 (rw (eqb-true u x q) at (counted-within memo u h)))))
+      (λ q. rw (getD-set-other memo x u (n + 1) 0 (eqb-false u x q)) h);
 }
 
-module _ (tags values : List ℕ) (x : ℕ) (counts sizes : List ℕ) (memo : Memo tags values counts sizes)
+module _ (tags values : List ℕ) (x : ℕ) (memo : List ℕ) (right : Memo tags values memo)
     (t : code.Totals) (is : asTotals t ≡ cap 8193 (totals (formAt tags values x)))
-    (down : (b : Bool) → Connective b ≡ normalView tags values x → AllCounted sizes (operandsOf tags values x)) where
+    (down : (b : Bool) → Connective b ≡ normalView tags values x → AllCounted memo (operandsOf tags values x)) where
+  set-keeps : CountedKept memo (set memo x (entryOf t))
+  set-keeps = kept-set memo x (entryBase * t .clauses + t .literals)
+
   -- right totals of a term whose operands are counted keep the memo right
-  more-memo : Memo tags values (set counts x (t .clauses)) (set sizes x (t .literals + 1))
+  more-memo : Memo tags values (set memo x (entryOf t))
   more-memo = record {
-    room = omega (arith, memo .room, length-set sizes x (t .literals + 1));
-    same-size = length-set counts x (t .clauses) ∙ (memo .same-size ∙ sym (length-set sizes x (t .literals + 1)));
+    room = omega (arith, right .room, length-set memo x (entryOf t));
     at = λ u h. by-test (eqb u x)
         (λ q. rw (eqb-true u x q) (here (rw (eqb-true u x q) at h)))
-        (λ q. rw (getD-set-other counts x u (t .clauses) 0 (eqb-false u x q), getD-set-other sizes x u (t .literals + 1) 0 (eqb-false u x q))
-        (memo .at u (before u (eqb-false u x q) h)));
-    operands = λ u h b e. kept-all sizes _ _ (kept-set sizes x (t .literals))
+        (λ q. rw (getD-set-other memo x u (entryOf t) 0 (eqb-false u x q)) (right .at u (before u (eqb-false u x q) h)));
+    operands = λ u h b e. kept-all memo _ _ set-keeps
         (by-test (eqb u x)
         (λ q. rw (eqb-true u x q) (down b (rw (eqb-true u x q) at e)))
-        (λ q. memo .operands u (before u (eqb-false u x q) h) b e));
+        (λ q. right .operands u (before u (eqb-false u x q) h) b e));
   }
     where
-      here : 0 < getD (set sizes x (t .literals + 1)) x 0
-          → memoAt (set counts x (t .clauses)) (set sizes x (t .literals + 1)) x ≡ cap 8193 (totals (formAt tags values x))
+      here : 0 < getD (set memo x (entryOf t)) x 0 → memoAt (set memo x (entryOf t)) x ≡ cap 8193 (totals (formAt tags values x))
       here h =
-          let within : x < length sizes = omega (arith, length-set sizes x (t .literals + 1), counted-within (set sizes x (t .literals + 1)) x h) in
-          let less : t .literals + 1 - 1 ≡ t .literals = omega arith in
-          rw (getD-set-same counts x (t .clauses) 0 (omega (arith, memo .same-size)), getD-set-same sizes x (t .literals + 1) 0 within, less) is
+          let within : x < length memo = omega (arith, length-set memo x (entryOf t), counted-within (set memo x (entryOf t)) x h) in
+          let small : t .literals ≤ 8193 = omega (arith, ap (λ (a : Totals). a .literals) is) in
+          rw (getD-set-same memo x (entryOf t) 0 within, clauses-back (t .clauses) (t .literals) small, literals-back (t .clauses) (t .literals) small) is
 
-      before : (u : ℕ) → (u ≡ x → ⊥) → 0 < getD (set sizes x (t .literals + 1)) u 0 → 0 < getD sizes u 0
-      before u n h = rw (getD-set-other sizes x u (t .literals + 1) 0 n) at h
+      before : (u : ℕ) → (u ≡ x → ⊥) → 0 < getD (set memo x (entryOf t)) u 0 → 0 < getD memo u 0
+      before u n h = rw (getD-set-other memo x u (entryOf t) 0 n) at h
 
-  noted-counted : (sizes₀ : List ℕ) → SizesKept sizes₀ sizes → (counts′ sizes′ : List ℕ) (r : code.Totals) → TotalsNoted counts sizes x t counts′ sizes′ r
-      → TermCounted tags values x sizes₀ counts′ sizes′ r
-  noted-counted sizes₀ kept counts′ sizes′ r n = record {
+  noted-counted : (memo₀ : List ℕ) → CountedKept memo₀ memo → (memo′ : List ℕ) (r : code.Totals) → TotalsNoted memo x t memo′ r
+      → TermCounted tags values x memo₀ memo′ r
+  noted-counted memo₀ kept memo′ r n = record {
     is = ap asTotals (n .same) ∙ is;
-    memo = rw (n .counts-are, n .sizes-are) more-memo;
-    here = λ h. rw (n .sizes-are) (omega (arith, getD-set-same sizes x (t .literals + 1) 0 (omega (arith, memo .room))));
-    kept = rw (n .sizes-are) record { at = λ u h. kept-set sizes x (t .literals) .at u (kept .at u h) };
+    right = rw (n .memo-is) more-memo;
+    here = λ h. rw (n .memo-is) (omega (arith, getD-set-same memo x (entryOf t) 0 (omega (arith, right .room))));
+    kept = rw (n .memo-is) (kept-both memo₀ memo _ kept set-keeps);
   }
 
 -- ---- the term at x
-module _ (tags values counts sizes : List ℕ) (memo : Memo tags values counts sizes) where
-  pub term-noted : (x s : ℕ) → s ≡ getD sizes x 0 → (s ≡ 0 → ⊥) → (r : code.Totals) → asTotals r ≡ memoAt counts sizes x → TermCounted tags values x sizes counts sizes r
-  term-noted x s e n r q = record {
-    is = q ∙ memo .at x (omega arith);
-    memo = memo;
-    here = λ h. omega arith;
-    kept = record { at = λ u h. h };
-  }
-
-  -- of the run of a connective, whose places are counted
-  run-counted : (b : Bool) (run : List ℕ) → AllCounted sizes run → runTotals b (memoAt counts sizes) run ≡ cap 8193 (totalsOf b (normalsOf (formAt tags values) run))
-  unfolding runTotals
-  run-counted b [] all = refl
-  run-counted b (u ∷ run) all =
-      ap₂ (λ (t s : Totals). cap 8193 (combine b t s)) (memo .at u (all .at 0 (omega arith))) (run-counted b run (record { at = λ i h. all .at (suc i) (omega arith) }))
-      ∙ sym (cap-combine 8193 b (totals (formAt tags values u)) (totalsOf b (normalsOf (formAt tags values) run)))
+-- a connective, whose operands are counted
+run-counted : (tags values memo : List ℕ) → Memo tags values memo → (b : Bool) (run : List ℕ) → AllCounted memo run
+    → runTotals b (memoAt memo) run ≡ cap 8193 (totalsOf b (normalsOf (formAt tags values) run))
+unfolding runTotals
+run-counted tags values memo right b [] all = refl
+run-counted tags values memo right b (u ∷ run) all =
+    ap₂ (λ (t s : Totals). cap 8193 (combine b t s)) (right .at u (all .at 0 (omega arith)))
+    (run-counted tags values memo right b run (record { at = λ i h. all .at (suc i) (omega arith) }))
+    ∙ sym (cap-combine 8193 b (totals (formAt tags values u)) (totalsOf b (normalsOf (formAt tags values) run)))
 
 module _ (tags values : List ℕ) (x : ℕ) (v : NormalView) (is : v ≡ normalView tags values x) where
   literal-no-run : v ≡ Literal → (b : Bool) → Connective b ≡ normalView tags values x → ⊥
@@ -172,74 +176,91 @@ module _ (tags values : List ℕ) (x : ℕ) (v : NormalView) (is : v ≡ normalV
   forall-no-run : (body : TermPlace) → v ≡ Forall body → (b : Bool) → Connective b ≡ normalView tags values x → ⊥
   forall-no-run body e b q = no-forall b body (q ∙ (sym is ∙ e))
 
-  module _ (counts sizes : List ℕ) (memo : Memo tags values counts sizes) (t : code.Totals) (one : asTotals t ≡ oneLiteral)
-      (counts′ sizes′ : List ℕ) (r : code.Totals) (n : TotalsNoted counts sizes x t counts′ sizes′ r) where
-    pub term-literal : v ≡ Literal → TermCounted tags values x sizes counts′ sizes′ r
+  module _ (memo : List ℕ) (right : Memo tags values memo) (t : code.Totals) (one : asTotals t ≡ oneLiteral)
+      (memo′ : List ℕ) (r : code.Totals) (n : TotalsNoted memo x t memo′ r) where
+    pub term-literal : v ≡ Literal → TermCounted tags values x memo memo′ r
     term-literal e =
-        noted-counted tags values x counts sizes memo t (one ∙ rw (read-literal tags values x v is e)) (λ b q. absurd (literal-no-run e b q))
-        sizes (record { at = λ u h. h }) counts′ sizes′ r n
+        noted-counted tags values x memo right t (one ∙ rw (read-literal tags values x v is e)) (λ b q. absurd (literal-no-run e b q))
+        memo (kept-same memo) memo′ r n
 
-    pub term-forall : (body : TermPlace) → v ≡ Forall body → TermCounted tags values x sizes counts′ sizes′ r
+    pub term-forall : (body : TermPlace) → v ≡ Forall body → TermCounted tags values x memo memo′ r
     term-forall body e =
-        noted-counted tags values x counts sizes memo t (one ∙ rw (read-forall tags values x v is body e)) (λ b q. absurd (forall-no-run body e b q))
-        sizes (record { at = λ u h. h }) counts′ sizes′ r n
+        noted-counted tags values x memo right t (one ∙ rw (read-forall tags values x v is body e)) (λ b q. absurd (forall-no-run body e b q))
+        memo (kept-same memo) memo′ r n
 
-  module _ (b : Bool) (e : v ≡ Connective b) (run : List ℕ) (o : run ≡ operandsOf tags values x) where
-    pub term-operands : (counts sizes : List ℕ) → Memo tags values counts sizes → AskOperands tags values counts sizes x run
-    term-operands counts sizes memo = record {
-      memo = memo;
-      before = rw o (run-before tags values x v is b e);
+  module _ (b : Bool) (e : v ≡ Connective b) where
+    pub term-operands : (memo : List ℕ) → Memo tags values memo → AskOperands tags values memo x
+    term-operands memo right = record {
+      right = right;
+      before = run-before tags values x v is b e;
       within = connective-within tags values x v is b e;
     }
 
-    pub term-connective : (sizes₀ counts sizes : List ℕ) → OperandsCounted tags values run sizes₀ counts sizes
-        → (t : code.Totals) → asTotals t ≡ runTotals b (memoAt counts sizes) run
-        → (counts′ sizes′ : List ℕ) (r : code.Totals) → TotalsNoted counts sizes x t counts′ sizes′ r → TermCounted tags values x sizes₀ counts′ sizes′ r
-    term-connective sizes₀ counts sizes a t q counts′ sizes′ r n =
-        noted-counted tags values x counts sizes (a .memo) t
-        (rw (read-connective tags values x v is b e, ← o) (q ∙ run-counted tags values counts sizes (a .memo) b run (a .all)))
-        (λ c p. rw o at (a .all)) sizes₀ (a .kept) counts′ sizes′ r n
+    pub term-connective : (memo₀ memo : List ℕ) → OperandsCounted tags values x memo₀ memo
+        → (run : List ℕ) → run ≡ operandsOf tags values x → (t : code.Totals) → asTotals t ≡ runTotals b (memoAt memo) run
+        → (memo′ : List ℕ) (r : code.Totals) → TotalsNoted memo x t memo′ r → TermCounted tags values x memo₀ memo′ r
+    term-connective memo₀ memo a run o t q memo′ r n =
+        noted-counted tags values x memo (a .right) t
+        (rw (read-connective tags values x v is b e) (rw o at q ∙ run-counted tags values memo (a .right) b (operandsOf tags values x) (a .all)))
+        (λ c p. a .all) memo₀ (a .kept) memo′ r n
 
--- ---- a size fits the memo, one up
-pub one-fits : (t : code.Totals) → asTotals t ≡ oneLiteral → t .literals ≤ 8193
-one-fits t e = omega (arith, ap (λ (a : Totals). a .literals) e)
+pub operands-all : (tags values : List ℕ) (x : ℕ) (memo₀ memo : List ℕ) → OperandsCounted tags values x memo₀ memo
+    → (run : List ℕ) → run ≡ operandsOf tags values x → AllCounted memo run
+operands-all tags values x memo₀ memo a run o = rw o (a .all)
 
-pub run-fits : (b : Bool) (at : ℕ → Totals) (run : List ℕ) (t : code.Totals) → asTotals t ≡ runTotals b at run → t .literals ≤ 8193
+-- ---- totals fit an entry
+pub one-fits : (t : code.Totals) → asTotals t ≡ oneLiteral → (t .clauses ≤ 8193) × (t .literals ≤ 8193)
+one-fits t e = (omega (arith, ap (λ (a : Totals). a .clauses) e), omega (arith, ap (λ (a : Totals). a .literals) e))
+
+pub run-fits : (b : Bool) (at : ℕ → Totals) (run : List ℕ) (t : code.Totals) → asTotals t ≡ runTotals b at run → (t .clauses ≤ 8193) × (t .literals ≤ 8193)
 unfolding runTotals
-run-fits b at [] t e = omega (arith, ap (λ (a : Totals). a .literals) e)
-run-fits b at (u ∷ run) t e = omega (arith, ap (λ (a : Totals). a .literals) e)
+run-fits b at [] t e = (omega (arith, ap (λ (a : Totals). a .clauses) e), omega (arith, ap (λ (a : Totals). a .literals) e))
+run-fits b at (u ∷ run) t e = (omega (arith, ap (λ (a : Totals). a .clauses) e), omega (arith, ap (λ (a : Totals). a .literals) e))
 
--- ---- the walk along a run
-all-at : (sizes : List ℕ) (u : ℕ) (us : List ℕ) → 0 < getD sizes u 0 → AllCounted sizes us → (i : ℕ) → i < length (u ∷ us) → 0 < getD sizes (getD (u ∷ us) i 0) 0
-all-at sizes u us h all zero l = h
-all-at sizes u us h all (suc i) l = all .at i (omega arith)
+-- ---- the walk along the operands: those before i are counted
+pub record CountedTo (tags values run memo₀ memo : List ℕ) (i : ℕ) : Type 0 where
+  pub right : Memo tags values memo
+  pub at : (j : ℕ) → j < i → 0 < getD memo (getD run j 0) 0
+  pub kept : CountedKept memo₀ memo
 
-module _ (tags values counts sizes : List ℕ) (x : ℕ) (run : List ℕ) (ask : AskOperands tags values counts sizes x run) where
-  pub run-end : length run ≡ 0 → OperandsCounted tags values run sizes counts sizes
-  run-end e = record { memo = ask .memo; all = record { at = λ i h. absurd (omega arith) }; kept = record { at = λ u h. h } }
+module _ (tags values memo₀ : List ℕ) (x : ℕ) (ask : AskOperands tags values memo₀ x) (run : List ℕ) (o : run ≡ operandsOf tags values x) where
+  pub operands-start : CountedTo tags values run memo₀ memo₀ 0
+  operands-start = record { right = ask .right; at = λ j h. absurd (omega arith); kept = kept-same memo₀ }
 
-  module _ (some : length run ≡ 0 → ⊥) (counts₁ sizes₁ : List ℕ) (t : code.Totals) (a : TermCounted tags values (getD run 0 0) sizes counts₁ sizes₁ t) where
-    pub rest-ask : AskOperands tags values counts₁ sizes₁ x (take (length run - 1) (drop 1 run))
-    rest-ask = record { memo = a .memo; before = rest-before x run (ask .before) some; within = ask .within }
+  module _ (memo : List ℕ) (i : ℕ) (w : CountedTo tags values run memo₀ memo i) where
+    pub operands-end : length run ≤ i → OperandsCounted tags values x memo₀ memo
+    operands-end h = let all : AllCounted memo run = record { at = λ j l. w .at j (omega arith) } in record { right = w .right; all = rw o at all; kept = w .kept }
 
-    pub run-on : (counts₂ sizes₂ : List ℕ) → OperandsCounted tags values (take (length run - 1) (drop 1 run)) sizes₁ counts₂ sizes₂
-        → OperandsCounted tags values run sizes counts₂ sizes₂
-    run-on counts₂ sizes₂ b = record {
-      memo = b .memo;
-      all = subst (AllCounted sizes₂) (sym (run-split run some)) (record { at = all-at sizes₂ _ _ (b .kept .at _ head) (b .all) });
-      kept = record { at = λ u h. b .kept .at u (a .kept .at u h) };
-    }
-      where
-        head : 0 < getD sizes₁ (getD run 0 0) 0
-        head = a .here (omega (arith, before-at x run (ask .before) 0 (omega arith), ask .within))
+    module _ (h : i < length run) where
+      operand-before : getD run i 0 < x
+      operand-before = before-at x run (rw o (ask .before)) i h
 
-pub ruleset walks = (term-noted, term-literal, term-forall, term-connective, run-end, run-on)
+      -- m is the walk's measure at x
+      pub operand-falls : (m : ℕ) → x * 2 ≡ m → getD run i 0 * 2 + 1 < m
+      operand-falls m q = omega (arith, operand-before)
+
+      one-more : (memo′ : List ℕ) → CountedKept memo memo′ → 0 < getD memo′ (getD run i 0) 0 → (j : ℕ) → j < i + 1 → 0 < getD memo′ (getD run j 0) 0
+      one-more memo′ kept here j l =
+          by-test (eqb j i)
+          (λ q. rw (eqb-true j i q) here)
+          (λ q. let n : j ≡ i → ⊥ = eqb-false j i q in kept .at _ (w .at j (omega arith)))
+
+      pub operand-known : (e : ℕ) → e ≡ getD memo (getD run i 0) 0 → (e ≡ 0 → ⊥) → CountedTo tags values run memo₀ memo (i + 1)
+      operand-known e p n = record { right = w .right; at = one-more memo (kept-same memo) (omega arith); kept = w .kept }
+
+      pub operand-counted : (memo′ : List ℕ) (t : code.Totals) → TermCounted tags values (getD run i 0) memo memo′ t → CountedTo tags values run memo₀ memo′ (i + 1)
+      operand-counted memo′ t a = record {
+        right = a .right;
+        at = one-more memo′ (a .kept) (a .here (omega (arith, operand-before, ask .within)));
+        kept = kept-both memo₀ memo memo′ (w .kept) (a .kept);
+      }
+
+pub ruleset walks = (term-literal, term-forall, term-connective, operands-start, operands-end, operand-known, operand-counted)
 
 -- ---- a memo in which nothing is counted
-pub fresh : (tags values counts : List ℕ) (k : ℕ) → length counts ≡ k → length tags ≤ k → Memo tags values counts (replicate k 0)
-fresh tags values counts k e h = record {
+pub fresh : (tags values : List ℕ) (k : ℕ) → length tags ≤ k → Memo tags values (replicate k 0)
+fresh tags values k h = record {
   room = omega (arith, length-replicate {A = ℕ} k 0);
-  same-size = e ∙ sym (length-replicate {A = ℕ} k 0);
   at = λ u q. absurd (omega (arith, zeros k u));
   operands = λ u q b e. absurd (omega (arith, zeros k u));
 }

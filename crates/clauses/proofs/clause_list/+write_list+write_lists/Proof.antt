@@ -15,7 +15,7 @@ use Rattle.clauses.proofs.clause_list.write_lists.Kinds as write-lists-
 use Rattle.clauses.proofs.clause_list.+write_list+write_lists.Lts-write_lists as write-lists-lts
 use Rattle.cells.proofs.run.operands.Reads as operands-reads
 use Rattle.clauses.proofs.clause_list.write_clauses.Reads as write-clauses-reads
-use Rattle.clauses.proofs.conjunctive_normal_form.count_at.Reads as count-at-reads
+use Rattle.clauses.proofs.totals.count_at.Reads as count-at-reads
 use Rattle.formulas.proofs.view.normal_view.Reads as normal-view-reads
 use Rattle.clauses.proofs.clause_list.+write_list+write_lists.{statement}
 use Rattle.clauses.proofs.clause_list.+write_list+write_lists.Tie.{close}

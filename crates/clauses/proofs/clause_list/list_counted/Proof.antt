@@ -1,13 +1,14 @@
 use borrow.Author.Needs.{needs}
+use Rattle.clauses.proofs.totals.Laws.{fresh}
 use Rattle.clauses.proofs.clause_list.Laws.{counted-answers, fits-ask}
 use Rattle.clauses.proofs.clause_list.list_counted.Statement.{statement}
 use Rattle.clauses.proofs.clause_list.list_counted.Tie as tie
 
-slice-aggregate-count-clauses : tie.Need-slice-aggregate-count-clauses
-slice-aggregate-count-clauses c = search needs
+slice-aggregate-list-totals : tie.Need-slice-aggregate-list-totals
+slice-aggregate-list-totals c = search needs
 
-count-clauses-requires : tie.Need-count-clauses-requires
-count-clauses-requires c κs = search needs
+list-totals-requires : tie.Need-list-totals-requires
+list-totals-requires c κs = fresh _ _ 8192 (search needs)
 
 refused-requires : tie.Need-refused-requires
 refused-requires c κs = search needs
@@ -43,8 +44,8 @@ pub list-counted-spec : {M : Type 1} → statement M
 list-counted-spec =
     tie.close
     (tie.spec
-    slice-aggregate-count-clauses
-    count-clauses-requires
+    slice-aggregate-list-totals
+    list-totals-requires
     refused-requires
     returns
     refused-requires-2

@@ -7,10 +7,10 @@ use Rattle.clauses.proofs.clause_list.write_clauses.Statement.{statemen
 use Rattle.clauses.proofs.clause_list.write_clauses.Tie as tie
 
 abbrev Inv-loop : tie.InvT-loop
-Inv-loop tags values counts x total literals₀ ends₀ k₀ i₀ at₀ literals ends k i at = Wrote (cnf (formAt tags values (x .0))) literals₀ ends₀ i₀ at₀ literals ends k i at
+Inv-loop tags values memo x total literals₀ ends₀ k₀ i₀ at₀ literals ends k i at = Wrote (cnf (formAt tags values (x .0))) literals₀ ends₀ i₀ at₀ literals ends k i at
 
 abbrev μ-loop : tie.MeasureT-loop
-μ-loop tags values counts x total literals₀ ends₀ k₀ i₀ at₀ literals ends k i at = total - k
+μ-loop tags values memo x total literals₀ ends₀ k₀ i₀ at₀ literals ends k i at = total - k
 
 loop-holds : tie.Need-loop-holds Inv-loop μ-loop
 loop-holds c = search (wrotes, needs)

@@ -12,7 +12,7 @@ use Rattle.clauses.proofs.conjunctive_normal_form.write_run.Reads as wr
 use Rattle.clauses.proofs.conjunctive_normal_form.write_run.Kinds as write-run-kinds
 use Rattle.clauses.proofs.conjunctive_normal_form.+write_clause+write_run.Lts-write_run as write-run-lts
 use Rattle.clauses.proofs.conjunctive_normal_form.choose.Reads as choose-reads
-use Rattle.clauses.proofs.conjunctive_normal_form.count_at.Reads as count-at-reads
+use Rattle.clauses.proofs.totals.count_at.Reads as count-at-reads
 use Rattle.clauses.proofs.conjunctive_normal_form.put.Reads as put-reads
 use Rattle.clauses.proofs.conjunctive_normal_form.take_apart.Reads as take-apart-reads
 use Rattle.formulas.proofs.view.normal_view.Reads as normal-view-reads
@@ -124,7 +124,10 @@ write-run-take-apart-requires : (t : ℕ) → write-run-lts.Need-take-apart-requ
 write-run-take-apart-requires t c κs = (search run-here-some, search run-rest-some)
 
 write-run-write-clause-requires : (t : ℕ) → write-run-lts.Need-write-clause-requires (write-run-calls t) (write-run-at t) write-run.Post
-write-run-write-clause-requires t c κs = (search run-falls, search run-first)
+write-run-write-clause-requires t c κs = (
+  search run-falls,
+  run-first _ _ _ _ _ _ _ _ _ (c .before .before .before .before .before .before .before .before .before .before .pre .1) (c .before .before .before .before .if1 .left) _ (c .before .before .count-at .ensures) _ (c .before .take-apart .ensures .first),
+)
 
 write-run-sub-write-run : (t : ℕ) → write-run-lts.Need-sub-write-run (write-run-calls t) (write-run-at t) write-run.Post
 write-run-sub-write-run t c = search needs

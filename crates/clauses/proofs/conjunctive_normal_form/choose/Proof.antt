@@ -8,10 +8,10 @@ use Rattle.clauses.proofs.conjunctive_normal_form.choose.Statement.{sta
 use Rattle.clauses.proofs.conjunctive_normal_form.choose.Tie as tie
 
 abbrev Inv-loop : tie.InvT-loop
-Inv-loop counts run i left₀ j₀ left j = choose counts run i ≡ choose counts (drop j run) left
+Inv-loop memo run i left₀ j₀ left j = choose memo run i ≡ choose memo (drop j run) left
 
 abbrev μ-loop : tie.MeasureT-loop
-μ-loop counts run i left₀ j₀ left j = length run - j
+μ-loop memo run i left₀ j₀ left j = length run - j
 
 loop-holds : tie.Need-loop-holds Inv-loop μ-loop
 loop-holds c = search needs

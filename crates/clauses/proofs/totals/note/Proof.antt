@@ -6,26 +6,23 @@ use Rattle.clauses.proofs.totals.note.Tie as tie
 cast-at : tie.Need-cast-at
 cast-at c = search needs
 
-mul-counts : tie.Need-mul-counts
-mul-counts c = search needs
+mul-memo : tie.Need-mul-memo
+mul-memo c = search needs
 
-slice-write-counts : tie.Need-slice-write-counts
-slice-write-counts c = search needs
+add-memo : tie.Need-add-memo
+add-memo c = search needs
 
-add-sizes : tie.Need-add-sizes
-add-sizes c = search needs
+add-memo-2 : tie.Need-add-memo-2
+add-memo-2 c = search needs
 
-mul-sizes : tie.Need-mul-sizes
-mul-sizes c = search needs
+mul-memo-2 : tie.Need-mul-memo-2
+mul-memo-2 c = search needs
 
-slice-write-sizes : tie.Need-slice-write-sizes
-slice-write-sizes c = search needs
+slice-write-memo : tie.Need-slice-write-memo
+slice-write-memo c = search needs
 
 same-length : tie.Need-same-length
 same-length c = search needs
-
-same-length-2 : tie.Need-same-length-2
-same-length-2 c = search needs
 
 returns : tie.Need-returns
 returns c = search notes
@@ -38,12 +35,11 @@ note-spec =
     tie.close
     (tie.spec
     cast-at
-    mul-counts
-    slice-write-counts
-    add-sizes
-    mul-sizes
-    slice-write-sizes
+    mul-memo
+    add-memo
+    add-memo-2
+    mul-memo-2
+    slice-write-memo
     same-length
-    same-length-2
     returns
     returns-2)

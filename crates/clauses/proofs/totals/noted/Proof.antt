@@ -9,14 +9,11 @@ cast-at c = search needs
 cell-requires : tie.Need-cell-requires
 cell-requires c κs = search needs
 
-cell-requires-2 : tie.Need-cell-requires-2
-cell-requires-2 c κs = search needs
-
-sub-t7 : tie.Need-sub-t7
-sub-t7 c = search needs
+sub-t6 : tie.Need-sub-t6
+sub-t6 c = search needs
 
 returns : tie.Need-returns
 returns c = search steps
 
 pub noted-spec : {M : Type 1} → statement M
-noted-spec = tie.close (tie.spec cast-at cell-requires cell-requires-2 sub-t7 returns)
+noted-spec = tie.close (tie.spec cast-at cell-requires sub-t6 returns)

@@ -5,10 +5,10 @@ use Rattle.clauses.proofs.totals.run_totals.Statement.{statement}
 use Rattle.clauses.proofs.totals.run_totals.Tie as tie
 
 abbrev Inv-loop : tie.InvT-loop
-Inv-loop all counts sizes run sum₀ i₀ sum i = Folded all (memoAt counts sizes) run i (asTotals sum)
+Inv-loop all memo run sum₀ i₀ sum i = Folded all (memoAt memo) run i (asTotals sum)
 
 abbrev μ-loop : tie.MeasureT-loop
-μ-loop all counts sizes run sum₀ i₀ sum i = i
+μ-loop all memo run sum₀ i₀ sum i = i
 
 start-requires : tie.Need-start-requires Inv-loop μ-loop
 start-requires c κs = search needs
@@ -19,11 +19,11 @@ loop-holds c = search folds
 sub-i : tie.Need-sub-i Inv-loop μ-loop
 sub-i c = search needs
 
-mul-t9 : tie.Need-mul-t9 Inv-loop μ-loop
-mul-t9 c = search needs
+mul-t8 : tie.Need-mul-t8 Inv-loop μ-loop
+mul-t8 c = search needs
 
-shared-slice-read-t11 : tie.Need-shared-slice-read-t11 Inv-loop μ-loop
-shared-slice-read-t11 c = search needs
+shared-slice-read-t10 : tie.Need-shared-slice-read-t10 Inv-loop μ-loop
+shared-slice-read-t10 c = search needs
 
 noted-requires : tie.Need-noted-requires Inv-loop μ-loop
 noted-requires c κs = search fold-counted
@@ -49,8 +49,8 @@ run-totals-spec =
     start-requires
     loop-holds
     sub-i
-    mul-t9
-    shared-slice-read-t11
+    mul-t8
+    shared-slice-read-t10
     noted-requires
     combine-requires
     loop-less

@@ -5,8 +5,8 @@ use Rattle.normal_form.proofs.prenex_forall.Laws.{taken-built}
 use Rattle.normal_form.proofs.prenex_forall.build_taken_out.Statement.{statement}
 use Rattle.normal_form.proofs.prenex_forall.build_taken_out.Tie as tie
 
-clear-work-requires : tie.Need-clear-work-requires
-clear-work-requires c κs = search needs
+clear-memo-requires : tie.Need-clear-memo-requires
+clear-memo-requires c κs = search needs
 
 prenex-forall-requires : tie.Need-prenex-forall-requires
 prenex-forall-requires c κs = search ready-empty
@@ -22,4 +22,4 @@ returns c = search (taken-built, indexings)
 
 pub build-taken-out-spec : {M : Type 1} → statement M
 build-taken-out-spec =
-    tie.close (tie.spec clear-work-requires prenex-forall-requires same-length same-length-2 returns)
+    tie.close (tie.spec clear-memo-requires prenex-forall-requires same-length same-length-2 returns)
