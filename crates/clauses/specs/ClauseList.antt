@@ -16,9 +16,9 @@ use Rattle.answers.specs.declared.Answer.{Answer}
 use Rattle.formulas.specs.Formula.{allBefore}
 use Rattle.formulas.specs.Normal.{Normal, Normals}
 use Rattle.formulas.specs.Clauses.{cnf, cnfAnd, cnfOr, literalTotal, emptyOr}
-use Rattle.formulas.specs.Built.{normalsOf}
-use Rattle.clauses.specs.Lists.{emptyOrReached, tooManyClauses, padded, clausePlaces, literalPlaces, clauseEnds}
-use Rattle.clauses.specs.ClauseWalk.{formAt, clausesAt, Memo}
+use Rattle.formulas.specs.Built.{normalsOf, formAt}
+use Rattle.formulas.specs.ClauseLists.{emptyOrReached, tooManyClauses, padded, clausePlaces, literalPlaces, clauseEnds}
+use Rattle.clauses.specs.ClauseWalk.{clausesAt, Memo}
 use Rattle.clauses.specs.declared.conjunctive_normal_form.Chosen.{Chosen}
 use Rattle.clauses.specs.declared.conjunctive_normal_form.Digits.{Digits}
 use Rattle.clauses.specs.declared.clause_list.Filled.{Filled}

@@ -11,13 +11,9 @@ use Rattle.formulas.specs.declared.view.NormalView.the-variants.{Connective}
 use Rattle.formulas.specs.Formula.{allBefore}
 use Rattle.formulas.specs.Normal.{Normal}
 use Rattle.formulas.specs.Clauses.{emptyOr}
-use Rattle.formulas.specs.Built.{normalView, normalAt}
+use Rattle.formulas.specs.Built.{normalView, formAt}
 use Rattle.formulas.specs.Totals.{Totals, startOf, combine, cap, totals}
 use Rattle.clauses.specs.declared.totals.Totals as code
-
--- the form at the place x
-abbrev pub formAt : List ℕ → List ℕ → ℕ → Normal (List ℕ) ℕ
-formAt tags values x = normalAt (record { tags = tags; values = values }) x
 
 -- ---- an empty `or`: none is reached from a place whose entry is 1; any other entry says nothing
 pub record NoneReached (tags values memo : List ℕ) : Type 0 where

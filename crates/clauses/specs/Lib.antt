@@ -1,4 +1,2 @@
 pub mod ClauseWalk
 pub mod ClauseList
-pub mod ListCases
-pub mod Lists

@@ -15,9 +15,9 @@ use pool::run::operands;
 ghost use mathlib.Core.Path.{_≡_};
 ghost use mathlib.Core.List.{[], _∷_};
 ghost use lib.ListN.{length};
+ghost use Rattle.formulas.specs.Built.{formAt};
 ghost use Rattle.descriptions.specs.Description.{Cut};
 ghost use Rattle.formulas.specs.Clauses.{cnf, cnfAnd};
-ghost use Rattle.clauses.specs.ClauseWalk.{formAt};
 ghost use Rattle.clauses.specs.ClauseList.{runOf, AskMore, AskLists, Adds, Lent, countAnswer, listAnswer, ListAnswered, ListReady};
 
 // How many cells of the two arrays are filled: the clauses' ends and the literals.

@@ -9,8 +9,8 @@ ghost use Prim.Native.Nat.{_+_, _/_, _<_};
 ghost use mathlib.Core.Path.{_≡_};
 ghost use mathlib.Core.List.{[], _∷_};
 ghost use lib.ListN.{length, getD, set};
+ghost use Rattle.formulas.specs.Built.{formAt};
 ghost use Rattle.formulas.specs.Clauses.{cnf, cnfOr};
-ghost use Rattle.clauses.specs.ClauseWalk.{formAt};
 ghost use Rattle.clauses.specs.ClauseList.{runOf, choose, Apart, Ask, AskRun, Written};
 
 // A clause of an `and`: the operand that has it, and its number there.

@@ -11,8 +11,8 @@ ghost use mathlib.Core.Path.{_≡_};
 ghost use mathlib.Core.Bool.{true};
 ghost use Rattle.formulas.specs.Formula.{allBefore};
 ghost use Rattle.formulas.specs.Clauses.{emptyOr, emptyOrs};
-ghost use Rattle.formulas.specs.Built.{normalsOf};
-ghost use Rattle.clauses.specs.ClauseWalk.{formAt, NoneReached, Reached};
+ghost use Rattle.formulas.specs.Built.{normalsOf, formAt};
+ghost use Rattle.clauses.specs.ClauseWalk.{NoneReached, Reached};
 
 // Whether an empty `or` is reached from the term at x: the term walker.
 fn from_term(tags: &[u8], values: &[u32], memo: &mut [u8], x: TermPlace) -> bool

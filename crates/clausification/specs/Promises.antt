@@ -1,16 +1,16 @@
 -- What the functions of rule 3 promise each other.
 -- Rests on answers' Outcome and struct `Answer`, on bindings' Binding, on descriptions' Description, on sorts' Table, on free_pairs' BindingFree,
--- on pool's Check, on formulas' Pattern, Normal and PatternAnswer, on building's Walk, on clauses' ClauseWalk, and on QntCnf.
+-- on pool's Check, on formulas' Pattern, Normal, Built and PatternAnswer, on building's Walk, and on QntCnf.
 use Prim.Native.Nat.{ℕ, _<_}
 use mathlib.Core.Path.{_≡_}
 use mathlib.Core.Bool.{true, not, _&&_}
 use mathlib.Core.List.{List, _++_}
+use Rattle.formulas.specs.Built.{formAt}
 use Rattle.sorts.specs.Table.{builtIn}
 use Rattle.descriptions.specs.Description.{zeroFrom}
 use Rattle.pool.specs.Check.{checkPool}
 use Rattle.answers.specs.declared.Answer.{Answer}
 use Rattle.formulas.specs.Normal.{taken}
-use Rattle.clauses.specs.ClauseWalk.{formAt}
 use Rattle.building.specs.Walk.{Left}
 use Rattle.answers.specs.Outcome.{Outcome, _>>_, guard, unless, answerOf}
 use Rattle.bindings.specs.Binding.{Binding, bindingsOf, has, firstOf}

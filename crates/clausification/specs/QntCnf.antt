@@ -13,7 +13,7 @@ use Rattle.cells.specs.Cell.{operandsOf, sameCells}
 use Rattle.formulas.specs.Normal.{Normal, taken}
 use Rattle.formulas.specs.Clauses.{cnf, emptyOr, literalTotal}
 use Rattle.formulas.specs.Built.{normalAt}
-use Rattle.clauses.specs.Lists.{clausePlaces}
+use Rattle.formulas.specs.ClauseLists.{clausePlaces}
 use Rattle.building.specs.Arrays.{fits, normalIn, clausalIn, clausalFormIn}
 use Rattle.answers.specs.Outcome.{Outcome, _>>=_, _>>_, need, guard, unless}
 use Rattle.bindings.specs.Binding.{Binding, bindingsOf, has, firstOf}

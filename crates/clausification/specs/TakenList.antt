@@ -1,14 +1,13 @@
 -- The variables that are taken out of a term in normal form, as one walk collects them: what the walk, its array and its memo promise.
 -- The array and the memo are no part of a public contract.
--- Rests on bindings' Binding, on formulas' Normal and Built, on clauses' ClauseWalk, and on the enum `Collected`.
+-- Rests on bindings' Binding, on formulas' Normal and Built, and on the enum `Collected`.
 use Prim.Native.Nat.{ℕ, _≤_}
 use mathlib.Core.Path.{_≡_}
 use mathlib.Core.Bool.{true, _||_}
 use mathlib.Core.List.{List}
 use lib.ListN.{getD, drop}
 use Rattle.formulas.specs.Normal.{taken, takens}
-use Rattle.formulas.specs.Built.{normalsOf}
-use Rattle.clauses.specs.ClauseWalk.{formAt}
+use Rattle.formulas.specs.Built.{normalsOf, formAt}
 use Rattle.bindings.specs.Binding.{Binding, bindingsOf, has}
 use Rattle.clausification.specs.declared.taken_list.Collected.{Collected}
 use Rattle.clausification.specs.declared.taken_list.Collected.the-variants.{From, Full}

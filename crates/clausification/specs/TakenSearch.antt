@@ -1,7 +1,7 @@
 -- The search among the variables that are taken out of a term in normal form: what is sought, and what the walk and its memo promise.
 -- The memo is no part of a public contract.
 -- Rests on cells' Cell, on bindings' Binding, BindingAnswer and enum `FirstName`, on free_pairs' BindingFree, on free_variables' Names, on formulas' Formula,
--- Normal and Built, on clauses' ClauseWalk, and on the enums `Sought` and `Step`.
+-- Normal and Built, and on the enums `Sought` and `Step`.
 use Prim.Native.Nat.{ℕ, _<_}
 use mathlib.Core.Path.{_≡_}
 use mathlib.Core.Bool.{Bool, true, not, _&&_}
@@ -11,8 +11,7 @@ use Rattle.cells.specs.Cell.{operandsOf}
 use Rattle.free_variables.specs.Names.{freeIn, NamesMarked}
 use Rattle.formulas.specs.Formula.{allBefore}
 use Rattle.formulas.specs.Normal.{taken, takens}
-use Rattle.formulas.specs.Built.{normalsOf}
-use Rattle.clauses.specs.ClauseWalk.{formAt}
+use Rattle.formulas.specs.Built.{normalsOf, formAt}
 use Rattle.bindings.specs.Binding.{Binding, bindingsOf, same, has, firstOf}
 use Rattle.free_pairs.specs.BindingFree.{bindingFree}
 use Rattle.bindings.specs.BindingAnswer.{pair, nameOf}

@@ -90,3 +90,7 @@ normalAt q x =
 -- the taken-out form of the term in normal form at x
 unfoldable pub takenOut : Pool → ℕ → Placed
 takenOut q x = intern (prenex (normalAt q x)) q
+
+-- the form at the place x
+abbrev pub formAt : List ℕ → List ℕ → ℕ → Normal (List ℕ) ℕ
+formAt tags values x = normalAt (record { tags = tags; values = values }) x

@@ -7,3 +7,5 @@ pub mod Mapped
 pub mod Normal
 pub mod Totals
 pub mod NormalCases
+pub mod ClauseLists
+pub mod ClauseListCases

@@ -22,7 +22,7 @@ use Rattle.formulas.specs.Clauses.{cnf, emptyOr, literalTotal}
 use Rattle.formulas.specs.Built.{Pool, count}
 use Rattle.meaning.proofs.places.Operands.{IsTerm}
 use Rattle.meaning.proofs.places.SameTree.{tree-kept}
-use Rattle.clauses.specs.Lists.{emptyOrReached, tooManyClauses, padded, literalPlaces, clauseEnds}
+use Rattle.formulas.specs.ClauseLists.{emptyOrReached, tooManyClauses, padded, literalPlaces, clauseEnds}
 use Rattle.building.specs.Arrays.{fits}
 use Rattle.building.proofs.build.Laws.{fits-room}
 use Rattle.normal_form.specs.Calls.{noRoom, arrayLeft, normalPlace, normalAnswer, NormalForm, clausal, clausalForm, clauseAnswer, listLeft, countLeft, ClauseList}

@@ -28,7 +28,7 @@ use Rattle.meaning.proofs.places.Mapped.{prenex-map, taken-map, cnf-map}
 use Rattle.meaning.proofs.truth.ClauseTruth.{clauses-truth}
 use Rattle.meaning.proofs.places.FormTree.{varsAt}
 use Rattle.meaning.proofs.places.SameTree.{sort-kept}
-use Rattle.clauses.specs.Lists.{clausePlaces}
+use Rattle.formulas.specs.ClauseLists.{clausePlaces}
 use Rattle.building.specs.Arrays.{poolOf, normalIn, clausalIn, clausalFormIn}
 use Rattle.building.proofs.Interning.{Good, Grows, grows-trans}
 use Rattle.normal_form.proofs.TreeGrows.{sort-grows, tree-grows}

@@ -20,8 +20,8 @@ use Rattle.meaning.specs.Truth.{Reading, True, eachSomeTrue, HasValue, Says}
 use Rattle.meaning.proofs.truth.Leaves.{EachN, EachNs, EachC, EachCs, cnf-each}
 use Rattle.meaning.proofs.places.Operands.{IsTerm}
 use Rattle.meaning.proofs.places.FormFits.{FitsN, FitsNs}
-use Rattle.clauses.specs.Lists.{padded, clausePlaces, literalPlaces, clauseEnds, clausesIn}
-use Rattle.clauses.proofs.Lists.{read-back}
+use Rattle.formulas.specs.ClauseLists.{padded, clausePlaces, literalPlaces, clauseEnds, clausesIn}
+use Rattle.formulas.proofs.ClauseLists.{read-back}
 use Rattle.normal_form.specs.Calls.{normalPlace, NormalForm, clausal, clausalForm, ClauseList}
 use Rattle.normal_form.specs.Promise.{clausesRead}
 use Rattle.normal_form.proofs.InternTree.{termIn, onPool}

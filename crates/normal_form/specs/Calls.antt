@@ -13,7 +13,7 @@ use Rattle.pool.specs.Check.{andThen, checkTerm}
 use Rattle.descriptions.specs.Description.{zeroFrom}
 use Rattle.answers.specs.declared.Answer.{Answer}
 use Rattle.formulas.specs.Normal.{Normal}
-use Rattle.clauses.specs.Lists.{emptyOrReached, tooManyClauses, padded, literalPlaces, clauseEnds}
+use Rattle.formulas.specs.ClauseLists.{emptyOrReached, tooManyClauses, padded, literalPlaces, clauseEnds}
 use Rattle.formulas.specs.Clauses.{cnf, emptyOr, literalTotal}
 use Rattle.formulas.specs.Built.{Placed, count}
 use Rattle.building.specs.Arrays.{fits, normalIn, clausalIn, clausalFormIn}

@@ -7,7 +7,7 @@
 -- value. Both hold even where an opaque literal's value depends on every variable." An empty `or` is refused (13).
 -- The terms are those of the arrays as the call leaves them; readings have numbers for values, which is every reading
 -- (formulas/proofs/Numbered.antt `every-value`, `every-clauses`).
--- Rests on answers' Answer and struct `Answer`, on pool's Check, on clauses' Lists, on meaning's Term, Skeleton, Tree and Numbered, and on Calls.
+-- Rests on answers' Answer and struct `Answer`, on pool's Check, on formulas' ClauseLists, on meaning's Term, Skeleton, Tree and Numbered, and on Calls.
 use Prim.Native.Nat.{ℕ}
 use mathlib.Core.Path.{_≡_}
 use mathlib.Core.Bool.{Bool}
@@ -19,7 +19,7 @@ use Rattle.meaning.specs.Term.{Term}
 use Rattle.meaning.specs.Tree.{tree}
 use Rattle.meaning.specs.Skeleton.{NoForallReached}
 use Rattle.meaning.specs.Numbered.{SameValue, ClausesSay}
-use Rattle.clauses.specs.Lists.{clausesIn}
+use Rattle.formulas.specs.ClauseLists.{clausesIn}
 use Rattle.normal_form.specs.Calls.{NormalForm, ClauseList}
 
 -- the first m clauses, each literal the term at its place of the pool

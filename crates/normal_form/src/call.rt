@@ -2,8 +2,8 @@
 ghost use Rattle.cells.specs.Limits.{cellLimit};
 use crate::clausal_forms::ClausalForms;
 use crate::clausal_forms::build_forms;
-use crate::negation_normal_form::build_normal_form;
 use building::build::Built;
+use building::negation_normal_form::build_normal_form;
 use building::terms::WORK;
 use clauses::clause_list::clear_list;
 use clauses::clause_list::list_clauses;

@@ -1,8 +1,8 @@
 // The two forms of a body that rule 3 goes by, built after the pool: its normal form, and that with foralls taken out. The index has
 // the pool's headers again afterwards.
-use crate::negation_normal_form::build_normal_form;
-use crate::prenex_forall::build_taken_out;
 use building::build::Built;
+use building::negation_normal_form::build_normal_form;
+use building::prenex_forall::build_taken_out;
 use building::terms::WORK;
 use pool::TermPlace;
 use pool::index::INDEX;

@@ -21,7 +21,7 @@ use Rattle.pool.specs.Check.{arraysFit, checkPool, andThen, checkTerm}
 use Rattle.meaning.proofs.trees.Passed.{Passed}
 use Rattle.formulas.specs.Built.{Placed, count, normalForm}
 use Rattle.formulas.specs.Clauses.{cnf}
-use Rattle.clauses.specs.Lists.{literalPlaces, clauseEnds}
+use Rattle.formulas.specs.ClauseLists.{literalPlaces, clauseEnds}
 use Rattle.building.specs.Arrays.{poolOf}
 use Rattle.building.proofs.Interning.{GoesOn, intern-goes-on}
 use Rattle.building.proofs.build.Laws.{pool-count, pool-good}

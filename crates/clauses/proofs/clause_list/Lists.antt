@@ -13,12 +13,12 @@ use Rattle.formulas.specs.declared.view.NormalView.{NormalView}
 use Rattle.formulas.specs.declared.view.NormalView.the-variants.{Literal, Connective, Forall}
 use Rattle.formulas.specs.Normal.{Normal}
 use Rattle.formulas.specs.Clauses.{cnf, cnfAnd, literalTotal}
-use Rattle.formulas.specs.Built.{normalView}
-use Rattle.clauses.specs.Lists.{clausePlaces, literalPlaces, clauseEnds}
-use Rattle.clauses.specs.ClauseWalk.{formAt, clausesAt}
+use Rattle.formulas.specs.Built.{normalView, formAt}
+use Rattle.formulas.specs.ClauseLists.{clausePlaces, literalPlaces, clauseEnds}
+use Rattle.clauses.specs.ClauseWalk.{clausesAt}
 use Rattle.clauses.specs.ClauseList.{runOf, AskMore, AskLists, Adds}
 use Rattle.clauses.specs.declared.clause_list.Filled.{Filled}
-use Rattle.clauses.proofs.Reading.{before-tail, read-literal, read-forall, read-connective, run-before, connective-within, run-split}
+use Rattle.formulas.proofs.Reading.{before-tail, read-literal, read-forall, read-connective, run-before, connective-within, run-split}
 use Rattle.clauses.proofs.conjunctive_normal_form.Laws.{exact, counts-head, counts-tail, counts-operands}
 use Rattle.clauses.proofs.clause_list.Laws.{Clauses, sets-join, places-total, ends-length}
 

@@ -21,14 +21,14 @@ use Rattle.clauses.specs.declared.conjunctive_normal_form.Chosen.{Chosen
 use Rattle.formulas.specs.Formula.{allBefore}
 use Rattle.formulas.specs.Normal.{Normal}
 use Rattle.formulas.specs.Clauses.{cnf, cnfAnd, cnfOr}
-use Rattle.formulas.specs.Built.{normalView}
+use Rattle.formulas.specs.Built.{normalView, formAt}
 use Rattle.formulas.specs.Totals.{Totals}
 use Rattle.formulas.proofs.Totals.{totals-are}
-use Rattle.clauses.specs.Lists.{literalPlace, clausePlaces}
-use Rattle.clauses.specs.ClauseWalk.{formAt, clausesAt, Memo}
+use Rattle.formulas.specs.ClauseLists.{literalPlace, clausePlaces}
+use Rattle.clauses.specs.ClauseWalk.{clausesAt, Memo}
 use Rattle.clauses.specs.ClauseList.{runOf, choose, ClauseCounts, Ask, AskRun, Written}
 use Rattle.clauses.proofs.ClauseAt.{append-left, append-right, product-at, clauses-and, clauses-or}
-use Rattle.clauses.proofs.Reading.{before-head, before-tail, run-split, read-literal, read-forall, read-connective, run-before, connective-within}
+use Rattle.formulas.proofs.Reading.{before-head, before-tail, run-split, read-literal, read-forall, read-connective, run-before, connective-within}
 
 -- ---- the walk along the operands of an `and`: w is what it finds, from j on, for the number left
 module _ (w : Chosen) (memo run : List ℕ) (j left : ℕ) (inv : w ≡ choose memo (drop j run) left) where

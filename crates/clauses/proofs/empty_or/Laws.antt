@@ -17,10 +17,10 @@ use Rattle.formulas.specs.declared.view.NormalView.the-variants.{Literal, Conne
 use Rattle.formulas.specs.Formula.{allBefore}
 use Rattle.formulas.specs.Normal.{Normal}
 use Rattle.formulas.specs.Clauses.{emptyOr, emptyOrs, isEmptyOr}
-use Rattle.formulas.specs.Built.{normalView, normalsOf}
+use Rattle.formulas.specs.Built.{normalView, normalsOf, formAt}
 use Rattle.cells.specs.Marks.{MarkNoted}
-use Rattle.clauses.specs.ClauseWalk.{formAt, NoneReached, Reached}
-use Rattle.clauses.proofs.Reading.{read-literal, read-forall, read-connective, run-before, run-split, zeros}
+use Rattle.clauses.specs.ClauseWalk.{NoneReached, Reached}
+use Rattle.formulas.proofs.Reading.{read-literal, read-forall, read-connective, run-before, run-split, zeros}
 
 -- ---- operands
 none-empty : (f : ℕ → Normal (List ℕ) ℕ) (b : Bool) (run : List ℕ) → length run ≡ 0

@@ -17,11 +17,11 @@ use Rattle.formulas.specs.declared.view.NormalView.{NormalView}
 use Rattle.formulas.specs.declared.view.NormalView.the-variants.{Literal, Connective, Forall}
 use Rattle.clauses.specs.declared.totals.Totals as code
 use Rattle.formulas.specs.Clauses.{cnf, literalTotal}
-use Rattle.formulas.specs.Built.{normalView, normalsOf}
+use Rattle.formulas.specs.Built.{normalView, normalsOf, formAt}
 use Rattle.formulas.specs.Totals.{Totals, startOf, combine, oneLiteral, cap, totals, totalsOf}
-use Rattle.clauses.specs.ClauseWalk.{formAt, asTotals, entryBase, entryOf, memoAt, runTotals, AllCounted, CountedKept, Memo, TotalsNoted, TermCounted, AskOperands, OperandsCounted}
+use Rattle.clauses.specs.ClauseWalk.{asTotals, entryBase, entryOf, memoAt, runTotals, AllCounted, CountedKept, Memo, TotalsNoted, TermCounted, AskOperands, OperandsCounted}
 use Rattle.formulas.proofs.Totals.{totals-are, cut-add, cap-combine}
-use Rattle.clauses.proofs.Reading.{no-literal, no-forall, before-at, zeros, read-literal, read-forall, read-connective, run-before, connective-within}
+use Rattle.formulas.proofs.Reading.{no-literal, no-forall, before-at, zeros, read-literal, read-forall, read-connective, run-before, connective-within}
 
 -- ---- one step
 -- a product of two u32 fits u64

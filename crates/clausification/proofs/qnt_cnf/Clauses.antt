@@ -17,8 +17,7 @@ use Rattle.answers.specs.declared.Answer.{Answer}
 use Rattle.meaning.proofs.trees.Passed.{Passed, pool-passes, pool-accepts}
 use Rattle.formulas.specs.Normal.{Normal}
 use Rattle.formulas.specs.Clauses.{cnf, emptyOr, literalTotal}
-use Rattle.formulas.specs.Built.{normalAt, takenOut}
-use Rattle.clauses.specs.ClauseWalk.{formAt}
+use Rattle.formulas.specs.Built.{normalAt, takenOut, formAt}
 use Rattle.clauses.specs.ClauseList.{Lent, countAnswer, listAnswer, held, ListAnswered}
 use Rattle.building.specs.declared.build.Built.the-variants as stands
 use Rattle.building.specs.Arrays.{poolOf, fits, normalIn, clausalIn, clausalFormIn}

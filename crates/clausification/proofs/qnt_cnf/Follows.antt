@@ -12,8 +12,7 @@ use Rattle.cells.specs.declared.Found.the-variants as found
 use Rattle.headers.specs.WellFormed.{firstBad}
 use Rattle.descriptions.proofs.description.Growth.{Same}
 use Rattle.formulas.specs.Normal.{taken}
-use Rattle.formulas.specs.Built.{normalAt}
-use Rattle.clauses.specs.ClauseWalk.{formAt}
+use Rattle.formulas.specs.Built.{normalAt, formAt}
 use Rattle.building.specs.Arrays.{normalIn}
 use Rattle.answers.specs.Outcome.{Outcome, pass, refuse, _>>_, guard, unless}
 use Rattle.bindings.specs.Binding.{Binding, bindingsOf, has, firstOf}

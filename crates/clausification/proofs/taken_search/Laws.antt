@@ -19,10 +19,9 @@ use Rattle.formulas.specs.declared.view.NormalView.{NormalView}
 use Rattle.formulas.specs.declared.view.NormalView.the-variants.{Literal, Connective, Forall}
 use Rattle.formulas.specs.Formula.{allBefore}
 use Rattle.formulas.specs.Normal.{taken}
-use Rattle.formulas.specs.Built.{normalView}
-use Rattle.clauses.specs.ClauseWalk.{formAt}
-use Rattle.clauses.proofs.Reading.{before-at, before-tail, read-literal, read-forall, read-connective, run-before}
-use Rattle.normal_form.proofs.prenex_forall.Laws.{body-before}
+use Rattle.formulas.specs.Built.{normalView, formAt}
+use Rattle.formulas.proofs.Reading.{before-at, before-tail, read-literal, read-forall, read-connective, run-before}
+use Rattle.building.proofs.prenex_forall.Laws.{body-before}
 use Rattle.bindings.specs.Binding.{Binding, bindingsOf, same, has, firstOf}
 use Rattle.bindings.specs.BindingAnswer.{pair, nameOf}
 use Rattle.bindings.proofs.binding.Laws.{same-is}

@@ -20,11 +20,10 @@ use Rattle.normal_form.specs.declared.call.Clausal.the-variants.{At as C
 use Rattle.normal_form.specs.declared.call.Listed.{Listed}
 use Rattle.formulas.specs.Normal.{Normal}
 use Rattle.formulas.specs.Clauses.{cnf, emptyOr, literalTotal}
-use Rattle.formulas.specs.Built.{count, normalAt}
-use Rattle.clauses.specs.Lists.{literalPlaces, clauseEnds}
+use Rattle.formulas.specs.Built.{count, normalAt, formAt}
+use Rattle.formulas.specs.ClauseLists.{literalPlaces, clauseEnds}
 use Rattle.normal_form.specs.Calls.{noRoom, clausal, clausalForm, clauseAnswer, listLeft, countLeft, ClauseList}
 use Rattle.building.specs.Walk.{State, Holds}
-use Rattle.clauses.specs.ClauseWalk.{formAt}
 use Rattle.clauses.specs.ClauseList.{Lent, countAnswer, listAnswer, held, ListAnswered}
 use Rattle.normal_form.specs.ClausalForms.{FormsBuilt}
 use Rattle.normal_form.specs.declared.clausal_forms.ClausalForms.{ClausalForms}

@@ -20,7 +20,7 @@ use Rattle.meaning.proofs.trees.Passed.{Passed, term-accepts, term-passes}
 use Rattle.building.specs.declared.build.Built.{Built}
 use Rattle.building.specs.declared.build.Built.the-variants.{At, Full}
 use Rattle.formulas.specs.Built.{Pool, Placed, count}
-use Rattle.clauses.specs.Lists.{padded}
+use Rattle.formulas.specs.ClauseLists.{padded}
 use Rattle.normal_form.specs.Calls.{noRoom, arrayLeft, normalAnswer, normalPlace, NormalForm}
 use Rattle.building.specs.Walk.{State, Holds, NormalBuilt}
 use Rattle.building.proofs.build.Laws.{pool-count}

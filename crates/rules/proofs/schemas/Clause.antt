@@ -26,7 +26,7 @@ use Rattle.meaning.proofs.places.Operands.{IsTerm, AllTerms}
 use Rattle.meaning.proofs.places.FormFits.{FitsN, FitsNs}
 use Rattle.meaning.proofs.truth.Leaves.{EachN, EachNs, EachC, EachCs, cnf-each}
 use Rattle.meaning.proofs.truth.Over.{or-left, or-right}
-use Rattle.clauses.specs.Lists.{clausePlaces}
+use Rattle.formulas.specs.ClauseLists.{clausePlaces}
 use Rattle.building.specs.Arrays.{clausalIn, clausalFormIn}
 use Rattle.normal_form.proofs.InternTree.{termIn, onPool}
 use Rattle.normal_form.proofs.ReadBack.{leafOf}

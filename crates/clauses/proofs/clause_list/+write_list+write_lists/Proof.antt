@@ -2,7 +2,7 @@ use mathlib.Core.Path.{_∙_}
 use borrow.Author.Needs.{needs}
 use denote.Ref.{now}
 use lib.ListN.{length}
-use Rattle.clauses.proofs.Reading.{head-falls}
+use Rattle.formulas.proofs.Reading.{head-falls}
 use Rattle.clauses.proofs.clause_list.Lists.{one-literal, one-forall, or-counted, none-here, and-ask, and-added, none-added, list-ask, lists-ask, lists-added}
 use Prim.Native.Nat.{ℕ, _<_, _+_, _*_, _^_}
 use borrow.Fn.Kinds.{In}

@@ -1,8 +1,8 @@
 use borrow.Author.Needs.{needs}
+use Rattle.formulas.specs.Built.{formAt}
 use Rattle.clauses.proofs.clause_list.Laws.{Wrote, wrotes, wrote-ask, wrote-place, wrote-fits}
 use Prim.Native.Nat.{_-_}
 use Rattle.formulas.specs.Clauses.{cnf}
-use Rattle.clauses.specs.ClauseWalk.{formAt}
 use Rattle.clauses.proofs.clause_list.write_clauses.Statement.{statement}
 use Rattle.clauses.proofs.clause_list.write_clauses.Tie as tie
 

@@ -1,7 +1,7 @@
 use mathlib.Core.Path.{_∙_}
 use borrow.Author.Needs.{needs}
 use lib.ListN.{length}
-use Rattle.clauses.proofs.Reading.{head-falls, rest-before}
+use Rattle.formulas.proofs.Reading.{head-falls, rest-before}
 use Rattle.clauses.proofs.empty_or.Laws.{walks, term-before}
 use Prim.Native.Nat.{ℕ, _<_, _*_, _+_, _^_}
 use borrow.Fn.Kinds.{In}

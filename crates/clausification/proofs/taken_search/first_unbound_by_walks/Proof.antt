@@ -1,7 +1,7 @@
+use Rattle.formulas.specs.Built.{formAt}
 use Rattle.bindings.proofs.binding.Laws.{first, first-here, first-next}
 use Rattle.bindings.specs.BindingAnswer.{nameOf}
 use Rattle.bindings.specs.Binding.{bindingsOf, has, firstOf}
-use Rattle.clauses.specs.ClauseWalk.{formAt}
 use Rattle.formulas.specs.Normal.{taken}
 use lib.ListN.{length, drop}
 use Prim.Native.Nat.{_-_, _≤_}

@@ -1,9 +1,9 @@
 use borrow.Author.Needs.{needs}
 use Rattle.building.proofs.build.Indexing.{indexings}
 use Rattle.building.proofs.build.Walks.{ready-empty}
-use Rattle.normal_form.proofs.prenex_forall.Laws.{taken-built}
-use Rattle.normal_form.proofs.prenex_forall.build_taken_out.Statement.{statement}
-use Rattle.normal_form.proofs.prenex_forall.build_taken_out.Tie as tie
+use Rattle.building.proofs.prenex_forall.Laws.{taken-built}
+use Rattle.building.proofs.prenex_forall.build_taken_out.Statement.{statement}
+use Rattle.building.proofs.prenex_forall.build_taken_out.Tie as tie
 
 clear-memo-requires : tie.Need-clear-memo-requires
 clear-memo-requires c κs = search needs

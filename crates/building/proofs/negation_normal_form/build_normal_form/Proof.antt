@@ -1,9 +1,9 @@
 use borrow.Author.Needs.{needs}
 use Rattle.building.proofs.build.Indexing.{indexings}
 use Rattle.building.proofs.build.Walks.{ready-empty, zeros-empty}
-use Rattle.normal_form.proofs.negation_normal_form.Whole.{normal-built}
-use Rattle.normal_form.proofs.negation_normal_form.build_normal_form.Statement.{statement}
-use Rattle.normal_form.proofs.negation_normal_form.build_normal_form.Tie as tie
+use Rattle.building.proofs.negation_normal_form.Whole.{normal-built}
+use Rattle.building.proofs.negation_normal_form.build_normal_form.Statement.{statement}
+use Rattle.building.proofs.negation_normal_form.build_normal_form.Tie as tie
 
 negation-normal-form-requires : tie.Need-negation-normal-form-requires
 negation-normal-form-requires c κs = search (ready-empty, zeros-empty)

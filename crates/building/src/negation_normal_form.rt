@@ -1,13 +1,13 @@
 // The negation normal form of a term, built into the pool. The source pool is the cells before `end`. In the array `work` a memo
 // keeps where the form of a term at a polarity stands, one more than its place, so that each is built once however terms are shared;
 // the row after it holds the cells of one new term at a time.
-use building::build::Built;
-use building::terms::WORK;
-use building::terms::literal;
-use building::terms::put_connective;
-use building::terms::put_pair;
-use building::terms::put_quantifier;
-use building::terms::slot;
+use crate::build::Built;
+use crate::terms::WORK;
+use crate::terms::literal;
+use crate::terms::put_connective;
+use crate::terms::put_pair;
+use crate::terms::put_quantifier;
+use crate::terms::slot;
 use formulas::view::View;
 use formulas::view::view_of;
 use pool::TermPlace;

@@ -8,8 +8,8 @@ use lib.ListN.{length, getD, drop}
 use lib.Seq.{take-at, drop-at, getD-drop, drop-drop}
 use native.Mathlib.Omega.{arith}
 use native.Mathlib.Numerals.{add-one}
 use Rattle.formulas.specs.Normal.{Normal}
-use Rattle.clauses.specs.Lists.{clausePlaces, literalPlaces, clauseEnds, clauseStart, clausesFrom, clausesIn}
+use Rattle.formulas.specs.ClauseLists.{clausePlaces, literalPlaces, clauseEnds, clauseStart, clausesFrom, clausesIn}
 
 places-length : (c : List (Normal (List ℕ) ℕ)) → length (clausePlaces c) ≡ length c
 places-length [] = refl

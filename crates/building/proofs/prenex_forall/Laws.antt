@@ -14,16 +14,16 @@ use Rattle.cells.specs.ByPlace.{by-test}
 use Rattle.cells.specs.Cell.{operandsOf}
 use Rattle.formulas.specs.declared.view.NormalView.{NormalView}
 use Rattle.formulas.specs.declared.view.NormalView.the-variants.{Literal, Connective, Forall}
 use Rattle.building.specs.declared.build.Built.{Built}
 use Rattle.building.specs.declared.build.Built.the-variants.{At, Full}
 use Rattle.formulas.specs.Formula.{allBefore, connectiveTag}
 use Rattle.formulas.specs.Normal.{Normal, lit, nmany, prenex, prenexes}
 use Rattle.formulas.specs.Built.{put, intern, normalsOf, normalView, takenOut}
 use Rattle.building.specs.Arrays.{poolOf}
 use Rattle.building.specs.Walk.{Puts, memoOf, MemoKept, placesIn, taken-out, formOf, runOf, entryForm, Formed, Known, operandForms, OperandsKnown, Before, NormalBuilt, WalkReady}
-use Rattle.clauses.proofs.Reading.{before-at, read-literal, read-forall, read-connective, run-before}
+use Rattle.formulas.proofs.Reading.{before-at, read-literal, read-forall, read-connective, run-before}
 use Rattle.building.proofs.build.Building.{builds-stood}
 use Rattle.building.proofs.build.Walks.{connective-full, connective-put, whole-built}
 
 -- the body of a forall stands before it
 pub body-before : (tags values : List ℕ) (x : ℕ) (body : TermPlace) → Forall body ≡ normalView tags values x → body .0 < x

@@ -1,10 +1,10 @@
 // The taken-out form of a term in normal form, built into the pool: foralls are taken out through `and`, `or` and forall alone.
 // The source pool is the cells before `end`. The array `work` is as for the normal form, at true polarity alone.
-use building::build::Built;
-use building::terms::WORK;
-use building::terms::clear_memo;
-use building::terms::put_connective;
-use building::terms::slot;
+use crate::build::Built;
+use crate::terms::WORK;
+use crate::terms::clear_memo;
+use crate::terms::put_connective;
+use crate::terms::slot;
 use formulas::view::NormalView;
 use formulas::view::normal_view;
 use pool::TermPlace;

@@ -12,18 +12,18 @@ use Rattle.cells.specs.declared.TermPlace.{TermPlace}
 use Rattle.cells.specs.ByPlace.{by-test}
 use Rattle.formulas.specs.declared.view.View.{View}
 use Rattle.formulas.specs.declared.view.View.the-variants.{Opaque, Not, AndOr, Implies, Ite, Iff, Quantifier}
 use Rattle.building.specs.declared.build.Built.{Built}
 use Rattle.building.specs.declared.build.Built.the-variants.{At, Full}
 use Rattle.formulas.specs.Formula.{viewOf, connectiveTag, quantifierTag}
 use Rattle.formulas.specs.Normal.{lit, nmany, nall, flip, pair}
 use Rattle.formulas.specs.Built.{Placed, put, intern}
 use Rattle.building.specs.Arrays.{poolOf}
 use Rattle.building.specs.Walk.{Puts, memoOf, MemoKept, placesIn, normal, formOf, normalOf, runOf, entryForm, Formed, Known, operandForms, OperandsKnown, Before, twoPairs, WalkReady}
 use Rattle.building.proofs.Interning.{becomes-longer, put-becomes, intern-goes-on}
 use Rattle.building.proofs.build.Laws.{pool-good}
 use Rattle.building.proofs.build.Building.{memo-stays, builds-put, builds-full, builds-holds}
-use Rattle.normal_form.proofs.negation_normal_form.Forms.{many-below, normal-opaque, normal-not, normal-many, normal-implies, normal-ite, normal-iff, normal-quantifier}
+use Rattle.building.proofs.negation_normal_form.Forms.{many-below, normal-opaque, normal-not, normal-many, normal-implies, normal-ite, normal-iff, normal-quantifier}
 use Rattle.building.proofs.build.Walks.{run-same, then-put, connective-full, connective-put}
 
 -- ---- expand
 module _ (end n : ℕ) (tags values work : List ℕ) (ready : WalkReady normal end n tags values work) (t : ℕ) (polarity : Bool) (v : View)

@@ -2,32 +2,32 @@ use borrow.Author.Needs.{needs}
 use native.Mathlib.Omega.{arith}
 use mathlib.Core.Path.{refl, _∙_}
 use mathlib.Core.Bool.{true}
 use Rattle.building.specs.Walk.{taken-out}
 use Rattle.descriptions.specs.Index.{Index}
 use Rattle.building.proofs.terms.Cells.{parts, run-short}
 use Rattle.building.proofs.build.Indexing.{indexings, index-at}
 use Rattle.building.proofs.build.Walks.{slot-within, operand-before, state-after, memo-long, place-small, one-term, form-full, form-kept, OperandsLeft, loop-start, loop-end, loop-full, loop-next}
-use Rattle.normal_form.proofs.prenex_forall.Laws.{take-forall, takes, take-full, take-put, forall-below, connective-before}
+use Rattle.building.proofs.prenex_forall.Laws.{take-forall, takes, take-full, take-put, forall-below, connective-before}
 use Prim.Native.Nat.{ℕ, _<_, _+_, _*_, _-_}
 use borrow.Fn.Kinds.{In}
 use borrow.Fn.PlainCycle.{Measures, is, falls, and}
-use Rattle.normal_form.proofs.prenex_forall.operand_forms.Reads as operand-forms
-use Rattle.normal_form.proofs.prenex_forall.operand_forms.Kinds as operand-forms-kinds
-use Rattle.normal_form.proofs.prenex_forall.+operand_forms+prenex_forall+take_out.Lts-operand_forms as operand-forms-lts
-use Rattle.normal_form.proofs.prenex_forall.prenex_forall.Reads as prenex-forall
-use Rattle.normal_form.proofs.prenex_forall.prenex_forall.Kinds as prenex-forall-kinds
-use Rattle.normal_form.proofs.prenex_forall.+operand_forms+prenex_forall+take_out.Lts-prenex_forall as prenex-forall-lts
-use Rattle.normal_form.proofs.prenex_forall.take_out.Reads as take-out
-use Rattle.normal_form.proofs.prenex_forall.take_out.Kinds as take-out-kinds
-use Rattle.normal_form.proofs.prenex_forall.+operand_forms+prenex_forall+take_out.Lts-take_out as take-out-lts
+use Rattle.building.proofs.prenex_forall.operand_forms.Reads as operand-forms
+use Rattle.building.proofs.prenex_forall.operand_forms.Kinds as operand-forms-kinds
+use Rattle.building.proofs.prenex_forall.+operand_forms+prenex_forall+take_out.Lts-operand_forms as operand-forms-lts
+use Rattle.building.proofs.prenex_forall.prenex_forall.Reads as prenex-forall
+use Rattle.building.proofs.prenex_forall.prenex_forall.Kinds as prenex-forall-kinds
+use Rattle.building.proofs.prenex_forall.+operand_forms+prenex_forall+take_out.Lts-prenex_forall as prenex-forall-lts
+use Rattle.building.proofs.prenex_forall.take_out.Reads as take-out
+use Rattle.building.proofs.prenex_forall.take_out.Kinds as take-out-kinds
+use Rattle.building.proofs.prenex_forall.+operand_forms+prenex_forall+take_out.Lts-take_out as take-out-lts
 use Rattle.building.proofs.terms.put_connective.Reads as put-connective-reads
 use Rattle.building.proofs.terms.slot.Reads as slot-reads
 use Rattle.cells.proofs.run.operands.Reads as operands-reads
 use Rattle.formulas.proofs.view.normal_view.Reads as normal-view-reads
-use Rattle.normal_form.proofs.prenex_forall.+operand_forms+prenex_forall+take_out.{
+use Rattle.building.proofs.prenex_forall.+operand_forms+prenex_forall+take_out.{
   statement,
 }
-use Rattle.normal_form.proofs.prenex_forall.+operand_forms+prenex_forall+take_out.Tie.{
+use Rattle.building.proofs.prenex_forall.+operand_forms+prenex_forall+take_out.Tie.{
   close,
 }
 

@@ -16,12 +16,11 @@ use borrow.Author.Tests.{ltb-true, leb-true, leb-false, lt-ltb}
 use Rattle.cells.specs.declared.TermPlace.{TermPlace}
 use Rattle.cells.specs.Cell.{operandsOf}
 use Rattle.cells.specs.ByPlace.{by-test, byPlace-is}
 use Rattle.formulas.specs.declared.view.NormalView.{NormalView}
 use Rattle.formulas.specs.declared.view.NormalView.the-variants.{Literal, Connective, Forall}
 use Rattle.formulas.specs.Formula.{allBefore}
 use Rattle.formulas.specs.Normal.{Normal, lit, nmany, nall}
-use Rattle.formulas.specs.Built.{normalView, normalsOf, normalBy, normalAt}
-use Rattle.clauses.specs.ClauseWalk.{formAt}
+use Rattle.formulas.specs.Built.{normalView, normalsOf, normalBy, normalAt, formAt}
 
 -- ---- a view is one of three
 pub no-literal : (b : Bool) → Connective b ≡ Literal → ⊥

@@ -1,49 +1,49 @@
 use borrow.Author.Needs.{needs}
 use native.Mathlib.Omega.{arith}
 use mathlib.Core.Path.{refl, sym, _∙_}
 use Rattle.building.specs.Walk.{normal}
 use Rattle.descriptions.specs.Index.{Index}
 use Rattle.building.proofs.terms.Cells.{parts, run-short}
 use Rattle.building.proofs.build.Indexing.{indexings, index-at}
 use Rattle.building.proofs.build.Walks.{slot-within, operand-before, state-after, own-ready, own-after, memo-long, place-small, ready-after, one-term, form-full, form-kept, OperandsLeft, loop-start, loop-end, loop-full, loop-next}
-use Rattle.normal_form.proofs.negation_normal_form.Forms.{not-below, implies-below, ite-below, iff-below, quantifier-body}
-use Rattle.normal_form.proofs.negation_normal_form.Steps.{pairs, pair-right-full, pair-put, twos, two-right-full, two-put}
-use Rattle.normal_form.proofs.negation_normal_form.Laws.{expand-opaque, expand-not, expand-implies, expand-ite, expand-iff, maxOf, max-left, max-right, max-below, many-before, expand-many-full, expand-many, expand-quantifier-full, expand-quantifier}
+use Rattle.building.proofs.negation_normal_form.Forms.{not-below, implies-below, ite-below, iff-below, quantifier-body}
+use Rattle.building.proofs.negation_normal_form.Steps.{pairs, pair-right-full, pair-put, twos, two-right-full, two-put}
+use Rattle.building.proofs.negation_normal_form.Laws.{expand-opaque, expand-not, expand-implies, expand-ite, expand-iff, maxOf, max-left, max-right, max-below, many-before, expand-many-full, expand-many, expand-quantifier-full, expand-quantifier}
 use Prim.Native.Nat.{ℕ, _<_, _+_, _*_, _-_}
 use borrow.Fn.Kinds.{In}
 use borrow.Fn.PlainCycle.{Measures, is, falls, and}
-use Rattle.normal_form.proofs.negation_normal_form.connective_form.Reads as connective-form
-use Rattle.normal_form.proofs.negation_normal_form.connective_form.Kinds as connective-form-kinds
-use Rattle.normal_form.proofs.negation_normal_form.+connective_form+expand+negation_normal_form+operand_forms+pair_of+quantifier_form+two_pairs.Lts-connective_form as connective-form-lts
-use Rattle.normal_form.proofs.negation_normal_form.expand.Reads as expand
-use Rattle.normal_form.proofs.negation_normal_form.expand.Kinds as expand-kinds
-use Rattle.normal_form.proofs.negation_normal_form.+connective_form+expand+negation_normal_form+operand_forms+pair_of+quantifier_form+two_pairs.Lts-expand as expand-lts
-use Rattle.normal_form.proofs.negation_normal_form.negation_normal_form.Reads as negation-normal-form
-use Rattle.normal_form.proofs.negation_normal_form.negation_normal_form.Kinds as negation-normal-form-kinds
-use Rattle.normal_form.proofs.negation_normal_form.+connective_form+expand+negation_normal_form+operand_forms+pair_of+quantifier_form+two_pairs.Lts-negation_normal_form as negation-normal-form-lts
-use Rattle.normal_form.proofs.negation_normal_form.operand_forms.Reads as operand-forms
-use Rattle.normal_form.proofs.negation_normal_form.operand_forms.Kinds as operand-forms-kinds
-use Rattle.normal_form.proofs.negation_normal_form.+connective_form+expand+negation_normal_form+operand_forms+pair_of+quantifier_form+two_pairs.Lts-operand_forms as operand-forms-lts
-use Rattle.normal_form.proofs.negation_normal_form.pair_of.Reads as pair-of
-use Rattle.normal_form.proofs.negation_normal_form.pair_of.Kinds as pair-of-kinds
-use Rattle.normal_form.proofs.negation_normal_form.+connective_form+expand+negation_normal_form+operand_forms+pair_of+quantifier_form+two_pairs.Lts-pair_of as pair-of-lts
-use Rattle.normal_form.proofs.negation_normal_form.quantifier_form.Reads as quantifier-form
-use Rattle.normal_form.proofs.negation_normal_form.quantifier_form.Kinds as quantifier-form-kinds
-use Rattle.normal_form.proofs.negation_normal_form.+connective_form+expand+negation_normal_form+operand_forms+pair_of+quantifier_form+two_pairs.Lts-quantifier_form as quantifier-form-lts
-use Rattle.normal_form.proofs.negation_normal_form.two_pairs.Reads as two-pairs
-use Rattle.normal_form.proofs.negation_normal_form.two_pairs.Kinds as two-pairs-kinds
-use Rattle.normal_form.proofs.negation_normal_form.+connective_form+expand+negation_normal_form+operand_forms+pair_of+quantifier_form+two_pairs.Lts-two_pairs as two-pairs-lts
+use Rattle.building.proofs.negation_normal_form.connective_form.Reads as connective-form
+use Rattle.building.proofs.negation_normal_form.connective_form.Kinds as connective-form-kinds
+use Rattle.building.proofs.negation_normal_form.+connective_form+expand+negation_normal_form+operand_forms+pair_of+quantifier_form+two_pairs.Lts-connective_form as connective-form-lts
+use Rattle.building.proofs.negation_normal_form.expand.Reads as expand
+use Rattle.building.proofs.negation_normal_form.expand.Kinds as expand-kinds
+use Rattle.building.proofs.negation_normal_form.+connective_form+expand+negation_normal_form+operand_forms+pair_of+quantifier_form+two_pairs.Lts-expand as expand-lts
+use Rattle.building.proofs.negation_normal_form.negation_normal_form.Reads as negation-normal-form
+use Rattle.building.proofs.negation_normal_form.negation_normal_form.Kinds as negation-normal-form-kinds
+use Rattle.building.proofs.negation_normal_form.+connective_form+expand+negation_normal_form+operand_forms+pair_of+quantifier_form+two_pairs.Lts-negation_normal_form as negation-normal-form-lts
+use Rattle.building.proofs.negation_normal_form.operand_forms.Reads as operand-forms
+use Rattle.building.proofs.negation_normal_form.operand_forms.Kinds as operand-forms-kinds
+use Rattle.building.proofs.negation_normal_form.+connective_form+expand+negation_normal_form+operand_forms+pair_of+quantifier_form+two_pairs.Lts-operand_forms as operand-forms-lts
+use Rattle.building.proofs.negation_normal_form.pair_of.Reads as pair-of
+use Rattle.building.proofs.negation_normal_form.pair_of.Kinds as pair-of-kinds
+use Rattle.building.proofs.negation_normal_form.+connective_form+expand+negation_normal_form+operand_forms+pair_of+quantifier_form+two_pairs.Lts-pair_of as pair-of-lts
+use Rattle.building.proofs.negation_normal_form.quantifier_form.Reads as quantifier-form
+use Rattle.building.proofs.negation_normal_form.quantifier_form.Kinds as quantifier-form-kinds
+use Rattle.building.proofs.negation_normal_form.+connective_form+expand+negation_normal_form+operand_forms+pair_of+quantifier_form+two_pairs.Lts-quantifier_form as quantifier-form-lts
+use Rattle.building.proofs.negation_normal_form.two_pairs.Reads as two-pairs
+use Rattle.building.proofs.negation_normal_form.two_pairs.Kinds as two-pairs-kinds
+use Rattle.building.proofs.negation_normal_form.+connective_form+expand+negation_normal_form+operand_forms+pair_of+quantifier_form+two_pairs.Lts-two_pairs as two-pairs-lts
 use Rattle.building.proofs.terms.literal.Reads as literal-reads
 use Rattle.building.proofs.terms.put_connective.Reads as put-connective-reads
 use Rattle.building.proofs.terms.put_pair.Reads as put-pair-reads
 use Rattle.building.proofs.terms.put_quantifier.Reads as put-quantifier-reads
 use Rattle.building.proofs.terms.slot.Reads as slot-reads
 use Rattle.cells.proofs.run.operands.Reads as operands-reads
 use Rattle.formulas.proofs.view.view_of.Reads as view-of-reads
-use Rattle.normal_form.proofs.negation_normal_form.+connective_form+expand+negation_normal_form+operand_forms+pair_of+quantifier_form+two_pairs.{
+use Rattle.building.proofs.negation_normal_form.+connective_form+expand+negation_normal_form+operand_forms+pair_of+quantifier_form+two_pairs.{
   statement,
 }
-use Rattle.normal_form.proofs.negation_normal_form.+connective_form+expand+negation_normal_form+operand_forms+pair_of+quantifier_form+two_pairs.Tie.{
+use Rattle.building.proofs.negation_normal_form.+connective_form+expand+negation_normal_form+operand_forms+pair_of+quantifier_form+two_pairs.Tie.{
   close,
 }
 
