@@ -1,4 +1,4 @@
--- What the functions that count and list clauses promise each other: what stands at a place, and what their memos hold.
+-- What the functions that count and list clauses promise each other: what their memos hold.
 -- The memo of the totals is lent to `list_totals`, whose caller writes the list by it; that of the empty `or` is in no public contract.
 -- Rests on cells' Cell, on formulas' Formula, Normal, Built, Clauses, Totals and enum `NormalView`, and on the struct `Totals`.
 use Prim.Native.Nat.{ℕ, _+_, _-_, _*_, _/_, _%_, _≤_, _<_}

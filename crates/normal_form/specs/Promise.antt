@@ -6,7 +6,7 @@
 -- formula's value in every reading. For every formula, the normal form at true polarity has its value and at false polarity the negated
 -- value. Both hold even where an opaque literal's value depends on every variable." An empty `or` is refused (13).
 -- The terms are those of the arrays as the call leaves them; readings have numbers for values, which is every reading
--- (formulas/proofs/Numbered.antt `every-value`, `every-clauses`).
+-- (meaning/proofs/truth/Numbered.antt `every-value`, `every-clauses`).
 -- Rests on answers' Answer and struct `Answer`, on pool's Check, on formulas' ClauseLists, on meaning's Term, Skeleton, Tree and Numbered, and on Calls.
 use Prim.Native.Nat.{ℕ}
 use mathlib.Core.Path.{_≡_}
