@@ -1,7 +1,7 @@
 -- What the functions that write the clause list promise each other.
 -- 01, "Normal form and clauses": "an `and` joins lists, an `or` takes products, the first operand slowest."
--- Rests on answers' Answer and struct `Answer`, on cells' Limits and Place, on formulas' Formula, Normal, Built and Clauses, on ClauseWalk and Lists, and
--- on the structs `Chosen`, `Digits` and `Filled`.
+-- Rests on answers' Answer and struct `Answer`, on cells' Limits and Place, on formulas' Formula, Normal, Built, Clauses and ClauseLists, and on
+-- ClauseWalk and the structs `Chosen`, `Digits` and `Filled`.
 use Prim.Native.Nat.{ℕ, _+_, _-_, _/_, _%_, _≤_, _<_}
 use mathlib.Core.Path.{_≡_}
 use mathlib.Core.Bool.{true, cond, _&&_}

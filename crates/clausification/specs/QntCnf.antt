@@ -1,8 +1,8 @@
 -- Rule 3, `qnt_cnf`: `(or (not (forall L phi)) (forall R c))`, where c is a clause of phi.
 -- 01: "form `(or (not l) r)`; 3 for each, 4 unless forall for each; 31; 13; 32; 8; 10; 9 for the first variable of the left or taken-out list
 -- that is free in the clause and not bound right. A one-literal clause is the literal, a longer one an `or`."
--- Rests on answers' Outcome, on cells' Cell, on bindings' Binding, on free_pairs' BindingFree, on formulas' Formula, Pattern, Normal, Built and
--- Clauses, on building's Arrays, and on clauses' Lists.
+-- Rests on answers' Outcome, on cells' Cell, on bindings' Binding, on free_pairs' BindingFree, on formulas' Formula, Pattern, Normal, Built,
+-- Clauses and ClauseLists, and on building's Arrays.
 use Prim.Native.Nat.{ℕ}
 use mathlib.Core.Bool.{Bool, true, false, not, _&&_, _||_, cond}
 use mathlib.Core.List.{List, [], _∷_, _++_, map}

@@ -1,6 +1,6 @@
 -- A clause list as two arrays of numbers, written and read back, and the refusals 13 and 32.
 -- 01, "What stops a step": "The clause list also writes literal places and clause ends (literals up to each clause's last) to two lent u32 arrays".
--- Rests on answers' struct `Answer` and on formulas' Normal.
+-- Rests on answers' struct `Answer` and on Normal.
 use Prim.Native.Nat.{ℕ, zero, suc, _+_, _-_}
 use mathlib.Core.List.{List, [], _∷_, _++_}
 use lib.ListN.{length, getD, take, drop, replicate}

@@ -1,7 +1,7 @@
 -- The public calls of this crate: which refusal comes first, what is accepted, and what the lent arrays hold at the end.
 -- 01, "What stops a step": "Other public calls on a term run 30, 14, 15, 16, 17, then 31, 13, 32 where they apply."
--- Rests on answers' Answer and struct `Answer`, on descriptions' Description, on pool's Check, on formulas' Normal, Built and Clauses, on building's
--- Arrays, and on clauses' Lists.
+-- Rests on answers' Answer and struct `Answer`, on descriptions' Description, on pool's Check, on formulas' Normal, Built, Clauses and ClauseLists,
+-- and on building's Arrays.
 use Prim.Native.Nat.{ℕ}
 use mathlib.Core.Path.{_≡_}
 use mathlib.Core.Bool.{Bool, _&&_, cond}
