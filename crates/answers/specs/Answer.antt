@@ -1,7 +1,9 @@
 -- The answers of the public calls: 01's number and the two numbers that it carries.
 -- 01, "What stops a step": "Each refusal carries two numbers, 0 where none is named. 0 is acceptance."
--- Rests on the struct `Answer`.
+-- Rests on the struct `Answer` and on cells' enum `Found`.
 use Prim.Native.Nat.{ℕ}
+use Rattle.cells.specs.declared.Found.{Found}
+use Rattle.cells.specs.declared.Found.the-variants.{At, Nothing}
 use Rattle.answers.specs.declared.Answer.{Answer}
 
 -- the code, and the two numbers that it carries
@@ -30,3 +32,16 @@ notATerm t = refused 17 t 0
 -- 30: arrays unequal, N past them or over 8,192; a lent array that is too short
 abbrev pub badArrays : Answer
 badArrays = refused 30 0 0
+
+-- 40: a table of another length (135), or a rule number that is not allowed (its entry)
+abbrev pub badTable : ℕ → Answer
+badTable i = refused 40 i 0
+
+-- 41: an entry for one of `Not`, `Implies`, `And`, `Or`, `Equals` that isn't Bool (the entry)
+abbrev pub notBool : ℕ → Answer
+notBool i = refused 41 i 0
+
+-- a refusal with the place or entry found, else what comes next
+abbrev pub refuseAt : (ℕ → Answer) → Found → Answer → Answer
+refuseAt refusal (At p) next = refusal p
+refuseAt refusal Nothing next = next

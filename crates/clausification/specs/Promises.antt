@@ -1,12 +1,11 @@
 -- What the functions of rule 3 promise each other.
--- Rests on answers' Outcome and struct `Answer`, on bindings' Binding, on descriptions' Description, on sorts' Table, on free_pairs' BindingFree,
--- on pool's Check, on formulas' Pattern, Normal, Built and PatternAnswer, on building's Walk, and on QntCnf.
+-- Rests on answers' Outcome and struct `Answer`, on bindings' Binding, on descriptions' Description, on free_pairs' BindingFree, on pool's
+-- Check, on formulas' Pattern, Normal, Built and PatternAnswer, on building's Walk, and on QntCnf.
 use Prim.Native.Nat.{ℕ, _<_}
 use mathlib.Core.Path.{_≡_}
 use mathlib.Core.Bool.{true, not, _&&_}
 use mathlib.Core.List.{List, _++_}
 use Rattle.formulas.specs.Built.{formAt}
-use Rattle.sorts.specs.Table.{builtIn}
 use Rattle.descriptions.specs.Description.{zeroFrom}
 use Rattle.pool.specs.Check.{checkPool}
 use Rattle.answers.specs.declared.Answer.{Answer}
@@ -37,7 +36,8 @@ followsIn tags values n x l r body cs = do
 
 -- the places of two quantifiers, at l and r, and of their bodies in a pool that has passed its checks
 pub record ForallSides (tags values : List ℕ) (n l left r right : ℕ) : Type 0 where
-  pub passed : checkPool tags values builtIn n .code ≡ 0
+  pub table : List ℕ
+  pub passed : checkPool tags values table n .code ≡ 0
   pub left-place : l < n
   pub left-body : left < n
   pub right-place : r < n

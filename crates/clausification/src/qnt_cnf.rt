@@ -28,8 +28,7 @@ use pool::tags::NOT;
 use pool::tags::OR;
 ghost use mathlib.Core.Path.{_≡_};
 ghost use Rattle.descriptions.specs.Index.{Index};
-ghost use Rattle.sorts.specs.Table.{builtIn};
-ghost use Rattle.pool.specs.Check.{checkTerm};
+ghost use Rattle.pool.specs.Check.{CheckedTerm};
 ghost use Rattle.answers.specs.Outcome.{answerOf};
 ghost use Rattle.formulas.specs.PatternAnswer.{twoIn};
 ghost use Rattle.clausification.specs.QntCnf.{implication, clausified, qntCnf};
@@ -140,7 +139,7 @@ fn checks(
     x: TermPlace,
 ) -> Answer
     requires { ⌜ Index (now tags) (now values) n (now index) ⌝ }
-    requires { ⌜ checkTerm (now tags) (now values) builtIn n (x .0) .code ≡ 0 ⌝ }
+    requires { ⌜ CheckedTerm (now tags) (now values) n (x .0) ⌝ }
     ensures { λ a. ⌜ Leaves n (now (tags .entry)) (now (values .entry)) (qntCnf (now (tags .entry)) (now (values .entry)) n (x .0)) a (now (tags .exit)) (now (values .exit)) ⌝ }
     ensures { λ _. ⌜ Index (now (tags .entry)) (now (values .entry)) n (now (index .exit)) ⌝ }
 {
@@ -179,7 +178,7 @@ pub fn qnt_cnf(
     x: TermPlace,
 ) -> Answer
     requires { ⌜ Index (now tags) (now values) n (now index) ⌝ }
-    requires { ⌜ checkTerm (now tags) (now values) builtIn n (x .0) .code ≡ 0 ⌝ }
+    requires { ⌜ CheckedTerm (now tags) (now values) n (x .0) ⌝ }
     ensures { λ a. ⌜ Clausified (now (tags .entry)) (now (values .entry)) n (x .0) a (now (tags .exit)) (now (values .exit)) ⌝ }
     ensures { λ _. ⌜ Index (now (tags .entry)) (now (values .entry)) n (now (index .exit)) ⌝ }
 {

@@ -1,6 +1,5 @@
--- What an accepted normal form or clause list leaves passes the pool check under the same table, if that has Bool for `not`, `and` and `or`.
--- No other entry matters.
---     BoolConnectives        such a table; built-in-connectives: the built-in table is one
+-- What an accepted normal form or clause list leaves passes the pool check under the same table: it states Bool in every `not`, `and` and
+-- `or`, and a table that loads has that sort for them (41).
 --     passed-checks          a pool that passes each check passes the pool check
 --     normal-form-passes     of the normal form's call
 --     clause-list-passes     of the clause list's
@@ -23,9 +22,10 @@ use Rattle.headers.specs.WellFormed.{shapeOf, countFits, isTermTag, headerFits,
 use Rattle.answers.specs.Answer.{accepted}
 use Rattle.answers.specs.declared.Answer.{Answer}
 use Rattle.descriptions.specs.Description.{firstRepeat}
-use Rattle.sorts.specs.Table.{builtIn}
+use Rattle.sort_table.specs.TableAnswer.{tableAnswer}
+use Rattle.sort_table.proofs.loading.Loaded.{BoolConnectives, loaded-connectives}
 use Rattle.sorts.specs.SortRule.{made, isSort, byRule, computeSort, statesSort}
-use Rattle.pool.specs.Check.{arraysFit, checkCells, checkPool}
+use Rattle.pool.specs.Check.{arraysFit, checkCells, checkPool, andThen}
 use Rattle.meaning.specs.Term.{stated}
 use Rattle.meaning.specs.Tree.{tree}
 use Rattle.meaning.specs.SortTree.{sortOfTerm}
@@ -48,24 +48,15 @@ use Rattle.normal_form.proofs.Single.{normal-clean, clausal-clean}
 use Rattle.normal_form.proofs.ClauseListTruth.{old-term, clausal-form-is}
 use Rattle.normal_form.proofs.Accepted.{HoldsPool, padded-length, left-same, left-tree, normal-accepted, list-accepted}
 
--- the entries 2, 4 and 5 are those of `not`, `and` and `or`; every other entry may be anything
-pub record BoolConnectives (rules : List ℕ) : Type 0 where
-  pub for-not : getD rules 2 7 ≡ 0
-  pub for-and : getD rules 4 7 ≡ 0
-  pub for-or : getD rules 5 7 ≡ 0
-
-pub built-in-connectives : BoolConnectives builtIn
-unfolding builtIn
-built-in-connectives = record { for-not = refl; for-and = refl; for-or = refl }
-
 -- ---- a pool that passes each check passes the pool check
 pub passed-checks : (tags values rules : List ℕ) (n : ℕ) → Passed tags values rules n → checkPool tags values rules n ≡ accepted 0 0
-unfolding checkPool arraysFit checkCells
+unfolding checkPool andThen arraysFit checkCells
 passed-checks tags values rules n c =
     rw (
       eq-eqb (length tags) (length values) (c .equal),
       le-leb n (length tags) (omega (arith, c .equal, c .whole)),
       le-leb n 8192 (c .limit),
+      eq-eqb (tableAnswer rules .code) 0 (c .loaded),
       ne-eqb n 0 (c .some),
       c .formed,
       c .single,
@@ -101,7 +92,7 @@ module _ (tags values : List ℕ) (n : ℕ) (whole : n ≤ length values) (forme
 
 -- ---- arrays that hold a pool which goes on from one that passes
 module _ {tags values rules : List ℕ} {n : ℕ} (c : Passed tags values rules n) where
-  module _ (table : BoolConnectives rules) {q : Pool} (s : Sound q) (grows : Grows (poolOf tags values n) q) (clean : Clean n q)
+  module _ {q : Pool} (s : Sound q) (grows : Grows (poolOf tags values n) q) (clean : Clean n q)
       {tags′ values′ : List ℕ} (h : HoldsPool q (length tags) tags′ values′) where
     whole′ : count q ≤ length values′
     whole′ = left-same s h .long′
@@ -127,7 +118,7 @@ module _ {tags values rules : List ℕ} {n : ℕ} (c : Passed tags values rules 
         (λ e.
         let new = clean .built t (ltb-false t n e) l (term-tagged _ k₁) in
         states-computed tags′ values′ (count q) whole′ formed′ rules t l k
-        (built-states tags′ values′ (count q) whole′ formed′ (s .some) rules table t
+        (built-states tags′ values′ (count q) whole′ formed′ (s .some) rules (loaded-connectives rules (c .loaded)) t
         (left-same s h .values-same (t + 1) (new .inside) ∙ new .states-bool) (rw tag-same (new .tag))))
 
     left-passed : Passed tags′ values′ rules (count q)
@@ -138,6 +129,7 @@ module _ {tags values rules : List ℕ} {n : ℕ} (c : Passed tags values rules 
           ∙ sym (ap length (h .values-are) ∙ padded-length (q .values) (length tags) (omega (arith, s .good .size, h .room))));
       whole = whole′;
       limit = h .small;
+      loaded = c .loaded;
       some = λ z. omega (arith, s .some);
       formed = formed′;
       single = single′;
@@ -149,17 +141,17 @@ module _ {tags values rules : List ℕ} {n : ℕ} (c : Passed tags values rules 
 
 -- ---- the two calls
 pub normal-form-passes : {tags values rules : List ℕ} {n t : ℕ} {polarity : Bool} {r : Answer} {tags′ values′ : List ℕ}
-    → NormalForm tags values rules n t polarity r tags′ values′ → r .code ≡ 0 → BoolConnectives rules → checkPool tags′ values′ rules (r .second) ≡ accepted 0 0
-normal-form-passes {tags} {values} {rules} {n} {t} {polarity} {r} {tags′} {values′} f ok table =
+    → NormalForm tags values rules n t polarity r tags′ values′ → r .code ≡ 0 → checkPool tags′ values′ rules (r .second) ≡ accepted 0 0
+normal-form-passes {tags} {values} {rules} {n} {t} {polarity} {r} {tags′} {values′} f ok =
     let a = normal-accepted f ok in
     let c = a .checked in
     let i = normal-form-is (c .passed) t (c .below) (c .term) polarity in
-    left-checks (c .passed) table (i .sound) (i .grows) (normal-clean (c .passed) t polarity) (a .holds) (r .second) (a .counted)
+    left-checks (c .passed) (i .sound) (i .grows) (normal-clean (c .passed) t polarity) (a .holds) (r .second) (a .counted)
 
 pub clause-list-passes : {tags values rules : List ℕ} {n t : ℕ} {literals ends : List ℕ} {r : Answer} {m : ℕ} {tags′ values′ literals′ ends′ : List ℕ}
-    → ClauseList tags values rules n t literals ends r m tags′ values′ literals′ ends′ → r .code ≡ 0 → BoolConnectives rules → checkPool tags′ values′ rules m ≡ accepted 0 0
-clause-list-passes {tags} {values} {rules} {n} {t} {literals} {ends} {r} {m} {tags′} {values′} {literals′} {ends′} f ok table =
+    → ClauseList tags values rules n t literals ends r m tags′ values′ literals′ ends′ → r .code ≡ 0 → checkPool tags′ values′ rules m ≡ accepted 0 0
+clause-list-passes {tags} {values} {rules} {n} {t} {literals} {ends} {r} {m} {tags′} {values′} {literals′} {ends′} f ok =
     let a = list-accepted f ok in
     let c = a .checked in
     let i = clausal-form-is (c .passed) t (c .below) (c .term) in
-    left-checks (c .passed) table (i .sound) (i .grows) (clausal-clean (c .passed) t) (a .holds) m (a .counted)
+    left-checks (c .passed) (i .sound) (i .grows) (clausal-clean (c .passed) t) (a .holds) m (a .counted)

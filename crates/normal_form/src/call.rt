@@ -1,4 +1,4 @@
-// The public calls: the normal form of a term, and the clause list of a term.
+// The public calls, under the table of sort rules in use: the normal form of a term, and the clause list of a term.
 ghost use Rattle.cells.specs.Limits.{cellLimit};
 use crate::clausal_forms::ClausalForms;
 use crate::clausal_forms::build_forms;
@@ -9,14 +9,13 @@ use clauses::clause_list::clear_list;
 use clauses::clause_list::list_clauses;
 use pool::Answer;
 use pool::TermPlace;
-use pool::call::index_term;
+use pool::checks::index_term;
 use pool::description::cut_back;
 use pool::index::INDEX;
 use pool::limits::CLAUSE_ENDS;
 use pool::limits::LITERALS;
 ghost use Prim.Native.Nat.{_≤_};
 ghost use mathlib.Core.Path.{_≡_};
-ghost use Rattle.sorts.specs.Table.{builtIn};
 ghost use Rattle.normal_form.specs.Promise.{NormalFormPromise, ClauseListPromise};
 ghost use Rattle.normal_form.specs.ClauseCall.{ClausalBuilt, unlisted, ListKept};
 
@@ -25,14 +24,15 @@ ghost use Rattle.normal_form.specs.ClauseCall.{ClausalBuilt, unlisted, L
 pub fn normal_form(
     tags: &mut [u8],
     values: &mut [u32],
+    table: &[u32],
     n: usize,
     t: TermPlace,
     polarity: bool,
 ) -> Answer
-    ensures { λ r. ⌜ NormalFormPromise (now (tags .entry)) (now (values .entry)) builtIn n (t .0) polarity r (now (tags .exit)) (now (values .exit)) ⌝ }
+    ensures { λ r. ⌜ NormalFormPromise (now (tags .entry)) (now (values .entry)) (now (table .entry)) n (t .0) polarity r (now (tags .exit)) (now (values .exit)) ⌝ }
 {
     let mut index = [0u32; INDEX];
-    let checked = index_term(tags, values, n, t, &mut index);
+    let checked = index_term(tags, values, table, n, t, &mut index);
     if checked.code == 30 {
         return checked;
     }
@@ -62,12 +62,12 @@ enum Clausal {
     Refused(Answer),
 }
 
-// The checks of the term at t, 30, 14, 15, 16 and 17, and its taken-out normal form or 31.
-fn clausal_of(tags: &mut [u8], values: &mut [u32], n: usize, t: TermPlace) -> Clausal
-    ensures { λ r. ⌜ ClausalBuilt (now (tags .entry)) (now (values .entry)) builtIn n (t .0) r (now (tags .exit)) (now (values .exit)) ⌝ }
+// The checks of the term at t, 30, 40, 41, 14, 15, 16 and 17, and its taken-out normal form or 31.
+fn clausal_of(tags: &mut [u8], values: &mut [u32], table: &[u32], n: usize, t: TermPlace) -> Clausal
+    ensures { λ r. ⌜ ClausalBuilt (now (tags .entry)) (now (values .entry)) (now (table .entry)) n (t .0) r (now (tags .exit)) (now (values .exit)) ⌝ }
 {
     let mut index = [0u32; INDEX];
-    let checked = index_term(tags, values, n, t, &mut index);
+    let checked = index_term(tags, values, table, n, t, &mut index);
     if checked.code != 0 {
         return Clausal::Refused(checked);
     }
@@ -107,12 +107,13 @@ fn keep_listed(tags: &mut [u8], values: &mut [u32], n: usize, m: usize, answer: 
 pub fn clause_list(
     tags: &mut [u8],
     values: &mut [u32],
+    table: &[u32],
     n: usize,
     t: TermPlace,
     literals: &mut [u32],
     ends: &mut [u32],
 ) -> Listed
-    ensures { λ r. ⌜ ClauseListPromise (now (tags .entry)) (now (values .entry)) builtIn n (t .0) (now (literals .entry)) (now (ends .entry)) (r .answer) (r .count) (now (tags .exit)) (now (values .exit)) (now (literals .exit)) (now (ends .exit)) ⌝ }
+    ensures { λ r. ⌜ ClauseListPromise (now (tags .entry)) (now (values .entry)) (now (table .entry)) n (t .0) (now (literals .entry)) (now (ends .entry)) (r .answer) (r .count) (now (tags .exit)) (now (values .exit)) (now (literals .exit)) (now (ends .exit)) ⌝ }
 {
     if literals.len() < LITERALS {
         return refused(Answer::refused(30, 0, 0));
@@ -120,7 +121,7 @@ pub fn clause_list(
     if ends.len() < CLAUSE_ENDS {
         return refused(Answer::refused(30, 0, 0));
     }
-    let built = clausal_of(tags, values, n, t);
+    let built = clausal_of(tags, values, table, n, t);
     match built {
         Clausal::Refused(answer) => {
             if answer.code == 30 {

@@ -1,4 +1,4 @@
-// The checks of a pool under a lent table of sort rules, and of a place in it.
+// The checks of a pool under the table of sort rules in use, and of a place in it.
 ghost use Rattle.cells.specs.Limits.{cellLimit};
 use answers::Answer;
 use cells::Found;
@@ -8,6 +8,7 @@ use descriptions::index::INDEX;
 use descriptions::repeats::first_repeat;
 use headers::well_formed::first_bad;
 use headers::well_formed::is_term;
+use sort_table::loading::check_table;
 use sorts::compute_sort::first_wrong_sort;
 ghost use mathlib.Core.Path.{_≡_};
 ghost use Prim.Native.Nat.{_≤_};
@@ -30,12 +31,12 @@ fn arrays_fit(tags: &[u8], values: &[u32], n: usize) -> bool
 fn check_cells(
     tags: &[u8],
     values: &[u32],
-    rules: &[u32],
+    table: &[u32],
     n: usize,
     index: &mut [u32; INDEX],
 ) -> Answer
     requires { ⌜ n ≤ cellLimit ⌝ }
-    ensures { λ r. ⌜ r ≡ checkCells (now (tags .entry)) (now (values .entry)) (now (rules .entry)) n ⌝ }
+    ensures { λ r. ⌜ r ≡ checkCells (now (tags .entry)) (now (values .entry)) (now (table .entry)) n ⌝ }
     ensures { λ r. ⌜ Indexed (now (tags .entry)) (now (values .entry)) n r (now (index .exit)) ⌝ }
 {
     if n == 0 {
@@ -47,50 +48,54 @@ fn check_cells(
     if let Found::At(p) = first_repeat(tags, values, n, index) {
         return Answer::refused(15, p as u32, 0);
     }
-    if let Found::At(p) = first_wrong_sort(tags, values, rules, n) {
+    if let Found::At(p) = first_wrong_sort(tags, values, table, n) {
         return Answer::refused(16, p as u32, 0);
     }
     Answer::accepted(0, 0)
 }
 
-// The pool check under a lent table of sort rules, 30, 14, 15, 16, and the index of a pool that passes.
-pub fn index_pool_by(
+// The pool check, 30, 40 and 41 of the table in use, 14, 15, 16, and the index of a pool that passes.
+pub fn index_pool(
     tags: &[u8],
     values: &[u32],
-    rules: &[u32],
+    table: &[u32],
     n: usize,
     index: &mut [u32; INDEX],
 ) -> Answer
-    ensures { λ r. ⌜ r ≡ checkPool (now (tags .entry)) (now (values .entry)) (now (rules .entry)) n ⌝ }
+    ensures { λ r. ⌜ r ≡ checkPool (now (tags .entry)) (now (values .entry)) (now (table .entry)) n ⌝ }
     ensures { λ r. ⌜ Indexed (now (tags .entry)) (now (values .entry)) n r (now (index .exit)) ⌝ }
 {
     if !arrays_fit(tags, values, n) {
         return Answer::refused(30, 0, 0);
     }
-    check_cells(tags, values, rules, n, index)
+    let loads = check_table(table);
+    if loads.code != 0 {
+        return loads;
+    }
+    check_cells(tags, values, table, n, index)
 }
 
-// The pool check under a lent table of sort rules: 30, 14, 15, 16.
-pub fn check_pool_by(tags: &[u8], values: &[u32], rules: &[u32], n: usize) -> Answer
-    ensures { λ r. ⌜ r ≡ checkPool (now (tags .entry)) (now (values .entry)) (now (rules .entry)) n ⌝ }
+// The pool check: 30, 40, 41, 14, 15, 16.
+pub fn check_pool(tags: &[u8], values: &[u32], table: &[u32], n: usize) -> Answer
+    ensures { λ r. ⌜ r ≡ checkPool (now (tags .entry)) (now (values .entry)) (now (table .entry)) n ⌝ }
 {
     let mut index = [0u32; INDEX];
-    index_pool_by(tags, values, rules, n, &mut index)
+    index_pool(tags, values, table, n, &mut index)
 }
 
-// The pool check and then 17, under a lent table, and the index of a pool whose term passes.
-pub fn index_term_by(
+// The pool check and then 17, and the index of a pool whose term passes.
+pub fn index_term(
     tags: &[u8],
     values: &[u32],
-    rules: &[u32],
+    table: &[u32],
     n: usize,
     t: TermPlace,
     index: &mut [u32; INDEX],
 ) -> Answer
-    ensures { λ r. ⌜ r ≡ checkTerm (now (tags .entry)) (now (values .entry)) (now (rules .entry)) n (t .0) ⌝ }
+    ensures { λ r. ⌜ r ≡ checkTerm (now (tags .entry)) (now (values .entry)) (now (table .entry)) n (t .0) ⌝ }
     ensures { λ r. ⌜ Indexed (now (tags .entry)) (now (values .entry)) n r (now (index .exit)) ⌝ }
 {
-    let checked = index_pool_by(tags, values, rules, n, index);
+    let checked = index_pool(tags, values, table, n, index);
     if checked.code != 0 {
         return checked;
     }
@@ -100,10 +105,10 @@ pub fn index_term_by(
     Answer::accepted(0, 0)
 }
 
-// The pool check and then 17, under a lent table.
-pub fn check_term_by(tags: &[u8], values: &[u32], rules: &[u32], n: usize, t: TermPlace) -> Answer
-    ensures { λ r. ⌜ r ≡ checkTerm (now (tags .entry)) (now (values .entry)) (now (rules .entry)) n (t .0) ⌝ }
+// The pool check and then 17.
+pub fn check_term(tags: &[u8], values: &[u32], table: &[u32], n: usize, t: TermPlace) -> Answer
+    ensures { λ r. ⌜ r ≡ checkTerm (now (tags .entry)) (now (values .entry)) (now (table .entry)) n (t .0) ⌝ }
 {
     let mut index = [0u32; INDEX];
-    index_term_by(tags, values, rules, n, t, &mut index)
+    index_term(tags, values, table, n, t, &mut index)
 }

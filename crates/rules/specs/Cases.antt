@@ -18,8 +18,9 @@
 -- by which rule 3's schema goes: the normal form at true polarity with its foralls taken out; p, q, r and a are variables of sort Bool; a literal
 -- is +t for t, -t for `not` t.
 -- Rests on answers' Answer and Outcome, on cells' Bounded, ByPlace, Cell and Headers, on bindings' Binding, on headers' WellFormed, on descriptions'
--- Description, on sorts' SortRule and Table, on pool's Check, on formulas' Formula, Pattern, Normal, Built and Clauses, on building's Arrays, on
--- meaning's Sort, Term and Skeleton, on normal_form's Calls, on quantifier_rules' QntJoin, and on schemas' Notation and Schemas.
+-- Description, on sorts' SortRule, on sort_table's Table and TableAnswer, on pool's Check, on formulas' Formula, Pattern, Normal, Built and Clauses,
+-- on building's Arrays, on meaning's Sort, Term and Skeleton, on normal_form's Calls, on quantifier_rules' QntJoin, and on schemas' Notation and
+-- Schemas.
 use mathlib.Core.Path.{_≡_, refl}
 use Prim.Native.Nat.{ℕ}
 use mathlib.Core.Bool.{true, false}
@@ -43,7 +44,8 @@ use Rattle.cells.specs.Headers.{firstIn, firstFrom, firstHeader}
 use Rattle.headers.specs.WellFormed.{shapeOf, countFits, pairKind, kindAt, isSortTag, isTermTag, isTerm, valueFits, cellFits, boolFirst, headerFits, firstBad}
 use Rattle.descriptions.specs.Description.{find, repeats, firstRepeat}
 use Rattle.sorts.specs.SortRule.{isSort, byRule, computeSort, statesSort, firstWrongSort}
-use Rattle.sorts.specs.Table.{builtIn}
+use Rattle.sort_table.specs.Table.{builtIn}
+use Rattle.sort_table.specs.TableAnswer.{firstEntry, forbids, isConnective, losesBool, tableAnswer}
 use Rattle.answers.specs.Answer.{refused}
 use Rattle.pool.specs.Check.{arraysFit, checkCells, checkPool, andThen, checkTerm}
 use Rattle.formulas.specs.Formula.{allBefore, connective, viewOf, formBy, form}
@@ -158,7 +160,7 @@ and-empty-or = refl
 
 -- (or) at 1, (and (or)) at 3
 pub and-empty-or-refused : clauseAnswer (1 ∷ 37 ∷ 0 ∷ 36 ∷ 0 ∷ 0 ∷ []) (0 ∷ 1 ∷ 0 ∷ 2 ∷ 0 ∷ 1 ∷ []) builtIn 6 3 8192 2048 ≡ refused 13 0 0
-unfolding clauseAnswer andThen checkTerm checkPool arraysFit checkCells firstBad firstRepeat firstWrongSort firstHeader firstFrom firstIn headerFits boolFirst cellFits valueFits kindAt pairKind countFits shapeOf isSortTag isTermTag isTerm every everyIn repeats find isAt sameCells cellsOf sortOf operandsOf statesSort computeSort byRule isSort builtIn fits normalForm takenOut normalAt normalBy normalView form byPlace downTo formBy viewOf connective allBefore intern interns put
+unfolding clauseAnswer andThen checkTerm checkPool arraysFit tableAnswer firstEntry forbids losesBool isConnective checkCells firstBad firstRepeat firstWrongSort firstHeader firstFrom firstIn headerFits boolFirst cellFits valueFits kindAt pairKind countFits shapeOf isSortTag isTermTag isTerm every everyIn repeats find isAt sameCells cellsOf sortOf operandsOf statesSort computeSort byRule isSort builtIn fits normalForm takenOut normalAt normalBy normalView form byPlace downTo formBy viewOf connective allBefore intern interns put
 and-empty-or-refused = refl
 
 pub equality-of-three : clausesOf (equals (p ∷ q ∷ r ∷ [])) ≡ (+ (equals (p ∷ q ∷ r ∷ [])) ∷ []) ∷ []

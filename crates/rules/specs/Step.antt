@@ -80,7 +80,7 @@ module _ (tags values table : List ℕ) (n rule : ℕ) (conclusion : List ℕ) w
   -- a step to accept: the pool and the place pass, the code is a rule's, the conclusion is one of that rule as the Alethe document states it, and
   -- rule 3 is within its limits
   pub record StepHolds : Type 0 where
-    pub pool : checkPool tags values table n .code ≡ 0  -- 30, 14, 15, 16
+    pub pool : checkPool tags values table n .code ≡ 0  -- 30, 40, 41, 14, 15, 16
     pub code : isRule rule ≡ true  -- 18
     pub one : length conclusion ≡ 1  -- 1
     pub term : isTerm tags n conclusionPlace ≡ true  -- 17

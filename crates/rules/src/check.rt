@@ -1,11 +1,11 @@
-// The check of a step: 30, 14, 15, 16, 18, 1, 17, and then its rule.
+// The check of a step under the table of sort rules in use: 30, 40, 41, 14, 15, 16, 18, 1, 17, and then its rule.
 use clausification::qnt_cnf::qnt_cnf;
 use miniscoping::miniscope_distribute::miniscope_distribute;
 use miniscoping::miniscope_ite::miniscope_ite;
 use miniscoping::miniscope_split::miniscope_split;
 use pool::Answer;
 use pool::TermPlace;
-use pool::call::index_pool;
+use pool::checks::index_pool;
 use pool::description::cut_back;
 use pool::index::INDEX;
 use pool::well_formed::is_term;
@@ -13,9 +13,8 @@ use quantifier_rules::qnt_join::qnt_join;
 use quantifier_rules::qnt_rm_unused::qnt_rm_unused;
 ghost use Prim.Native.Nat.{min};
 ghost use mathlib.Core.Path.{_≡_};
-ghost use Rattle.sorts.specs.Table.{builtIn};
 ghost use Rattle.descriptions.specs.Index.{Index};
-ghost use Rattle.pool.specs.Check.{checkPool, Indexed, checkTerm};
+ghost use Rattle.pool.specs.Check.{checkPool, Indexed, CheckedTerm};
 ghost use Rattle.answers.specs.Outcome.{answerOf};
 ghost use Rattle.rules.specs.Step.{isRule, ruleOutcome, Step};
 ghost use Rattle.rules.specs.StepWalk.{beforeRule, Judged};
@@ -55,7 +54,7 @@ fn carried(k: usize) -> u32
 // The rule of a code other than 3 on the conclusion at x, which has passed its checks: these rules build nothing.
 fn apply_reading(tags: &[u8], values: &[u32], n: usize, rule: u32, x: TermPlace) -> Answer
     requires { ⌜ (rule ≡ 3 → ⊥) ⌝ }
-    requires { ⌜ checkTerm (now tags) (now values) builtIn n (x .0) .code ≡ 0 ⌝ }
+    requires { ⌜ CheckedTerm (now tags) (now values) n (x .0) ⌝ }
     ensures { λ r. ⌜ r ≡ answerOf (ruleOutcome (now (tags .entry)) (now (values .entry)) n rule (x .0)) ⌝ }
 {
     if rule == JOIN {
@@ -83,7 +82,7 @@ fn apply(
     x: TermPlace,
 ) -> Answer
     requires { ⌜ Index (now tags) (now values) n (now index) ⌝ }
-    requires { ⌜ checkTerm (now tags) (now values) builtIn n (x .0) .code ≡ 0 ⌝ }
+    requires { ⌜ CheckedTerm (now tags) (now values) n (x .0) ⌝ }
     ensures { λ r. ⌜ Judged n rule (answerOf (ruleOutcome (now (tags .entry)) (now (values .entry)) n rule (x .0))) r (now (tags .entry)) (now (values .entry)) (now (tags .exit)) (now (values .exit)) ⌝ }
     ensures { λ _. ⌜ Index (now (tags .entry)) (now (values .entry)) n (now (index .exit)) ⌝ }
 {
@@ -113,20 +112,21 @@ fn before_rule(checked: Answer, tags: &[u8], n: usize, rule: u32, conclusion: &[
     Answer::accepted(0, 0)
 }
 
-// The check of a step in a pool whose own check has answered `checked` and left the index: many steps over one pool ask for that
-// once.
+// The check of a step in a pool whose own check under this table has answered `checked` and left the index: many steps over one pool
+// ask for that once.
 pub fn check_after(
     checked: Answer,
     tags: &mut [u8],
     values: &mut [u32],
+    table: &[u32],
     index: &mut [u32; INDEX],
     count: usize,
     rule: u32,
     conclusion: &[u32],
 ) -> Answer
-    requires { ⌜ checked ≡ checkPool (now tags) (now values) builtIn count ⌝ }
+    requires { ⌜ checked ≡ checkPool (now tags) (now values) (now table) count ⌝ }
     requires { ⌜ Indexed (now tags) (now values) count checked (now index) ⌝ }
-    ensures { λ r. ⌜ Step (now (tags .entry)) (now (values .entry)) builtIn count rule (now (conclusion .entry)) r (now (tags .exit)) (now (values .exit)) ⌝ }
+    ensures { λ r. ⌜ Step (now (tags .entry)) (now (values .entry)) (now (table .entry)) count rule (now (conclusion .entry)) r (now (tags .exit)) (now (values .exit)) ⌝ }
     ensures { λ _. ⌜ Indexed (now (tags .entry)) (now (values .entry)) count checked (now (index .exit)) ⌝ }
 {
     let early = before_rule(checked, tags, count, rule, conclusion);
@@ -148,13 +148,23 @@ pub fn check_after(
 pub fn check(
     tags: &mut [u8],
     values: &mut [u32],
+    table: &[u32],
     count: usize,
     rule: u32,
     conclusion: &[u32],
 ) -> Answer
-    ensures { λ r. ⌜ Step (now (tags .entry)) (now (values .entry)) builtIn count rule (now (conclusion .entry)) r (now (tags .exit)) (now (values .exit)) ⌝ }
+    ensures { λ r. ⌜ Step (now (tags .entry)) (now (values .entry)) (now (table .entry)) count rule (now (conclusion .entry)) r (now (tags .exit)) (now (values .exit)) ⌝ }
 {
     let mut index = [0u32; INDEX];
-    let checked = index_pool(tags, values, count, &mut index);
-    check_after(checked, tags, values, &mut index, count, rule, conclusion)
+    let checked = index_pool(tags, values, table, count, &mut index);
+    check_after(
+        checked,
+        tags,
+        values,
+        table,
+        &mut index,
+        count,
+        rule,
+        conclusion,
+    )
 }

@@ -1,3 +1,2 @@
 pub mod ListRule
 pub mod SortRule
-pub mod Table

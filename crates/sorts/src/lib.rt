@@ -4,4 +4,3 @@ mod list_sorts;
 mod plain;
 mod special;
 mod special_sorts;
-pub mod table;

@@ -1,4 +1,4 @@
-// What check 16 goes by: the table of sort rules, the names of the special rules, and the sorts with at most one part.
+// The names of the special rules that check 16 goes by.
 
 // The operators with a sort rule of their own.
 pub enum Special {

@@ -7,7 +7,6 @@ use Prim.Native.Nat.{ℕ, _-_}
 use mathlib.Core.Path.{_≡_}
 use mathlib.Core.List.{List, [], _∷_, _++_}
 use lib.ListN.{replicate}
-use Rattle.sorts.specs.Table.{builtIn}
 use Rattle.cells.specs.Limits.{cellLimit}
 use Rattle.pool.specs.Check.{checkPool}
 use Rattle.rules.specs.Step.{stepAnswer}
@@ -21,11 +20,11 @@ pub file-bytes : (bytes : List ℕ) (start n : ℕ) → narrowed (cellsFrom byte
 unfolding cellsFrom
 file-bytes bytes start n = narrowed-padded (wordsFrom bytes start n) (cellLimit - n)
 
-module _ (bytes : List ℕ) where
-  pub file-checked : checkPool (narrowed (fileTags bytes)) (fileValues bytes) builtIn (cellCount bytes)
-      ≡ checkPool (fileTags bytes) (fileValues bytes) builtIn (cellCount bytes)
-  file-checked = narrowed-outcomes (fileTags bytes) (fileValues bytes) .pool builtIn (cellCount bytes)
+module _ (bytes table : List ℕ) where
+  pub file-checked : checkPool (narrowed (fileTags bytes)) (fileValues bytes) table (cellCount bytes)
+      ≡ checkPool (fileTags bytes) (fileValues bytes) table (cellCount bytes)
+  file-checked = narrowed-outcomes (fileTags bytes) (fileValues bytes) .pool table (cellCount bytes)
 
-  pub file-answer : (j : ℕ) → stepAnswer (narrowed (fileTags bytes)) (fileValues bytes) builtIn (cellCount bytes) (ruleOf bytes j) (placeOf bytes j ∷ []) ≡ answerTo bytes j
+  pub file-answer : (j : ℕ) → stepAnswer (narrowed (fileTags bytes)) (fileValues bytes) table (cellCount bytes) (ruleOf bytes j) (placeOf bytes j ∷ []) ≡ answerTo bytes table j
   unfolding answerTo
-  file-answer j = narrowed-outcomes (fileTags bytes) (fileValues bytes) .step builtIn (cellCount bytes) (ruleOf bytes j) (placeOf bytes j ∷ [])
+  file-answer j = narrowed-outcomes (fileTags bytes) (fileValues bytes) .step table (cellCount bytes) (ruleOf bytes j) (placeOf bytes j ∷ [])

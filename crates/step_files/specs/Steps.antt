@@ -1,9 +1,8 @@
 -- What the functions of `lines` ask of their arguments.
--- Rests on answers' struct `Answer`, on sorts' Table, on pool's Check, on tag_layouts' Narrowed, and on StepFile.
+-- Rests on answers' struct `Answer`, on pool's Check, on tag_layouts' Narrowed, and on StepFile.
 use Prim.Native.Nat.{ℕ, _≤_}
 use mathlib.Core.Path.{_≡_}
 use mathlib.Core.List.{List}
-use Rattle.sorts.specs.Table.{builtIn}
 use Rattle.pool.specs.Check.{checkPool}
 use Rattle.answers.specs.declared.Answer.{Answer}
 use Rattle.tag_layouts.specs.Narrowed.{narrowed}
@@ -19,8 +18,8 @@ module _ (bytes : List ℕ) (n steps room : ℕ) where
     pub text-fits : 11264 ≤ room
 
   -- the arrays are the file's, the tags as bytes, and the pool check over them has answered `checked`
-  pub record Ready (checked : Answer) (tags values : List ℕ) : Type 0 where
+  pub record Ready (checked : Answer) (tags values table : List ℕ) : Type 0 where
     pub sized : Sized
     pub tags-are : tags ≡ narrowed (fileTags bytes)
     pub values-are : values ≡ fileValues bytes
-    pub checked-is : checked ≡ checkPool tags values builtIn n
+    pub checked-is : checked ≡ checkPool tags values table n

@@ -10,10 +10,10 @@ use lines::answer_steps;
 use lines::wide;
 use pool::Answer;
 
-// Writes the text that answers the file to the front of out, and says how many bytes that is. Nothing is written where out
-// has under 11,264 bytes.
-pub fn answer_file(input: &[u8], out: &mut [u8]) -> usize
-    ensures { λ r. ⌜ Answered (now (input .entry)) (now (out .entry)) r (now (out .exit)) ⌝ }
+// Writes the text that answers the file under the table of sort rules in use to the front of out, and says how many bytes that is. Nothing
+// is written where out has under 11,264 bytes.
+pub fn answer_file(input: &[u8], table: &[u32], out: &mut [u8]) -> usize
+    ensures { λ r. ⌜ Answered (now (input .entry)) (now (table .entry)) (now (out .entry)) r (now (out .exit)) ⌝ }
 {
     if out.len() < 11264 {
         return 0;
@@ -32,5 +32,5 @@ pub fn answer_file(input: &[u8], out: &mut [u8]) -> usize
     if input.len() != 4 * (2 + 2 * wide(n) + 2 * wide(steps)) {
         return put_line(out, 0, 0, Answer::refused(14, 0, 0));
     }
-    answer_steps(input, wide(n), steps, out)
+    answer_steps(input, table, wide(n), steps, out)
 }

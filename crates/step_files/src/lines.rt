@@ -12,7 +12,7 @@ use crate::words::read_words;
 use crate::words::word;
 use crate::words::word_after;
 use pool::Answer;
-use pool::call::index_pool;
+use pool::checks::index_pool;
 use pool::description::zero_from;
 use rules::check::check_after;
 use tag_layouts::narrowing::byte_of;
@@ -62,14 +62,15 @@ fn put_lines(
     checked: Answer,
     tags: &mut [u8],
     values: &mut [u32],
+    table: &[u32],
     index: &mut [u32; 12288],
     n: usize,
     steps: u32,
     out: &mut [u8],
 ) -> usize
-    requires { ⌜ Ready (now input) n steps (length (now out)) checked (now tags) (now values) ⌝ }
+    requires { ⌜ Ready (now input) n steps (length (now out)) checked (now tags) (now values) (now table) ⌝ }
     requires { ⌜ Indexed (now tags) (now values) n checked (now index) ⌝ }
-    ensures { λ r. ⌜ LinePut (lines (now (input .entry)) steps) 11264 0 (now (out .entry)) r (now (out .exit)) ⌝ }
+    ensures { λ r. ⌜ LinePut (lines (now (input .entry)) (now (table .entry)) steps) 11264 0 (now (out .entry)) r (now (out .exit)) ⌝ }
     ensures { λ _. ⌜ (now (tags .exit) ≡ now (tags .entry)) × (now (values .exit) ≡ now (values .entry)) ⌝ }
 {
     let rules = 2 + 2 * n;
@@ -80,7 +81,7 @@ fn put_lines(
         let i = wide(k);
         let rule = word(input, rules + i);
         let conclusion = [word(input, places + i)];
-        let answer = check_after(checked, tags, values, index, n, rule, &conclusion);
+        let answer = check_after(checked, tags, values, table, index, n, rule, &conclusion);
         let number = k + 1;
         at = put_line(out, at, number, answer);
         k = number;
@@ -89,21 +90,28 @@ fn put_lines(
 }
 
 // The pool is checked once.
-pub(crate) fn answer_steps(input: &[u8], n: usize, steps: u32, out: &mut [u8]) -> usize
+pub(crate) fn answer_steps(
+    input: &[u8],
+    table: &[u32],
+    n: usize,
+    steps: u32,
+    out: &mut [u8],
+) -> usize
     requires { ⌜ Sized (now input) n steps (length (now out)) ⌝ }
-    ensures { λ r. ⌜ LinePut (lines (now (input .entry)) steps) 11264 0 (now (out .entry)) r (now (out .exit)) ⌝ }
+    ensures { λ r. ⌜ LinePut (lines (now (input .entry)) (now (table .entry)) steps) 11264 0 (now (out .entry)) r (now (out .exit)) ⌝ }
 {
     let mut tags = [0u8; 8192];
     read_tags(input, 2, n, &mut tags);
     let mut values = [0u32; 8192];
     read_cells(input, 2 + n, n, &mut values);
     let mut index = [0u32; 12288];
-    let checked = index_pool(&tags, &values, n, &mut index);
+    let checked = index_pool(&tags, &values, table, n, &mut index);
     put_lines(
         input,
         checked,
         &mut tags,
         &mut values,
+        table,
         &mut index,
         n,
         steps,

@@ -4,6 +4,7 @@ ghost use mathlib.Core.Path.{_≡_};
 ghost use lib.ListN.{length};
 use libc::STDIN_FILENO;
 use libc::STDOUT_FILENO;
+use sort_table::table::built_in;
 use step_files::answer_file;
 
 // One byte more than the longest step file, 4 * (2 + 2 * 8,192 + 2 * 256): a longer one has a wrong length too.
@@ -22,8 +23,9 @@ fn text_bytes() -> [u8; 11264]
 fn answer(fd: i32) {
     let mut file = file_bytes();
     let n = io::read_full(fd, &mut file);
+    let table = built_in();
     let mut text = text_bytes();
-    let end = answer_file(&file[..n], &mut text);
+    let end = answer_file(&file[..n], &table, &mut text);
     io::write_all(STDOUT_FILENO, &text[..end]);
 }
 

@@ -3,7 +3,7 @@
 -- The tables of sort rules are any.
 --     check-pool-call, check-term-call, sort-call, free-vars-call     these write nothing
 --     normal-form-call, clause-list-call                              these build
---     normal-form-promised, clause-list-promised                      and what their cells say, under the built-in table
+--     normal-form-promised, clause-list-promised                      and what their cells say
 --     step-call                                                       the check of a step
 --     normal-form-size, clause-list-size                              they keep the length of the bytes that they were lent
 --     normal-form-room, clause-list-room                              what writing back asks for
@@ -22,7 +22,6 @@ use borrow.Author.Tests.{eqb-true, eqb-false}
 use Rattle.cells.specs.ByPlace.{by-test}
 use Rattle.cells.specs.Limits.{cellLimit}
 use Rattle.descriptions.specs.Description.{zeroFrom, Cut}
-use Rattle.sorts.specs.Table.{builtIn}
 use Rattle.answers.specs.declared.Answer.{Answer}
 use Rattle.pool.specs.Check.{checkPool, checkTerm}
 use Rattle.pool.specs.Calls.{sortAnswer, FreeVars}
@@ -167,12 +166,12 @@ module _ (tags values bytes : List ℕ) (z : length tags ≡ length values) (k :
           values-are = values-are n r _ _ b left-tags left-values (g .tags-are) (g .values-are) rest tags′ values′ w;
         }
 
-  pub normal-form-promised : (n t : ℕ) (polarity : Bool) (r : Answer) (left-tags left-values : List ℕ)
-      → NormalFormPromise (take k bytes) (take k values) builtIn n t polarity r left-tags left-values
+  pub normal-form-promised : (rules : List ℕ) (n t : ℕ) (polarity : Bool) (r : Answer) (left-tags left-values : List ℕ)
+      → NormalFormPromise (take k bytes) (take k values) rules n t polarity r left-tags left-values
       → (rest tags′ values′ : List ℕ) → BuildWritten r n k tags values left-tags rest left-values tags′ values′
-      → NormalFormPromise tags values builtIn n t polarity r tags′ values′
-  normal-form-promised n t polarity r left-tags left-values f rest tags′ values′ w =
-      normal-form-promise (normal-form-call builtIn n t polarity r left-tags left-values (f .cells) rest tags′ values′ w)
+      → NormalFormPromise tags values rules n t polarity r tags′ values′
+  normal-form-promised rules n t polarity r left-tags left-values f rest tags′ values′ w =
+      normal-form-promise (normal-form-call rules n t polarity r left-tags left-values (f .cells) rest tags′ values′ w)
 
   -- ---- the clause list
   module _ (rules : List ℕ) (n t : ℕ) (literals ends : List ℕ) (r : Answer) (m : ℕ) (left-tags left-values literals′ ends′ : List ℕ)
@@ -207,12 +206,12 @@ module _ (tags values bytes : List ℕ) (z : length tags ≡ length values) (k :
           ends-are = h .ends-are;
         }
 
-  pub clause-list-promised : (n t : ℕ) (literals ends : List ℕ) (r : Answer) (m : ℕ) (left-tags left-values literals′ ends′ : List ℕ)
-      → ClauseListPromise (take k bytes) (take k values) builtIn n t literals ends r m left-tags left-values literals′ ends′
+  pub clause-list-promised : (rules : List ℕ) (n t : ℕ) (literals ends : List ℕ) (r : Answer) (m : ℕ) (left-tags left-values literals′ ends′ : List ℕ)
+      → ClauseListPromise (take k bytes) (take k values) rules n t literals ends r m left-tags left-values literals′ ends′
       → (rest tags′ values′ : List ℕ) → BuildWritten r n k tags values left-tags rest left-values tags′ values′
-      → ClauseListPromise tags values builtIn n t literals ends r m tags′ values′ literals′ ends′
-  clause-list-promised n t literals ends r m left-tags left-values literals′ ends′ f rest tags′ values′ w =
-      clause-list-promise (clause-list-call builtIn n t literals ends r m left-tags left-values literals′ ends′ (f .cells) rest tags′ values′ w)
+      → ClauseListPromise tags values rules n t literals ends r m tags′ values′ literals′ ends′
+  clause-list-promised rules n t literals ends r m left-tags left-values literals′ ends′ f rest tags′ values′ w =
+      clause-list-promise (clause-list-call rules n t literals ends r m left-tags left-values literals′ ends′ (f .cells) rest tags′ values′ w)
 
   -- ---- the check of a step
   module _ (table : List ℕ) (n rule : ℕ) (conclusion : List ℕ) (r : Answer) (left-tags left-values : List ℕ)

@@ -14,7 +14,6 @@ use native.Mathlib.Omega.{arith}
 use Rattle.answers.specs.Answer.{badArrays}
 use Rattle.answers.specs.declared.Answer.{Answer}
 use Rattle.descriptions.specs.Description.{zeroFrom, Cut}
-use Rattle.sorts.specs.Table.{builtIn}
 use Rattle.pool.specs.Check.{checkPool, checkTerm}
 use Rattle.pool.specs.Calls.{sortAnswer, FreeVars}
 use Rattle.normal_form.specs.Promise.{NormalFormPromise, ClauseListPromise}
@@ -41,11 +40,11 @@ module _ (tags values : List ℕ) (r : Answer) (made : r ≡ badArrays) (h : len
   pub free-apart : (rules : List ℕ) (t : ℕ) (marks : List ℕ) → FreeVars tags values rules n t marks r marks
   free-apart rules t marks = rw made (free-unequal tags values h rules n t marks)
 
-  pub normal-form-apart : (t : ℕ) (polarity : Bool) → NormalFormPromise tags values builtIn n t polarity r tags values
-  normal-form-apart t polarity = rw made (normal-form-promise (normal-unequal tags values h builtIn n t polarity))
+  pub normal-form-apart : (rules : List ℕ) (t : ℕ) (polarity : Bool) → NormalFormPromise tags values rules n t polarity r tags values
+  normal-form-apart rules t polarity = rw made (normal-form-promise (normal-unequal tags values h rules n t polarity))
 
-  pub clause-list-apart : (t : ℕ) (literals ends : List ℕ) → ClauseListPromise tags values builtIn n t literals ends r 0 tags values literals ends
-  clause-list-apart t literals ends = rw made (clause-list-promise (clauses-unequal tags values h builtIn n t literals ends))
+  pub clause-list-apart : (rules : List ℕ) (t : ℕ) (literals ends : List ℕ) → ClauseListPromise tags values rules n t literals ends r 0 tags values literals ends
+  clause-list-apart rules t literals ends = rw made (clause-list-promise (clauses-unequal tags values h rules n t literals ends))
 
   pub step-apart : (table : List ℕ) (rule : ℕ) (conclusion : List ℕ) → Step tags values table n rule conclusion r tags values
   step-apart table rule conclusion = rw made (step-unequal tags values h table n rule conclusion)
@@ -65,51 +64,51 @@ module _ (tags values bytes : List ℕ) (k : ℕ) (into : NarrowedInto tags k by
     lent-values = sym (length-take-le k values (omega (arith, into .size)))
 
     -- ---- the normal form
-    module _ (n t : ℕ) (polarity : Bool) (r : Answer) (left-tags left : List ℕ)
-        (f : NormalFormPromise (take k bytes) (take k values) builtIn n t polarity r left-tags left) where
-      pub normal-form-kept : r .code ≡ 30 → NormalFormPromise tags values builtIn n t polarity r tags (left ++ drop k values)
+    module _ (rules : List ℕ) (n t : ℕ) (polarity : Bool) (r : Answer) (left-tags left : List ℕ)
+        (f : NormalFormPromise (take k bytes) (take k values) rules n t polarity r left-tags left) where
+      pub normal-form-kept : r .code ≡ 30 → NormalFormPromise tags values rules n t polarity r tags (left ++ drop k values)
       normal-form-kept e =
-          calls.normal-form-promised tags values bytes z k into n t polarity r left-tags left f left tags _ (calls.build-kept r n k tags values left-tags left left e)
+          calls.normal-form-promised tags values bytes z k into rules n t polarity r left-tags left f left tags _ (calls.build-kept r n k tags values left-tags left left e)
 
       pub normal-form-written : (r .code ≡ 30 → ⊥) → (rest tags′ values′ : List ℕ) → tags′ ≡ writtenBack n tags (take k (left-tags ++ rest))
-          → values′ ≡ zeroFrom k (left ++ drop k values) → NormalFormPromise tags values builtIn n t polarity r tags′ values′
+          → values′ ≡ zeroFrom k (left ++ drop k values) → NormalFormPromise tags values rules n t polarity r tags′ values′
       normal-form-written h rest tags′ values′ t-are v-are =
-          calls.normal-form-promised tags values bytes z k into n t polarity r left-tags left f rest tags′ values′
+          calls.normal-form-promised tags values bytes z k into rules n t polarity r left-tags left f rest tags′ values′
           (calls.build-written r n k tags values left-tags rest left h tags′ values′ t-are v-are)
 
       -- the part of the array of bytes that was lent
       pub normal-form-left : (rest : List ℕ) → k ≤ length (left-tags ++ rest)
-      normal-form-left rest = left-fits k left-tags rest (calls.normal-form-size tags values bytes z k into builtIn n t polarity r left-tags left (f .cells))
+      normal-form-left rest = left-fits k left-tags rest (calls.normal-form-size tags values bytes z k into rules n t polarity r left-tags left (f .cells))
 
       pub normal-form-part : (rest : List ℕ) → k ≡ length (take k (left-tags ++ rest))
       normal-form-part rest = sym (length-take-le k (left-tags ++ rest) (normal-form-left rest))
 
       pub normal-form-back : (r .code ≡ 30 → ⊥) → (rest : List ℕ) → BackFits n tags (take k (left-tags ++ rest))
-      normal-form-back h rest = calls.normal-form-room tags values bytes z k into builtIn n t polarity r left-tags left (f .cells) rest h
+      normal-form-back h rest = calls.normal-form-room tags values bytes z k into rules n t polarity r left-tags left (f .cells) rest h
 
     -- ---- the clause list
-    module _ (n t : ℕ) (literals ends : List ℕ) (r : Answer) (m : ℕ) (left-tags left literals′ ends′ : List ℕ)
-        (f : ClauseListPromise (take k bytes) (take k values) builtIn n t literals ends r m left-tags left literals′ ends′) where
-      pub clause-list-kept : r .code ≡ 30 → ClauseListPromise tags values builtIn n t literals ends r m tags (left ++ drop k values) literals′ ends′
+    module _ (rules : List ℕ) (n t : ℕ) (literals ends : List ℕ) (r : Answer) (m : ℕ) (left-tags left literals′ ends′ : List ℕ)
+        (f : ClauseListPromise (take k bytes) (take k values) rules n t literals ends r m left-tags left literals′ ends′) where
+      pub clause-list-kept : r .code ≡ 30 → ClauseListPromise tags values rules n t literals ends r m tags (left ++ drop k values) literals′ ends′
       clause-list-kept e =
-          calls.clause-list-promised tags values bytes z k into n t literals ends r m left-tags left literals′ ends′ f left tags _
+          calls.clause-list-promised tags values bytes z k into rules n t literals ends r m left-tags left literals′ ends′ f left tags _
           (calls.build-kept r n k tags values left-tags left left e)
 
       pub clause-list-written : (r .code ≡ 30 → ⊥) → (rest tags′ values′ : List ℕ) → tags′ ≡ writtenBack n tags (take k (left-tags ++ rest))
-          → values′ ≡ zeroFrom k (left ++ drop k values) → ClauseListPromise tags values builtIn n t literals ends r m tags′ values′ literals′ ends′
+          → values′ ≡ zeroFrom k (left ++ drop k values) → ClauseListPromise tags values rules n t literals ends r m tags′ values′ literals′ ends′
       clause-list-written h rest tags′ values′ t-are v-are =
-          calls.clause-list-promised tags values bytes z k into n t literals ends r m left-tags left literals′ ends′ f rest tags′ values′
+          calls.clause-list-promised tags values bytes z k into rules n t literals ends r m left-tags left literals′ ends′ f rest tags′ values′
           (calls.build-written r n k tags values left-tags rest left h tags′ values′ t-are v-are)
 
       pub clause-list-left : (rest : List ℕ) → k ≤ length (left-tags ++ rest)
       clause-list-left rest =
-          left-fits k left-tags rest (calls.clause-list-size tags values bytes z k into builtIn n t literals ends r m left-tags left literals′ ends′ (f .cells))
+          left-fits k left-tags rest (calls.clause-list-size tags values bytes z k into rules n t literals ends r m left-tags left literals′ ends′ (f .cells))
 
       pub clause-list-part : (rest : List ℕ) → k ≡ length (take k (left-tags ++ rest))
       clause-list-part rest = sym (length-take-le k (left-tags ++ rest) (clause-list-left rest))
 
       pub clause-list-back : (r .code ≡ 30 → ⊥) → (rest : List ℕ) → BackFits n tags (take k (left-tags ++ rest))
-      clause-list-back h rest = calls.clause-list-room tags values bytes z k into builtIn n t literals ends r m left-tags left literals′ ends′ (f .cells) rest h
+      clause-list-back h rest = calls.clause-list-room tags values bytes z k into rules n t literals ends r m left-tags left literals′ ends′ (f .cells) rest h
 
     -- ---- the check of a step
     module _ (table : List ℕ) (n rule : ℕ) (conclusion : List ℕ) (r : Answer) (left-tags left : List ℕ)

@@ -1,7 +1,7 @@
 -- The pool check does not tell alike pools apart.
 --     wrong-same     16, in pools whose cells below n are the same and pass 14 and 15: it reads the trees
 --     cells-same     14, 15 and 16 in their order
---     fit-alike, pool-alike     30, and the pool check
+--     fit-alike, pool-alike     30, and the pool check: 40 and 41 look at the table alone
 -- Assumes nothing.
 use Prim.Native.Nat.{ℕ, _≤_, _<_, min}
 use mathlib.Core.Path.{_≡_, refl, sym, ap, ap₂, _∙_}
@@ -21,13 +21,14 @@ use Rattle.descriptions.specs.Description.{firstRepeat}
 use Rattle.descriptions.proofs.description.Fills.{well-formed-fills}
 use Rattle.descriptions.proofs.description.Growth.{Same}
 use Rattle.sorts.specs.SortRule.{statesSort, firstWrongSort}
+use Rattle.sort_table.specs.TableAnswer.{tableAnswer}
 use Rattle.meaning.specs.Tree.{tree}
 use Rattle.meaning.proofs.trees.Header.{both}
 use Rattle.meaning.proofs.trees.SortRules.{states-computed, computed-states}
 use Rattle.meaning.proofs.places.SameTree.{tree-kept}
 use Rattle.normal_form.proofs.Repeats.{first-same, repeat-same}
-use Rattle.answers.specs.Answer.{accepted, illFormed, repeated, wrongSort}
-use Rattle.pool.specs.Check.{arraysFit, refuseAt, checkCells, checkPool}
+use Rattle.answers.specs.Answer.{accepted, illFormed, repeated, wrongSort, refuseAt}
+use Rattle.pool.specs.Check.{arraysFit, checkCells, checkPool, andThen}
 use Rattle.tag_layouts.specs.Narrowed.{Alike}
 use Rattle.tag_layouts.proofs.WellFormed.{NarrowSame, bad-same, narrow-same}
 
@@ -123,4 +124,5 @@ module _ (tags values tags′ values′ : List ℕ) (s : Alike tags values tags�
   unfolding checkPool
   pool-alike rules n =
       rw (fit-alike n)
-      (by-test (arraysFit tags values n) (λ e. rw e (cells-same tags values tags′ values′ rules n (used-alike n e))) (λ e. rw e))
+      (by-test (arraysFit tags values n)
+      (λ e. rw e (ap (andThen (tableAnswer rules)) (cells-same tags values tags′ values′ rules n (used-alike n e)))) (λ e. rw e))

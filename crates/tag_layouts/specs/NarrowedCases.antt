@@ -37,8 +37,8 @@ unfolding narrowed narrow firstRepeat repeats find firstHeader firstFrom firstIn
 repeat = refl
 
 -- 14 comes first, and finds the same header in both
-pub both-refused : checkPool (narrowed tags) values [] 3 ≡ checkPool tags values [] 3
-unfolding narrowed narrow checkPool arraysFit checkCells firstBad headerFits boolFirst countFits shapeOf every everyIn firstHeader firstFrom firstIn
+pub both-refused : checkCells (narrowed tags) values [] 3 ≡ checkCells tags values [] 3
+unfolding narrowed narrow checkCells firstBad headerFits boolFirst countFits shapeOf every everyIn firstHeader firstFrom firstIn
 both-refused = refl
 
 -- 16 alone: a table that has a rule for tag 200 and none for tag 255

@@ -1,15 +1,17 @@
 // The calls that users make on a pool whose tags are u32 (document 01's pool). Each narrows the tags that it can look at into a local array of
 // bytes, has the call on bytes work on that, and writes back what the call changed. Numbers that are no tags stay where nothing may change.
+// Each is lent the table of sort rules in use: `built_in` hands out the built-in one, and `load` replaces one.
 pub use normal_form::call::Listed;
 pub use pool::Answer;
 pub use pool::TermPlace;
 use pool::description::zero_from;
 use pool::limits::CELLS;
+pub use sort_table::loading::load;
+pub use sort_table::table::built_in;
 use tag_layouts::narrowing::cut_back;
 use tag_layouts::narrowing::narrow_into;
 use tag_layouts::narrowing::write_back;
 ghost use mathlib.Core.Path.{_≡_};
-ghost use Rattle.sorts.specs.Table.{builtIn};
 ghost use Rattle.pool.specs.Check.{checkPool};
 ghost use Rattle.pool.specs.Calls.{sortAnswer, FreeVars};
 ghost use Rattle.normal_form.specs.Promise.{NormalFormPromise, ClauseListPromise};
@@ -18,58 +20,73 @@ ghost use Rattle.rules.specs.Step.{Step};
 // The code of `qnt_cnf`, the rule that builds.
 const CNF: u32 = 3;
 
-// The pool check: 30, 14, 15, 16.
-pub fn check_pool(tags: &[u32], values: &[u32], n: usize) -> Answer
-    ensures { λ r. ⌜ r ≡ checkPool (now (tags .entry)) (now (values .entry)) builtIn n ⌝ }
+// The pool check: 30, 40, 41, 14, 15, 16.
+pub fn check_pool(tags: &[u32], values: &[u32], table: &[u32], n: usize) -> Answer
+    ensures { λ r. ⌜ r ≡ checkPool (now (tags .entry)) (now (values .entry)) (now (table .entry)) n ⌝ }
 {
     if tags.len() != values.len() {
         return Answer::refused(30, 0, 0);
     }
     let mut bytes = [0u8; CELLS];
     let k = narrow_into(tags, &mut bytes);
-    pool::call::check_pool(&bytes[..k], &values[..k], n)
+    pool::call::check_pool(&bytes[..k], &values[..k], table, n)
 }
 
 // The sort of the term at t: accepted, the sort's place.
-pub fn sort_of_term(tags: &[u32], values: &[u32], n: usize, t: TermPlace) -> Answer
-    ensures { λ r. ⌜ r ≡ sortAnswer (now (tags .entry)) (now (values .entry)) builtIn n (t .0) ⌝ }
+pub fn sort_of_term(tags: &[u32], values: &[u32], table: &[u32], n: usize, t: TermPlace) -> Answer
+    ensures { λ r. ⌜ r ≡ sortAnswer (now (tags .entry)) (now (values .entry)) (now (table .entry)) n (t .0) ⌝ }
 {
     if tags.len() != values.len() {
         return Answer::refused(30, 0, 0);
     }
     let mut bytes = [0u8; CELLS];
     let k = narrow_into(tags, &mut bytes);
-    pool::call::sort_of_term(&bytes[..k], &values[..k], n, t)
+    pool::call::sort_of_term(&bytes[..k], &values[..k], table, n, t)
 }
 
 // The free variables of the term at t: 1 at their places in the lent marks, and 0 elsewhere.
-pub fn free_vars(tags: &[u32], values: &[u32], n: usize, t: TermPlace, marks: &mut [u8]) -> Answer
-    ensures { λ r. ⌜ FreeVars (now (tags .entry)) (now (values .entry)) builtIn n (t .0) (now (marks .entry)) r (now (marks .exit)) ⌝ }
+pub fn free_vars(
+    tags: &[u32],
+    values: &[u32],
+    table: &[u32],
+    n: usize,
+    t: TermPlace,
+    marks: &mut [u8],
+) -> Answer
+    ensures { λ r. ⌜ FreeVars (now (tags .entry)) (now (values .entry)) (now (table .entry)) n (t .0) (now (marks .entry)) r (now (marks .exit)) ⌝ }
 {
     if tags.len() != values.len() {
         return Answer::refused(30, 0, 0);
     }
     let mut bytes = [0u8; CELLS];
     let k = narrow_into(tags, &mut bytes);
-    pool::call::free_vars(&bytes[..k], &values[..k], n, t, marks)
+    pool::call::free_vars(&bytes[..k], &values[..k], table, n, t, marks)
 }
 
 // The normal form of the term at t at a polarity: accepted, its place and the new count.
 pub fn normal_form(
     tags: &mut [u32],
     values: &mut [u32],
+    table: &[u32],
     n: usize,
     t: TermPlace,
     polarity: bool,
 ) -> Answer
-    ensures { λ r. ⌜ NormalFormPromise (now (tags .entry)) (now (values .entry)) builtIn n (t .0) polarity r (now (tags .exit)) (now (values .exit)) ⌝ }
+    ensures { λ r. ⌜ NormalFormPromise (now (tags .entry)) (now (values .entry)) (now (table .entry)) n (t .0) polarity r (now (tags .exit)) (now (values .exit)) ⌝ }
 {
     if tags.len() != values.len() {
         return Answer::refused(30, 0, 0);
     }
     let mut bytes = [0u8; CELLS];
     let k = narrow_into(tags, &mut bytes);
-    let answer = normal_form::call::normal_form(&mut bytes[..k], &mut values[..k], n, t, polarity);
+    let answer = normal_form::call::normal_form(
+        &mut bytes[..k],
+        &mut values[..k],
+        table,
+        n,
+        t,
+        polarity,
+    );
     if answer.code == 30 {
         return answer;
     }
@@ -82,12 +99,13 @@ pub fn normal_form(
 pub fn clause_list(
     tags: &mut [u32],
     values: &mut [u32],
+    table: &[u32],
     n: usize,
     t: TermPlace,
     literals: &mut [u32],
     ends: &mut [u32],
 ) -> Listed
-    ensures { λ r. ⌜ ClauseListPromise (now (tags .entry)) (now (values .entry)) builtIn n (t .0) (now (literals .entry)) (now (ends .entry)) (r .answer) (r .count) (now (tags .exit)) (now (values .exit)) (now (literals .exit)) (now (ends .exit)) ⌝ }
+    ensures { λ r. ⌜ ClauseListPromise (now (tags .entry)) (now (values .entry)) (now (table .entry)) n (t .0) (now (literals .entry)) (now (ends .entry)) (r .answer) (r .count) (now (tags .exit)) (now (values .exit)) (now (literals .exit)) (now (ends .exit)) ⌝ }
 {
     if tags.len() != values.len() {
         return Listed {
@@ -100,6 +118,7 @@ pub fn clause_list(
     let listed = normal_form::call::clause_list(
         &mut bytes[..k],
         &mut values[..k],
+        table,
         n,
         t,
         literals,
@@ -117,18 +136,26 @@ pub fn clause_list(
 pub fn check(
     tags: &mut [u32],
     values: &mut [u32],
+    table: &[u32],
     n: usize,
     rule: u32,
     conclusion: &[u32],
 ) -> Answer
-    ensures { λ r. ⌜ Step (now (tags .entry)) (now (values .entry)) builtIn n rule (now (conclusion .entry)) r (now (tags .exit)) (now (values .exit)) ⌝ }
+    ensures { λ r. ⌜ Step (now (tags .entry)) (now (values .entry)) (now (table .entry)) n rule (now (conclusion .entry)) r (now (tags .exit)) (now (values .exit)) ⌝ }
 {
     if tags.len() != values.len() {
         return Answer::refused(30, 0, 0);
     }
     let mut bytes = [0u8; CELLS];
     let k = narrow_into(tags, &mut bytes);
-    let answer = rules::check::check(&mut bytes[..k], &mut values[..k], n, rule, conclusion);
+    let answer = rules::check::check(
+        &mut bytes[..k],
+        &mut values[..k],
+        table,
+        n,
+        rule,
+        conclusion,
+    );
     if rule != CNF {
         return answer;
     }

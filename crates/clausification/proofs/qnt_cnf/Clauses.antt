@@ -11,7 +11,6 @@ use native.Mathlib.Omega.{arith}
 use borrow.Author.Tests.{eq-eqb}
 use Rattle.cells.specs.declared.TermPlace.{TermPlace}
 use Rattle.cells.specs.ByPlace.{by-test}
-use Rattle.sorts.specs.Table.{builtIn}
 use Rattle.descriptions.proofs.description.Growth.{Same}
 use Rattle.answers.specs.declared.Answer.{Answer}
 use Rattle.meaning.proofs.trees.Passed.{Passed, pool-passes, pool-accepts}
@@ -98,8 +97,8 @@ pub ruleset parts = (all-within, all-within-values, all-part, all-part-values, s
 
 -- ---- the answers
 module _ (tags values : List ℕ) (n l left r right : ℕ) (ask : ForallSides tags values n l left r right) where
-  passed : Passed tags values builtIn n
-  passed = pool-passes tags values builtIn n (pool-accepts tags values builtIn n (ask .passed))
+  passed : Passed tags values (ask .table) n
+  passed = pool-passes tags values (ask .table) n (pool-accepts tags values (ask .table) n (ask .passed))
 
   pub sides-state : State n n tags values
   sides-state = passed-state passed

@@ -11,10 +11,9 @@ use borrow.Author.Tests.{eqb-true, eqb-false, ltb-true, not-true, not-false}
 use Rattle.answers.specs.Answer.{refused}
 use Rattle.cells.specs.declared.TermPlace.{TermPlace}
 use Rattle.cells.specs.ByPlace.{by-test}
-use Rattle.sorts.specs.Table.{builtIn}
 use Rattle.headers.specs.WellFormed.{isTerm}
 use Rattle.descriptions.specs.Description.{Cut}
-use Rattle.pool.specs.Check.{checkPool, andThen as checkThen, checkTerm}
+use Rattle.pool.specs.Check.{checkPool, andThen as checkThen, checkTerm, CheckedTerm}
 use Rattle.answers.specs.declared.Answer.{Answer}
 use Rattle.meaning.proofs.trees.Header.{both}
 use Rattle.meaning.proofs.trees.Passed.{Passed, pool-passes, pool-accepts}
@@ -117,13 +116,15 @@ module _ (tags values : List ℕ) (n x : ℕ) (t : Two) (form : implication tags
         unfolding qntCnf twoIn quantifierIn need guard _>>=_ _>>_
         sides-rest o o′ = rw (form, e, left, q-is, right, q′-is, not-false k o, not-false k′ o′)
 
-        pub sides-are : checkTerm tags values builtIn n x .code ≡ 0 → ForallSides tags values n (l .0) (b .0) (r .0) (b′ .0)
+        pub sides-are : CheckedTerm tags values n x → ForallSides tags values n (l .0) (b .0) (r .0) (b′ .0)
         unfolding twoIn quantifierIn
         sides-are ok =
-            let (pool-ok, term) = term-checked tags values builtIn n x ok in
-            let c : Passed tags values builtIn n = pool-passes tags values builtIn n (pool-accepts tags values builtIn n pool-ok) in
+            let table = ok .table in
+            let (pool-ok, term) = term-checked tags values table n x (ok .passed) in
+            let c : Passed tags values table n = pool-passes tags values table n (pool-accepts tags values table n pool-ok) in
             let (l-term, r-term) = implication-terms c x term (l .0) (r .0) (form ∙ ap twoIn e) in
             record {
+              table = table;
               passed = pool-ok;
               left-place = term-below tags n (l .0) l-term;
               left-body = term-below tags n (b .0) (body-term c (l .0) l-term k _ (b .0) (left ∙ ap (quantifierIn _) q-is));

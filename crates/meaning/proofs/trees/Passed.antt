@@ -10,12 +10,13 @@ use lib.Dec.{eqb, leb}
 use native.Mathlib.Omega.{arith}
 use borrow.Author.Tests.{eqb-true, eqb-false, leb-true, eq-eqb, not-false}
 use Rattle.cells.specs.ByPlace.{by-test}
-use Rattle.answers.specs.Answer.{accepted, illFormed, repeated, wrongSort, notATerm, badArrays}
+use Rattle.answers.specs.Answer.{accepted, illFormed, repeated, wrongSort, notATerm, badArrays, refuseAt}
 use Rattle.cells.specs.Cell.{cellsOf, sortOf, isAt}
 use Rattle.headers.specs.WellFormed.{firstBad, isSortTag, isTermTag, isTerm}
 use Rattle.descriptions.specs.Description.{find, firstRepeat}
 use Rattle.sorts.specs.SortRule.{statesSort, firstWrongSort}
-use Rattle.pool.specs.Check.{arraysFit, refuseAt, checkCells, checkPool, andThen, checkTerm}
+use Rattle.sort_table.specs.TableAnswer.{tableAnswer}
+use Rattle.pool.specs.Check.{arraysFit, checkCells, checkPool, andThen, checkTerm}
 use Rattle.free_variables.specs.Free.{isFree}
 use Rattle.meaning.specs.Term.{Var, stated}
 use Rattle.meaning.specs.FreeTree.{free, varAt}
@@ -40,6 +41,7 @@ pub record Passed (tags values rules : List ℕ) (n : ℕ) : Type 0 where
   pub equal : length tags ≡ length values
   pub whole : n ≤ length values
   pub limit : n ≤ 8192
+  pub loaded : tableAnswer rules .code ≡ 0
   pub some : n ≡ 0 → ⊥
   pub formed : firstBad tags values n ≡ Nothing
   pub single : firstRepeat tags values n ≡ Nothing
@@ -73,15 +75,24 @@ module _ (tags values rules : List ℕ) (n : ℕ) where
       let (b, c) = both (leb n (length tags)) _ f in
       (eqb-true _ _ a, leb-true _ _ b, leb-true _ _ c)
 
-  cells-pass : arraysFit tags values n ≡ true → checkCells tags values rules n ≡ accepted 0 0 → Passed tags values rules n
+  cells-pass : arraysFit tags values n ≡ true → tableAnswer rules .code ≡ 0 → checkCells tags values rules n ≡ accepted 0 0 → Passed tags values rules n
   unfolding checkCells
-  cells-pass fit e =
+  cells-pass fit loaded e =
       let (equal, whole, limit) = arrays-fit fit in
       let (some, e₁) = fails (eqb n 0) (illFormed 0) from14 (λ z. omega arith) e in
       let (formed, e₂) = passes illFormed (λ p z. omega arith) (firstBad tags values n) from15 e₁ in
       let (single, e₃) = passes repeated (λ p z. omega arith) (firstRepeat tags values n) from16 e₂ in
       let (sorted, e₄) = passes wrongSort (λ p z. omega arith) (firstWrongSort tags values rules n) (accepted 0 0) e₃ in
-      record { equal = equal; whole = omega arith; limit = limit; some = eqb-false n 0 some; formed = formed; single = single; sorted = sorted }
+      record {
+        equal = equal;
+        whole = omega arith;
+        limit = limit;
+        loaded = loaded;
+        some = eqb-false n 0 some;
+        formed = formed;
+        single = single;
+        sorted = sorted;
+      }
     where
       from16 : Answer
       from16 = refuseAt wrongSort (firstWrongSort tags values rules n) (accepted 0 0)
@@ -93,22 +104,25 @@ module _ (tags values rules : List ℕ) (n : ℕ) where
       from14 = refuseAt illFormed (firstBad tags values n) from15
 
   pub pool-passes : checkPool tags values rules n ≡ accepted 0 0 → Passed tags values rules n
-  unfolding checkPool
+  unfolding checkPool andThen
   pool-passes e =
-      let (fit, cells) = holds (arraysFit tags values n) _ badArrays (λ z. omega arith) e in
-      cells-pass fit cells
+      let (fit, rest) = holds (arraysFit tags values n) (andThen (tableAnswer rules) (checkCells tags values rules n)) badArrays (λ z. omega arith) e in
+      by-test (eqb (tableAnswer rules .code) 0) (λ l. cells-pass fit (eqb-true _ 0 l) (rw l at rest))
+      (λ l. refused (tableAnswer rules) (eqb-false _ 0 l) (rw l at rest))
 
   -- an acceptance carries no number
   pub pool-accepts : checkPool tags values rules n .code ≡ 0 → checkPool tags values rules n ≡ accepted 0 0
-  unfolding checkPool checkCells
+  unfolding checkPool andThen checkCells
   pool-accepts e =
       by-test (arraysFit tags values n)
-      (λ a. by-test (eqb n 0) (λ b. absurd (other 13 (rw (a, b) at e)))
-      (λ b. rw (a, b)
+      (λ a. by-test (eqb (tableAnswer rules .code) 0)
+      (λ l. by-test (eqb n 0) (λ b. absurd (other 13 (rw (a, l, b) at e)))
+      (λ b. rw (a, l, b)
       (after illFormed (λ p z. omega arith) (firstBad tags values n) _
       (λ e₁. after repeated (λ p z. omega arith) (firstRepeat tags values n) _
       (λ e₂. after wrongSort (λ p z. omega arith) (firstWrongSort tags values rules n) _ (λ e₃. refl) e₂) e₁)
-      (rw (a, b) at e))))
+      (rw (a, l, b) at e))))
+      (λ l. absurd (eqb-false _ 0 l (rw (a, l) at e))))
       (λ a. absurd (other 29 (rw a at e)))
     where
       other : (k : ℕ) → suc k ≡ 0 → ⊥

@@ -8,18 +8,10 @@ use borrow.Author.Tests.{le-leb, lt-leb, eq-eqb, ne-eqb}
 use Rattle.answers.specs.Answer.{accepted, badArrays}
 use Rattle.cells.specs.Cell.{sortOf}
 use Rattle.free_variables.specs.Free.{Marked}
-use Rattle.pool.specs.Check.{checkPool, checkTerm}
+use Rattle.pool.specs.Check.{checkTerm}
 use Rattle.pool.proofs.checks.Laws.{stop, go-on}
 use Rattle.pool.specs.Calls.{sortAnswer, freeAnswer, markLeft, FreeVars}
 use Rattle.answers.specs.declared.Answer.{Answer}
-
--- ---- the table in use
-module _ (tags values rules table : List ℕ) (n : ℕ) (same : rules ≡ table) (a : Answer) where
-  pub pool-by : a ≡ checkPool tags values rules n → a ≡ checkPool tags values table n
-  pool-by e = rw (← same) e
-
-  pub term-by : (t : ℕ) → a ≡ checkTerm tags values rules n t → a ≡ checkTerm tags values table n t
-  term-by t e = rw (← same) e
 
 -- ---- the sort of a term
 module _ (tags values rules : List ℕ) (n t : ℕ) where

@@ -16,13 +16,24 @@ use Rattle.headers.specs.WellFormed.{firstBad, isTerm}
 use Rattle.descriptions.specs.Description.{firstRepeat}
 use Rattle.descriptions.specs.Index.{Indexes}
 use Rattle.sorts.specs.SortRule.{firstWrongSort}
+use Rattle.sort_table.specs.TableAnswer.{tableAnswer}
 use Rattle.pool.specs.Check.{arraysFit, checkCells, checkPool, Indexed, andThen, checkTerm}
 use Rattle.answers.specs.declared.Answer.{Answer}
 use Rattle.cells.specs.declared.Found.{Found}
 use Rattle.cells.specs.declared.Found.the-variants.{At, Nothing}
 use Rattle.cells.proofs.Walks.{first-below}
 
--- ---- 30
+-- ---- a refusal, or what comes next
+module _ (a : Answer) where
+  pub stop : (next : Answer) → (a .code ≡ 0 → ⊥) → a ≡ andThen a next
+  unfolding andThen
+  stop next h = rw (ne-eqb _ _ h)
+
+  pub go-on : (next : Answer) → a .code ≡ 0 → next ≡ andThen a next
+  unfolding andThen
+  go-on next h = rw (eq-eqb _ _ h)
+
+-- ---- 30, and then 40 and 41 of the table in use
 module _ (tags values : List ℕ) (n : ℕ) where
   pub fit-lengths : (length tags ≡ length values → ⊥) → false ≡ arraysFit tags values n
   unfolding arraysFit
@@ -58,13 +69,18 @@ module _ (tags values : List ℕ) (n : ℕ) where
     unfolding checkPool
     pool-arrays rules e made q = rw (← is, not-true r e) q
 
-    pub pool-cells : (rules : List ℕ) → not r ≡ false → (a : Answer) → a ≡ checkCells tags values rules n → a ≡ checkPool tags values rules n
-    unfolding checkPool
-    pool-cells rules e a q = rw (← is, not-false r e, q)
+    module _ (rules : List ℕ) (e : not r ≡ false) (table : Answer) (of-table : table ≡ tableAnswer rules) where
+      pub pool-table : (table .code ≡ 0 → ⊥) → table ≡ checkPool tags values rules n
+      unfolding checkPool
+      pool-table h = rw (← is, not-false r e, ← of-table) (stop table _ h)
+
+      pub pool-cells : table .code ≡ 0 → (a : Answer) → a ≡ checkCells tags values rules n → a ≡ checkPool tags values rules n
+      unfolding checkPool
+      pool-cells h a q = q ∙ rw (← is, not-false r e, ← of-table) (go-on table _ h)
 
 pub ruleset fits = (fit-lengths, fit-short, fit-rest)
 
-pub ruleset pools = (pool-arrays, pool-cells)
+pub ruleset pools = (pool-arrays, pool-table, pool-cells)
 
 -- ---- 14, 15, 16: what the walks found
 module _ (tags values rules : List ℕ) (n : ℕ) where
@@ -110,6 +126,9 @@ module _ (tags values : List ℕ) (n : ℕ) (made : Answer) (index : List ℕ) w
   pub indexed-arrays : made ≡ badArrays → Indexed tags values n made index
   indexed-arrays e = other-code 29 (rw e)
 
+  pub indexed-table : (made .code ≡ 0 → ⊥) → Indexed tags values n made index
+  indexed-table h = record { passed = λ z. absurd (h z) }
+
   pub indexed-right : n ≤ 8192 → (bad : Found) → bad ≡ firstBad tags values n → bad ≡ Nothing → (rep : Found) → rep ≡ firstRepeat tags values n → rep ≡ Nothing
       → Indexes tags values n index → Indexed tags values n made index
   indexed-right small bad is-bad good rep is-rep once i = record { passed = λ z. i .whole small (sym is-bad ∙ good) (sym is-rep ∙ once) }
@@ -121,7 +140,7 @@ module _ (tags values : List ℕ) (n : ℕ) (made : Answer) (index : List ℕ) w
   pub indexed-after : (a : Answer) → a .code ≡ 0 → Indexed tags values n a index → Indexed tags values n made index
   indexed-after a e i = record { passed = λ z. i .passed e }
 
-pub ruleset indexings = (indexed-bad, indexed-repeated, indexed-wrong, indexed-arrays, indexed-right)
+pub ruleset indexings = (indexed-bad, indexed-repeated, indexed-wrong, indexed-arrays, indexed-table, indexed-right)
 
 pub ruleset indexed-terms = (indexed-other, indexed-after)
 
@@ -141,16 +160,6 @@ module _ (tags values rules : List ℕ) (n p : ℕ) (small : n ≤ 8192) (found 
   pub wrong-fits : found ≡ firstWrongSort tags values rules n → Fits w32 p
   unfolding firstWrongSort
   wrong-fits e = fit (first-below values n _ p (sym e ∙ at))
-
--- ---- a refusal, or what comes next
-module _ (a : Answer) where
-  pub stop : (next : Answer) → (a .code ≡ 0 → ⊥) → a ≡ andThen a next
-  unfolding andThen
-  stop next h = rw (ne-eqb _ _ h)
-
-  pub go-on : (next : Answer) → a .code ≡ 0 → next ≡ andThen a next
-  unfolding andThen
-  go-on next h = rw (eq-eqb _ _ h)
 
 module _ (tags values rules : List ℕ) (n t : ℕ) where
   module _ (a : Answer) (is : a ≡ checkPool tags values rules n) where

@@ -15,7 +15,7 @@ use Rattle.headers.specs.WellFormed.{isTerm}
 use Rattle.descriptions.specs.Description.{zeroFrom, Cut}
 use Rattle.answers.specs.Answer.{accepted, refused}
 use Rattle.descriptions.specs.Index.{Index}
-use Rattle.pool.specs.Check.{Indexed, andThen, checkPool, checkTerm}
+use Rattle.pool.specs.Check.{Indexed, andThen, checkPool, checkTerm, CheckedTerm}
 use Rattle.answers.specs.declared.Answer.{Answer}
 use Rattle.meaning.proofs.trees.Header.{both, cells-length, term-tagged}
 use Rattle.meaning.proofs.trees.Passed.{Passed, pool-passes, pool-accepts, header-at}
@@ -98,9 +98,9 @@ module _ (tags values : List ℕ) (n rule x : ℕ) (r : Answer) where
       }
 
 -- ---- a conclusion that passes its checks
-module _ (tags values table : List ℕ) (n x : ℕ) where
+module _ (tags values : List ℕ) (n x : ℕ) where
   -- a term's operand run lies in the pool
-  short : Passed tags values table n → (p : ℕ) → isTerm tags n p ≡ true → length (operandsOf tags values p) ≤ 8192
+  short : {table : List ℕ} → Passed tags values table n → (p : ℕ) → isTerm tags n p ≡ true → length (operandsOf tags values p) ≤ 8192
   unfolding operandsOf isTerm
   short c p t =
       let (a, b) = both (ltb p n) _ t in
@@ -109,9 +109,11 @@ module _ (tags values table : List ℕ) (n x : ℕ) where
       by-test (ltb (getD tags p 0) 22) (λ o. rw o (omega arith)) (λ o. rw (o, length-drop 1 (cellsOf values p)) (omega (arith, h .below, k, c .limit)))
 
   -- so does the left side of an equality
-  pub left-fits : checkTerm tags values table n x .code ≡ 0 → LeftFits tags values x
+  pub left-fits : CheckedTerm tags values n x → LeftFits tags values x
   unfolding checkTerm andThen
-  left-fits e =
+  left-fits checked =
+      let table = checked .table in
+      let e = checked .passed in
       by-test (eqb (checkPool tags values table n .code) 0)
       (λ a. by-test (isTerm tags n x)
       (λ b. let c = pool-passes tags values table n (pool-accepts tags values table n (eqb-true _ 0 a)) in
@@ -178,9 +180,9 @@ module _ (tags values table : List ℕ) (n rule : ℕ) (conclusion : List ℕ) (
     pub one-place : length conclusion ≡ 1
     one-place = passed .2
 
-    pub place-ready : checkTerm tags values table n x .code ≡ 0
+    pub place-ready : CheckedTerm tags values n x
     unfolding checkTerm andThen
-    place-ready = rw (← is, eq-eqb _ _ (passed .0), passed .3)
+    place-ready = record { table = table; passed = rw (← is, eq-eqb _ _ (passed .0), passed .3) }
 
     pub index-ready : (index : List ℕ) → Indexed tags values n a index → Index tags values n index
     index-ready index i = i .passed (passed .0)

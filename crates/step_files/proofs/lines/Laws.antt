@@ -17,7 +17,6 @@ use Rattle.step_files.proofs.words.Words.{length-words, getD-words}
 use Rattle.step_files.proofs.NarrowedTags.{file-answer}
 use Rattle.tag_layouts.specs.Narrowed.{narrow, narrowed}
 use Rattle.tag_layouts.proofs.Alike.{narrowed-at, narrowed-length, narrowed-append, narrowed-padded}
-use Rattle.sorts.specs.Table.{builtIn}
 use Rattle.pool.specs.Check.{checkPool, Indexed}
 use Rattle.answers.specs.declared.Answer.{Answer}
 use Rattle.rules.specs.Step.{cellsLeft, Step}
@@ -138,16 +137,16 @@ module _ (bytes : List ℕ) (start n : ℕ) (fits : n ≤ 8192) where
   tags-left-same tags values table rule conclusion a =
       by-test (eqb rule 3 && not (eqb (a .code) 30)) (λ e. rw e narrowed-cut) (λ e. rw e)
 
-pub made-ready : (bytes : List ℕ) (n steps room : ℕ) (checked : Answer) (tags values : List ℕ) → Sized bytes n steps room
-    → tags ≡ narrowed (cellsFrom bytes 2 n) → values ≡ cellsFrom bytes (2 + n) n → checked ≡ checkPool tags values builtIn n
-    → Ready bytes n steps room checked tags values
-made-ready bytes n steps room checked tags values sized t v c =
+pub made-ready : (bytes : List ℕ) (n steps room : ℕ) (checked : Answer) (tags values table : List ℕ) → Sized bytes n steps room
+    → tags ≡ narrowed (cellsFrom bytes 2 n) → values ≡ cellsFrom bytes (2 + n) n → checked ≡ checkPool tags values table n
+    → Ready bytes n steps room checked tags values table
+made-ready bytes n steps room checked tags values table sized t v c =
     record { sized = sized; tags-are = t ∙ rw (sized .n-is); values-are = v ∙ rw (sized .n-is); checked-is = c }
 
 -- ---- one step
-module _ (bytes : List ℕ) (n steps room : ℕ) (checked : Answer) (tags₀ values₀ : List ℕ) (ready : Ready bytes n steps room checked tags₀ values₀)
+module _ (bytes : List ℕ) (n steps room : ℕ) (checked : Answer) (tags₀ values₀ table : List ℕ) (ready : Ready bytes n steps room checked tags₀ values₀ table)
     (tags values : List ℕ) (same-tags : tags ≡ tags₀) (same-values : values ≡ values₀) where
-  pub checked-now : checked ≡ checkPool tags values builtIn n
+  pub checked-now : checked ≡ checkPool tags values table n
   checked-now = rw (same-tags, same-values) (ready .checked-is)
 
   pub indexed-now : (index : List ℕ) → Indexed tags₀ values₀ n checked index → Indexed tags values n checked index
@@ -158,28 +157,28 @@ module _ (bytes : List ℕ) (n steps room : ℕ) (checked : Answer) (tags₀ val
 
   module _ (k i s rule place : ℕ) (i-is : i ≡ k) (s-is : s ≡ steps) (rule-is : rule ≡ wordAt bytes (2 + 2 * n + i))
       (place-is : place ≡ wordAt bytes (2 + 2 * n + s + i)) (a : Answer) (tags′ values′ : List ℕ)
-      (step : Step tags values builtIn n rule (place ∷ []) a tags′ values′) where
-    pub answer-is : a ≡ answerTo bytes k
-    answer-is = cc (step .answer, file-answer bytes k, ready .tags-are, ready .values-are, ready .sized .n-is, ready .sized .steps-are)
+      (step : Step tags values table n rule (place ∷ []) a tags′ values′) where
+    pub answer-is : a ≡ answerTo bytes table k
+    answer-is = cc (step .answer, file-answer bytes table k, ready .tags-are, ready .values-are, ready .sized .n-is, ready .sized .steps-are)
 
     pub tags-same : tags′ ≡ tags₀
-    tags-same = cc (step .tags-are, tags-left-same bytes 2 n (ready .sized .n-fits) tags values builtIn rule (place ∷ []) a, ready .tags-are, ready .sized .n-is)
+    tags-same = cc (step .tags-are, tags-left-same bytes 2 n (ready .sized .n-fits) tags values table rule (place ∷ []) a, ready .tags-are, ready .sized .n-is)
 
     pub values-same : values′ ≡ values₀
-    values-same = cc (step .values-are, left-same bytes (2 + n) n (ready .sized .n-fits) tags values builtIn rule (place ∷ []) a, ready .values-are, ready .sized .n-is)
+    values-same = cc (step .values-are, left-same bytes (2 + n) n (ready .sized .n-fits) tags values table rule (place ∷ []) a, ready .values-are, ready .sized .n-is)
 
 -- ---- the lines
-pub lines-none : (bytes out : List ℕ) → LinePut (lines bytes 0) (44 * 0) 0 out 0 out
+pub lines-none : (bytes table out : List ℕ) → LinePut (lines bytes table 0) (44 * 0) 0 out 0 out
 unfolding lines
-lines-none bytes out = record { end = refl; short = omega arith; out-is = refl }
+lines-none bytes table out = record { end = refl; short = omega arith; out-is = refl }
 
-module _ (bytes : List ℕ) (k : ℕ) (out₀ : List ℕ) (at : ℕ) (out : List ℕ) (so-far : LinePut (lines bytes k) (44 * k) 0 out₀ at out) where
-  pub lines-next : (a : Answer) (r : ℕ) (out′ : List ℕ) → a ≡ answerTo bytes k → LinePut (line (k + 1) a) 44 at out r out′
-      → LinePut (lines bytes (k + 1)) (44 * (k + 1)) 0 out₀ r out′
+module _ (bytes table : List ℕ) (k : ℕ) (out₀ : List ℕ) (at : ℕ) (out : List ℕ) (so-far : LinePut (lines bytes table k) (44 * k) 0 out₀ at out) where
+  pub lines-next : (a : Answer) (r : ℕ) (out′ : List ℕ) → a ≡ answerTo bytes table k → LinePut (line (k + 1) a) 44 at out r out′
+      → LinePut (lines bytes table (k + 1)) (44 * (k + 1)) 0 out₀ r out′
   unfolding lines
   lines-next a r out′ is p =
       let e : 44 * suc k ≡ 44 * k + 44 = omega arith in
       rw (add-one, e, ← is) (put-append so-far (rw add-one at p))
 
-  pub lines-all : (steps : ℕ) → k ≡ steps → steps ≤ 256 → LinePut (lines bytes steps) 11264 0 out₀ at out
+  pub lines-all : (steps : ℕ) → k ≡ steps → steps ≤ 256 → LinePut (lines bytes table steps) 11264 0 out₀ at out
   lines-all steps e h = record { end = rw (← e) (so-far .end); short = rw (← e) (omega (arith, so-far .short)); out-is = rw (← e) (so-far .out-is) }

@@ -14,6 +14,9 @@ slice-aggregate-read-full c = search needs
 read-full-requires : tie.Need-read-full-requires
 read-full-requires c κs = search needs
 
+built-in-requires : tie.Need-built-in-requires
+built-in-requires c κs = search needs
+
 text-bytes-requires : tie.Need-text-bytes-requires
 text-bytes-requires c κs = search needs
 
@@ -25,6 +28,9 @@ slice-aggregate-answer-file c = search needs
 
 slice-aggregate-answer-file-2 : tie.Need-slice-aggregate-answer-file-2
 slice-aggregate-answer-file-2 c = search needs
+
+slice-aggregate-answer-file-3 : tie.Need-slice-aggregate-answer-file-3
+slice-aggregate-answer-file-3 c = search needs
 
 answer-file-requires : tie.Need-answer-file-requires
 answer-file-requires c κs = search needs
@@ -48,10 +54,12 @@ answer-spec =
     file-bytes-requires
     slice-aggregate-read-full
     read-full-requires
+    built-in-requires
     text-bytes-requires
     array-share-prefix-file
     slice-aggregate-answer-file
     slice-aggregate-answer-file-2
+    slice-aggregate-answer-file-3
     answer-file-requires
     array-share-prefix-text
     slice-aggregate-write-all

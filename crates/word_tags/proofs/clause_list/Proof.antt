@@ -1,5 +1,5 @@
 use native.Mathlib.Omega.{arith}
-use Rattle.tag_layouts.proofs.Exits.{lent-parts, clause-list-left, clause-list-part, clause-list-back, clause-list-exits}
+use Rattle.tag_layouts.proofs.Exits.{lent-parts, clause-list-left, clause-list-part, clause-list-back, clause-list-written, clause-list-exits}
 use borrow.Author.Needs.{needs}
 use Rattle.word_tags.proofs.clause_list.Statement.{statement}
 use Rattle.word_tags.proofs.clause_list.Tie as tie
@@ -48,15 +48,15 @@ returns-2 c = search (clause-list-exits, lent-parts, needs)
 
 array-share-prefix-bytes : tie.Need-array-share-prefix-bytes
 array-share-prefix-bytes c =
-    clause-list-left _ _ _ _ (c .before .before .before .before .before .before .before .before .before .before .before .before .before .before .before .before .narrow-into .ensures) (omega arith) _ _ _ _ _ _ _ _ _ _ (c .before .before .before .before .before .before .before .before .before .before .clause-list .ensures) _
+    clause-list-left _ _ _ _ (c .before .before .before .before .before .before .before .before .before .before .before .before .before .before .before .before .narrow-into .ensures) (omega arith) _ _ _ _ _ _ _ _ _ _ _ (c .before .before .before .before .before .before .before .before .before .before .clause-list .ensures) _
 
 slice-aggregate-write-back : tie.Need-slice-aggregate-write-back
 slice-aggregate-write-back c =
-    clause-list-part _ _ _ _ (c .before .before .before .before .before .before .before .before .before .before .before .before .before .before .before .before .before .narrow-into .ensures) (omega arith) _ _ _ _ _ _ _ _ _ _ (c .before .before .before .before .before .before .before .before .before .before .before .clause-list .ensures) _
+    clause-list-part _ _ _ _ (c .before .before .before .before .before .before .before .before .before .before .before .before .before .before .before .before .before .narrow-into .ensures) (omega arith) _ _ _ _ _ _ _ _ _ _ _ (c .before .before .before .before .before .before .before .before .before .before .before .clause-list .ensures) _
 
 write-back-requires : tie.Need-write-back-requires
 write-back-requires c κs =
-    clause-list-back _ _ _ _ (c .before .before .before .before .before .before .before .before .before .before .before .before .before .before .before .before .before .narrow-into .ensures) (omega arith) _ _ _ _ _ _ _ _ _ _ (c .before .before .before .before .before .before .before .before .before .before .before .clause-list .ensures) (c .before .before .if2 .left) _
+    clause-list-back _ _ _ _ (c .before .before .before .before .before .before .before .before .before .before .before .before .before .before .before .before .before .narrow-into .ensures) (omega arith) _ _ _ _ _ _ _ _ _ _ _ (c .before .before .before .before .before .before .before .before .before .before .before .clause-list .ensures) (c .before .before .if2 .left) _
 
 zero-from-requires : tie.Need-zero-from-requires
 zero-from-requires c κs = search needs
@@ -74,7 +74,8 @@ same-length-8 : tie.Need-same-length-8
 same-length-8 c = search needs
 
 returns-3 : tie.Need-returns-3
-returns-3 c = search (clause-list-exits, lent-parts, needs)
+returns-3 c =
+    clause-list-written _ _ _ _ (c .before .before .before .before .before .before .before .before .before .before .before .before .before .before .before .before .before .before .before .before .before .before .before .before .narrow-into .ensures) (omega (arith, c .before .before .before .before .before .before .before .before .before .before .before .before .before .before .before .before .before .before .before .before .before .before .before .before .before .before .before .if1 .left)) _ _ _ _ _ _ _ _ _ _ _ (c .before .before .before .before .before .before .before .before .before .before .before .before .before .before .before .before .before .before .clause-list .ensures) (c .before .before .before .before .before .before .before .before .before .if2 .left) _ _ _ (c .before .before .before .before .before .before .write-back .ensures) (c .before .before .zero-from .ensures)
 
 pub clause-list-spec : {M : Type 1} → statement M
 clause-list-spec =

@@ -48,7 +48,7 @@ slice-aggregate-write-back c = search (normal-form-exits, lent-parts, needs)
 
 write-back-requires : tie.Need-write-back-requires
 write-back-requires c κs =
-    normal-form-back _ _ _ _ (c .before .before .before .before .before .before .before .before .before .before .before .narrow-into .ensures) (omega arith) _ _ _ _ _ _ (c .before .before .before .before .before .before .before .normal-form .ensures) (λ e. omega arith) _
+    normal-form-back _ _ _ _ (c .before .before .before .before .before .before .before .before .before .before .before .narrow-into .ensures) (omega arith) _ _ _ _ _ _ _ (c .before .before .before .before .before .before .before .normal-form .ensures) (λ e. omega arith) _
 
 zero-from-requires : tie.Need-zero-from-requires
 zero-from-requires c κs = search needs

@@ -7,8 +7,8 @@ use Rattle.rules.proofs.check.check_after.Tie as tie
 before-rule-requires : tie.Need-before-rule-requires
 before-rule-requires c κs = search needs
 
-shared-slice-read-t14 : tie.Need-shared-slice-read-t14
-shared-slice-read-t14 c = let one = one-place _ _ _ _ _ _ _ (c .before .before .before .before .before .before .before .before .pre .0) _ (c .before .before .before .before-rule .ensures) (c .before .if1 .taken) in omega (arith, one)
+shared-slice-read-t15 : tie.Need-shared-slice-read-t15
+shared-slice-read-t15 c = let one = one-place _ _ _ _ _ _ _ (c .before .before .before .before .before .before .before .before .before .pre .0) _ (c .before .before .before .before-rule .ensures) (c .before .if1 .taken) in omega (arith, one)
 
 apply-requires : tie.Need-apply-requires
 apply-requires c κs = (search index-ready, search place-ready)
@@ -51,7 +51,7 @@ check-after-spec =
     tie.close
     (tie.spec
     before-rule-requires
-    shared-slice-read-t14
+    shared-slice-read-t15
     apply-requires
     same-length
     same-length-2

@@ -11,11 +11,11 @@ use Rattle.step_files.proofs.lines.put_lines.Statement.{statement}
 use Rattle.step_files.proofs.lines.put_lines.Tie as tie
 
 abbrev Inv-loop : tie.InvT-loop
-Inv-loop input checked tags₀ values₀ index₀ n steps out₀ rules places at₀ k₀ tags values index out at k =
-    (tags ≡ tags₀) × (values ≡ values₀) × Indexed tags₀ values₀ n checked index × (k ≤ steps) × (length out ≡ length out₀) × LinePut (lines input k) (44 * k) 0 out₀ at out
+Inv-loop input checked tags₀ values₀ table index₀ n steps out₀ rules places at₀ k₀ tags values index out at k =
+    (tags ≡ tags₀) × (values ≡ values₀) × Indexed tags₀ values₀ n checked index × (k ≤ steps) × (length out ≡ length out₀) × LinePut (lines input table k) (44 * k) 0 out₀ at out
 
 abbrev μ-loop : tie.MeasureT-loop
-μ-loop input checked tags₀ values₀ index₀ n steps out₀ rules places at₀ k₀ tags values index out at k = steps - k
+μ-loop input checked tags₀ values₀ table index₀ n steps out₀ rules places at₀ k₀ tags values index out at k = steps - k
 
 mul-rules : tie.Need-mul-rules Inv-loop μ-loop
 mul-rules c = search needs
@@ -30,7 +30,7 @@ add-places : tie.Need-add-places Inv-loop μ-loop
 add-places c = search needs
 
 loop-holds : tie.Need-loop-holds Inv-loop μ-loop
-loop-holds c = (refl, refl, search needs, omega arith, refl, lines-none _ _)
+loop-holds c = (refl, refl, search needs, omega arith, refl, lines-none _ _ _)
 
 wide-requires-2 : tie.Need-wide-requires-2 Inv-loop μ-loop
 wide-requires-2 c κs = search needs
@@ -69,7 +69,7 @@ loop-again c = (
   search indexed-then,
   omega arith,
   omega arith,
-  lines-next _ _ _ _ _ (c .before .before .before .before .before .before .before .before .before .before .before .before .before .before .before .before .before .loop .inv .5) _ _ _ (search answer-is) (c .before .before .put-line .ensures),
+  lines-next _ _ _ _ _ _ (c .before .before .before .before .before .before .before .before .before .before .before .before .before .before .before .before .before .loop .inv .5) _ _ _ (search answer-is) (c .before .before .put-line .ensures),
 )
 
 same-length : tie.Need-same-length Inv-loop μ-loop
@@ -82,7 +82,7 @@ same-length-3 : tie.Need-same-length-3 Inv-loop μ-loop
 same-length-3 c = search needs
 
 returns : tie.Need-returns Inv-loop μ-loop
-returns c = (lines-all _ _ _ _ _ (c .before .loop .inv .5) _ (omega arith) (omega arith), (c .before .loop .inv .0, c .before .loop .inv .1))
+returns c = (lines-all _ _ _ _ _ _ (c .before .loop .inv .5) _ (omega arith) (omega arith), (c .before .loop .inv .0, c .before .loop .inv .1))
 
 pub put-lines-spec : {M : Type 1} → statement M
 put-lines-spec =
