@@ -9,15 +9,14 @@ import pathlib
 
 from call_collections import packed
 from cases import (cases_checks, cases_clauses, cases_clausification, cases_examples, cases_files, cases_free, cases_layouts,
-                   cases_long_lists, cases_miniscope, cases_normal, cases_rules, cases_sorts)
+                   cases_long_lists, cases_miniscope, cases_normal, cases_rules, cases_sorts, cases_tables)
 from pools.layouts import in_bytes, narrowed, narrowed_lines
-from references.reference_program import is_tried, lent_in_bytes, run
+from references.reference_program import BAD, blocks, is_tried, run
 
 CASES = (cases_files, cases_checks, cases_sorts, cases_free, cases_normal, cases_clauses, cases_rules, cases_miniscope, cases_long_lists,
-         cases_clausification, cases_examples, cases_layouts)
+         cases_clausification, cases_examples, cases_layouts, cases_tables)
 CRATE = pathlib.Path(__file__).resolve().parent.parent / 'crates' / 'calls'
 MISSING = 'no-such-file.call'
-BAD = 'bad file\n'
 
 
 def held(name, text, answer, more=None):
@@ -61,7 +60,7 @@ def byte_texts(calls):
     """The same calls with tags lent as bytes, but for those that are."""
     found = {}
     for name, (file, text) in calls.items():
-        if not lent_in_bytes(file):
+        if not blocks(file).in_bytes:
             made, call = byte_call(name.removesuffix('.call'), file, text)
             found[made] = call
     return found

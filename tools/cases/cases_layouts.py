@@ -33,12 +33,12 @@ def blocks():
     yield 'block-102-longest-file', (14, 0, 0), in_bytes(FULL)
     yield 'block-102-longest-file-byte-long', None, in_bytes(FULL) + b'\0'
     yield 'block-102-longest-file-word-long', None, in_bytes(FULL) + bytes(4)
-    # blocks that the program does not have, all of them empty
-    for block in ((100, 0), (101, 0, 0, 0), (103, 0), (104, 0), (105, 0)):
-        yield 'block-%d' % block[0], None, words(*block) + GOOD
+    # empty blocks: a table without entries, and blocks that the program does not have
+    for answer, *block in (((40, 135, 0), 100, 0), (None, 101, 0, 0, 0), (None, 103, 0), (None, 104, 0), (None, 105, 0)):
+        yield 'block-%d' % block[0], answer, words(*block) + GOOD
         yield 'block-%d-word-alone' % block[0], None, words(block[0]) + GOOD
-        yield 'block-%d-before-102' % block[0], None, words(*block) + in_bytes(GOOD)
-        yield 'block-%d-after-102' % block[0], None, in_bytes(words(*block) + GOOD)
+        yield 'block-%d-before-102' % block[0], answer, words(*block) + in_bytes(GOOD)
+        yield 'block-%d-after-102' % block[0], None, words(102, *block) + GOOD
 
 
 def on_cells(name, answer, call, given, left, n, lent=None, **head):

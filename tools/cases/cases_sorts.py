@@ -28,21 +28,20 @@ class Table(Pool):
     def terms(self, letters):
         return [self.by_letter[letter] for letter in letters]
 
+    def described(self, sort):
+        """The place of a sort: (name of a sort, cells as letters of variables of the sort or numbers), or a letter."""
+        if isinstance(sort, str):
+            return self.sort_of(self.by_letter[sort])
+        head, *cells = sort
+        return self.sort(head, *(c if isinstance(c, int) else self.described(c) for c in cells))
 
-def case(name, tag, letters, sort):
-    """`sort` is (name of a sort, cells as letters of variables of the sort or numbers), or a letter."""
+
+def case(name, tag, letters, sort, table=None):
     pool = Table()
-
-    def place(described):
-        if isinstance(described, str):
-            return pool.sort_of(pool.by_letter[described])
-        head, *cells = described
-        return pool.sort(head, *(c if isinstance(c, int) else place(c) for c in cells))
-
-    stated = 0 if sort is None else place(sort)
+    stated = 0 if sort is None else pool.described(sort)
     term = pool.header(tag, stated, *pool.terms(letters))
     answer = (16, term, 0) if sort is None else (0, stated, 0)
-    return name, answer, call_file(1, pool.tags, pool.values, place=term)
+    return name, answer, call_file(1, pool.tags, pool.values, place=term, table=table)
 
 
 def operators():

@@ -14,7 +14,7 @@ import tempfile
 
 from call_collections import unpacked
 from pools.layouts import in_bytes, narrowed, narrowed_lines
-from references.reference_program import BUILT, call_of, lent_in_bytes, run
+from references.reference_program import BAD, BUILT, blocks, call_of, run
 
 DATA = pathlib.Path(__file__).resolve().parents[2] / 'crates' / 'calls' / 'data'
 BATCH = 20  # pools to a run of `calls`
@@ -22,9 +22,10 @@ LET = 27
 
 
 def test_files(*calls):
-    """The test files of these calls with u32 tags: name, bytes, and of the head the count and the word after it."""
+    """The test files of these calls that have no blocks, so u32 tags and the built-in table: name, bytes, and of the head the count
+    and the word after it."""
     for name, file in sorted(call for path in DATA.glob('*.calls') for call in unpacked(path.read_bytes())):
-        if not lent_in_bytes(file) and call_of(file) in calls and run(file) != 'bad file\n':
+        if blocks(file).call == 0 and call_of(file) in calls and run(file) != BAD:
             yield name, file, *struct.unpack('<2I', file[12:20])
 
 
@@ -48,7 +49,7 @@ def loader_stops(lines):
 
 class Compared:
     def __init__(self, options):
-        self.oracle, self.calls = os.path.abspath(options.oracle), options.calls and os.path.abspath(options.calls)
+        self.oracle, self.calls = (program and os.path.abspath(program) for program in (options.oracle, options.calls))
         self.seed, self.rng = options.seed, random.Random(options.seed)
         self.count = collections.Counter()
 

@@ -5,6 +5,8 @@
 
 Variables are one letter: i, j and k are of sort Int, f of sort Function(Bool, Bool), P, Q and R of sort Function(Int, Bool),
 the others Bool; x' is of the name x and of sort Int. A binder has a list of variables, a let one of (variable value).
+
+Where a table of sort rules is given, the pool's sorts are computed by it and the call is lent it.
 """
 from pools.packed_pool import BINDER_TAG, Pool, call_file
 from references.reference_program import printed
@@ -31,8 +33,8 @@ def parsed(text):
 
 
 class Formulas(Pool):
-    def __init__(self, *texts):
-        super().__init__()
+    def __init__(self, *texts, table=None):
+        super().__init__(table)
         self.integer = self.sort('Int')
         for text in texts:
             self.root = self.read(text)
@@ -84,17 +86,17 @@ def lent(numbers, size):
     return numbers + [0] * (size - len(numbers))
 
 
-def normal(name, text, polarity, new=(), result=None, room=None, stands=()):
+def normal(name, text, polarity, new=(), result=None, room=None, stands=(), table=None):
     """Call 3 on a formula: the new terms in order; the last is the result unless it is given. `stands` are formulas
     that the pool has before it, `room` the cells past the count, by default some more than are needed."""
-    pool = Formulas(*stands, text)
+    pool = Formulas(*stands, text, table=table)
     n = len(pool.tags)
     pool.grow(new)
     count = len(pool.tags)
     place = pool.read(result or new[-1])
     assert len(pool.tags) == count
     given, left = cells_after(pool, n, count + 5 if room is None else n + room)
-    return (name, (0, place, count), call_file(3, *given, n, pool.root, polarity),
+    return (name, (0, place, count), call_file(3, *given, n, pool.root, polarity, table=table),
             printed((0, place, count, 0), **left))
 
 
@@ -105,9 +107,9 @@ def normal_refused(name, text, polarity, room, answer=(31, 0, 0)):
     return name, answer, call_file(3, *given, n, pool.root, polarity), printed((*answer, 0), **left)
 
 
-def clausal(name, text, clauses, new=(), room=None, stands=(), sizes=(8192, 2048), polarity=1):
+def clausal(name, text, clauses, new=(), room=None, stands=(), sizes=(8192, 2048), polarity=1, table=None):
     """Call 4 on a formula: the clauses as lists of literals, and the new terms in order."""
-    pool = Formulas(*stands, text)
+    pool = Formulas(*stands, text, table=table)
     n = len(pool.tags)
     pool.grow(new)
     count = len(pool.tags)
@@ -116,7 +118,7 @@ def clausal(name, text, clauses, new=(), room=None, stands=(), sizes=(8192, 2048
     assert len(pool.tags) == count
     given, left = cells_after(pool, n, count + 5 if room is None else n + room)
     answer = 0, len(clauses), len(literals), count
-    return (name, answer, call_file(4, *given, n, pool.root, polarity, *sizes),
+    return (name, answer, call_file(4, *given, n, pool.root, polarity, *sizes, table=table),
             printed(answer, **left, literals=lent(literals, sizes[0]), ends=lent(ends, sizes[1])))
 
 
@@ -137,7 +139,7 @@ def carried(pool, conclusion, code, position, what):
     return conclusion if what == WHOLE else pool.there(what)
 
 
-def step_on(name, pool, conclusion, rule, code=0, *numbers, room=None):
+def step_on(name, pool, conclusion, rule, code=0, *numbers, room=None, table=None):
     """Call 0 on a pool, in arrays with so many cells past it: what they hold is left, and by rule 3 zeroed."""
     n = len(pool.tags)
     if room is None:
@@ -147,7 +149,7 @@ def step_on(name, pool, conclusion, rule, code=0, *numbers, room=None):
     given, left = cells_after(pool, n, n + room)
     if rule != 3:
         left = dict(zip(left, given))
-    return (name, answer, call_file(0, *given, n, rule, conclusion=[conclusion]), printed((*answer, 0), **left))
+    return (name, answer, call_file(0, *given, n, rule, conclusion=[conclusion], table=table), printed((*answer, 0), **left))
 
 
 def step(rule, name, text, code=0, *numbers, room=None):

@@ -2,21 +2,23 @@
 import struct
 
 from pools.packed_pool import words
-from references.reference_program import BYTE_TAGS
+from references.reference_program import BYTE_TAGS, blocks, head_of
 
 LAST = 255  # the largest byte, which is no tag
 
 
 def in_bytes(file):
-    """The call file after the block that has its tags lent as bytes."""
-    return words(BYTE_TAGS) + file
+    """The call file after the block that has its tags lent as bytes, which stands after block 100."""
+    end = blocks(file).table_end
+    return file[:end] + words(BYTE_TAGS) + file[end:]
 
 
 def narrowed(file):
     """The call file with the largest byte for every tag over it."""
-    t, = struct.unpack('<I', file[4:8])
-    end = 32 + 4 * t
-    return file[:32] + words(*(min(tag, LAST) for tag in struct.unpack('<%dI' % t, file[32:end]))) + file[end:]
+    call = blocks(file).call
+    start, t = call + 32, head_of(file, call).t
+    end = start + 4 * t
+    return file[:start] + words(*(min(tag, LAST) for tag in struct.unpack('<%dI' % t, file[start:end]))) + file[end:]
 
 
 def narrowed_lines(lines):

@@ -7,10 +7,12 @@
 
 A description that is there already gives its place. A stated sort is the computed one unless `sort=` says
 otherwise; NoAnswer is raised where there is none. `packed` makes arrays of headers as they are.
+Pool(table) computes sorts by another table than the built-in one, and call_file(.., table=table) lends it.
 """
 import struct
 
-from references.reference import NoAnswer, OPERATORS, Sorts, place_of
+from references.reference import BUILT_IN, NoAnswer, OPERATORS, Sorts, place_of
+from references.reference_program import TABLE
 
 OPERATOR_TAG = {name: 32 + code for code, name in enumerate(OPERATORS)}
 SORT_TAG = {name: 1 + i for i, name in enumerate(
@@ -20,8 +22,9 @@ BINDER_TAG = {'forall': 23, 'exists': 24, 'choice': 25, 'lambda': 26}
 
 
 class Pool:
-    def __init__(self):
+    def __init__(self, table=None):
         self.tags, self.values, self.index = [], [], {}
+        self.table = BUILT_IN if table is None else table
         self.header(1)
 
     def header(self, tag, *cells):
@@ -45,7 +48,7 @@ class Pool:
 
     def term(self, tag, *cells, sort=None):
         if sort is None:
-            sort = self.made(Sorts(self.tags, self.values).computed(tag, cells))
+            sort = self.made(Sorts(self.tags, self.values, self.table).computed(tag, cells))
         return self.header(tag, sort, *cells)
 
     def var(self, name, sort=0):
@@ -83,12 +86,13 @@ def words(*numbers):
     return struct.pack('<%dI' % len(numbers), *numbers)
 
 
-def call_file(call, tags, values, n=None, place=0, polarity=0, x=None, y=0, conclusion=()):
+def call_file(call, tags, values, n=None, place=0, polarity=0, x=None, y=0, conclusion=(), table=None):
     """The bytes of a call file; n is all of the tags unless it is given. Call 0 has its rule for the place and its
-    conclusion after the values: X is the number of these places unless it is given."""
+    conclusion after the values: X is the number of these places unless it is given. A table stands before the call, in block 100."""
     n = len(tags) if n is None else n
     x = len(conclusion) if x is None else x
-    return words(call, len(tags), len(values), n, place, polarity, x, y, *tags, *values, *conclusion)
+    block = [] if table is None else [TABLE, len(table), *table]
+    return words(*block, call, len(tags), len(values), n, place, polarity, x, y, *tags, *values, *conclusion)
 
 
 def step_file(tags, values, steps=()):

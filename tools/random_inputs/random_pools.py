@@ -12,8 +12,8 @@ LIKED = {**{name: (6, 7) for name in BIT_VECTORS}, 'BvConcat': (6, 7), 'Select':
 
 
 class RandomPool(Pool):
-    def __init__(self, rng, size, lets=False):
-        super().__init__()
+    def __init__(self, rng, size, lets=False, table=None):
+        super().__init__(table)
         self.rng, self.lets, self.sorts, self.terms = rng, lets, [0], []
         for _ in range(size):
             self.grow(self.random_sort, rng.choice((0, 0, 0, 1)) or not self.terms)

@@ -1,7 +1,7 @@
 """Random steps: conclusions that a rule accepts, and such with a slip or a few changes, so that every refusal comes up.
 
-    p = RandomSteps(rng, size, count, lets)     a pool, with lets if they are wanted, and p.steps, pairs of a rule and a place
-    near_step(rng)                              a pool with a step of rule 3 whose clause list is about as long as it may be
+    p = RandomSteps(rng, size, count, lets, table)     a pool, with lets if they are wanted, and p.steps, pairs of a rule and a place
+    near_step(rng)                                     a pool with a step of rule 3 whose clause list is about as long as it may be
 
 A conclusion is first a form: the place of a term, [operator, form, ..], [binder, pairs, form] or ['let', pairs, form]. Its
 leaves are terms of a random pool (random_pools.py): shared terms, binders that shadow, lets, choices, lambdas, odd
@@ -26,8 +26,8 @@ def parts(form):
 
 
 class RandomSteps(RandomFormulas):
-    def __init__(self, rng, size, count, lets=False):
-        super().__init__(rng, size, lets)
+    def __init__(self, rng, size, count, lets=False, table=None):
+        super().__init__(rng, size, lets, table)
         self.leaves = list(self.terms)
         self.free = self.free_pairs()
         self.steps = []

@@ -1,15 +1,20 @@
-"""The calls `sort` and `free variables` and the checks before them, straight from document 01 and, for let, S-3 of document 02.
+"""The calls `sort`, `free variables` and `load a table` and the checks before them, straight from document 01 and, of document 02,
+from S-2 for tables of sort rules and S-3 for let.
 
 An independent reading, for the expected outputs: nothing here is taken from the Rattle code.
 
-    check(tags, values, n)                    (code, first, second): checks 30, 14, 15, 16
-    sort_call(tags, values, n, t)             the same for call 1, then 17 and the sort's place
-    free_call(tags, values, n, t, marks)      the same for call 2; `marks`, a list, is changed
-    first_trouble(tags, values, n)            14, 15 and 16 in one pass, as the Rust loader meets them
+    check(tags, values, n, table)                  (code, first, second): checks 30, 40, 41, 14, 15, 16
+    sort_call(tags, values, n, t, table)           the same for call 1, then 17 and the sort's place
+    free_call(tags, values, n, t, marks, table)    the same for call 2; `marks`, a list, is changed
+    load_call(entries, table)                      call 5; `table`, a list, is changed
+    first_trouble(tags, values, n)                 14, 15 and 16 in one pass, as the Rust loader meets them
 
+Every call that is lent a table is lent the built-in one where none is given.
 A computed sort is the place of a header (int), or a description (tag, cell, ..) in which a cell may
 be a description in turn.
 """
+from functools import partial
+
 LIMIT = 8192
 
 OPERATORS = """True False Not Implies And Or Xor Equals Distinct Ite Add Sub Mult IntDiv RealDiv Mod
@@ -103,7 +108,10 @@ FIRST = set("Abs Store SetUnion SetInter SetMinus SetComplement RelTclosure".spl
 SECOND = {'Ite', 'BvIte'}
 BIT_VECTORS = set("""BvAdd BvSub BvNot BvNeg BvAnd BvOr BvMul BvUDiv BvURem BvShl BvLShr BvNAnd BvNOr BvXor
 BvXNor BvSDiv BvSRem BvSMod BvAShr""".split())
-NULLARY = ((BOOL, 1), (INT, 2), (REAL, 3), (STRING, 4), (REGLAN, 5))
+# rules 0 to 6, and 7 for the operators that none of them describes
+SORT_RULES = BOOL, INT, REAL, STRING, REGLAN, FIRST, SECOND
+SPECIAL = len(SORT_RULES)
+BUILT_IN = tuple(next((rule for rule, names in enumerate(SORT_RULES) if name in names), SPECIAL) for name in OPERATORS)
 
 
 class NoAnswer(Exception):
@@ -111,10 +119,10 @@ class NoAnswer(Exception):
 
 
 class Sorts:
-    """`compute_sort` over the stated sorts of the operands."""
+    """`compute_sort` over the stated sorts of the operands, by a table that loads."""
 
-    def __init__(self, tags, values):
-        self.tags, self.values = tags, values
+    def __init__(self, tags, values, table=BUILT_IN):
+        self.tags, self.values, self.table = tags, values, table
 
     def cells(self, p):
         return list(self.values[p + 1:p + 1 + self.values[p]])
@@ -151,7 +159,7 @@ class Sorts:
             return (10, *cells[2::2], self.of(cells, 0))
         if tag == 27:
             return self.of(cells, 0)
-        return self.operator(OPERATORS[tag - 32], cells)
+        return self.operator(tag - 32, cells)
 
     def application(self, function, arguments):
         if self.tags[self.of([function], 0)] != 10:
@@ -163,14 +171,12 @@ class Sorts:
             return entries[-1]
         return (10, *entries[len(arguments):])
 
-    def operator(self, name, terms):
-        for group, tag in NULLARY:
-            if name in group:
-                return (tag,)
-        if name in FIRST:
-            return self.of(terms, 0)
-        if name in SECOND:
-            return self.of(terms, 1)
+    def operator(self, code, terms):
+        rule, name = self.table[code], OPERATORS[code]
+        if rule < 5:
+            return (rule + 1,)
+        if rule < SPECIAL:
+            return self.of(terms, rule - 5)
         if name in BIT_VECTORS:
             return self.bit_vectors(terms)
         return getattr(self, name)(terms)
@@ -251,30 +257,58 @@ def place_of(index, sort):
     return index.get((sort[0], tuple(place_of(index, c) if isinstance(c, tuple) else c for c in sort[1:])))
 
 
-def wrong_sort(tags, values, index, tag, cells):
+def wrong_sort(tags, values, index, tag, cells, table=BUILT_IN):
     if tag < 16 or tag == 21:
         return False
     try:
-        return place_of(index, Sorts(tags, values).computed(tag, cells[1:])) != cells[0]
+        return place_of(index, Sorts(tags, values, table).computed(tag, cells[1:])) != cells[0]
     except NoAnswer:
         return True
 
 
-def first_wrong_sort(tags, values, n):
+def first_wrong_sort(tags, values, n, table):
     index = {(tag, cells): p for p, tag, cells in headers(tags, values, n)}
     for p, tag, cells in headers(tags, values, n):
-        if wrong_sort(tags, values, index, tag, cells):
+        if wrong_sort(tags, values, index, tag, cells, table):
             return p
     return None
 
 
+# ---- 40 and 41: tables of sort rules
+MUST_BE_BOOL = [OPERATORS.index(name) for name in ('Not', 'Implies', 'And', 'Or', 'Equals')]
+
+
+def table_answer(entries):
+    """40 over the whole table, then 41."""
+    if len(entries) != len(BUILT_IN):
+        return 40, len(BUILT_IN), 0
+    for i, (rule, built_in) in enumerate(zip(entries, BUILT_IN)):
+        if rule > SPECIAL or rule == SPECIAL != built_in:
+            return 40, i, 0
+    for i in MUST_BE_BOOL:
+        if entries[i] != 0:
+            return 41, i, 0
+    return 0, 0, 0
+
+
 # ---- the calls
-def check(tags, values, n):
+def load_call(entries, table):
+    """`table` is the one in use."""
+    answer = table_answer(entries)
+    if answer[0] == 0:
+        table[:] = entries
+    return answer
+
+
+def check(tags, values, n, table=BUILT_IN):
     if len(tags) != len(values) or n > len(tags) or n > LIMIT:
         return 30, 0, 0
+    answer = table_answer(table)
+    if answer[0]:
+        return answer
     if n == 0:
         return 14, 0, 0
-    for code, first in ((14, first_bad), (15, first_repeat), (16, first_wrong_sort)):
+    for code, first in ((14, first_bad), (15, first_repeat), (16, partial(first_wrong_sort, table=table))):
         p = first(tags, values, n)
         if p is not None:
             return code, p, 0
@@ -286,15 +320,15 @@ def is_term(tags, n, t):
     return t < n and tags[t] >= 16
 
 
-def check_term(tags, values, n, t):
-    answer = check(tags, values, n)
+def check_term(tags, values, n, t, table):
+    answer = check(tags, values, n, table)
     if answer[0] == 0 and not is_term(tags, n, t):
         return 17, t, 0
     return answer
 
 
-def sort_call(tags, values, n, t):
-    answer = check_term(tags, values, n, t)
+def sort_call(tags, values, n, t, table=BUILT_IN):
+    answer = check_term(tags, values, n, t, table)
     return answer if answer[0] else (0, values[t + 1], 0)
 
 
@@ -321,10 +355,10 @@ def free_variables(tags, values, n, by_name=False, let_values=True):
     return free
 
 
-def free_call(tags, values, n, t, marks):
+def free_call(tags, values, n, t, marks, table=BUILT_IN):
     if len(marks) < n:
         return 30, 0, 0
-    answer = check_term(tags, values, n, t)
+    answer = check_term(tags, values, n, t, table)
     if answer[0] != 30:
         marks[:] = [0] * len(marks)
     if answer[0] == 0:

@@ -2,15 +2,15 @@
 
 An independent reading, for the expected outputs: nothing here is taken from the Rattle code.
 
-    normal_call(tags, values, n, t, polarity)            call 3: (code, first, second)
-    clause_call(tags, values, n, t, literals, ends)      call 4: (code, first, second, new count); lists are changed
+    normal_call(tags, values, n, t, polarity, table)            call 3: (code, first, second)
+    clause_call(tags, values, n, t, literals, ends, table)      call 4: (code, first, second, new count); lists are changed
 
-and their parts over a `Growing` pool: normal_form, taken_out, taken_variables, empty_or, totals, clauses. Every walk
-visits a place, or a place with a polarity, once however terms are shared.
+under a table of sort rules as in reference.py, and their parts over a `Growing` pool: normal_form, taken_out, taken_variables,
+empty_or, totals, clauses. Every walk visits a place, or a place with a polarity, once however terms are shared.
 """
 from collections import namedtuple
 
-from references.reference import LIMIT, check_term, headers
+from references.reference import BUILT_IN, LIMIT, check_term, headers
 
 FORALL, EXISTS = 23, 24
 NOT, IMPLIES, AND, OR, EQUALS, ITE = 34, 35, 36, 37, 39, 41
@@ -190,8 +190,8 @@ def cleared(array, start):
     array[start:] = [0] * (len(array) - start)
 
 
-def normal_call(tags, values, n, t, polarity):
-    answer = check_term(tags, values, n, t)
+def normal_call(tags, values, n, t, polarity, table=BUILT_IN):
+    answer = check_term(tags, values, n, t, table)
     if answer[0] == 30:
         return answer
     count = n
@@ -208,10 +208,10 @@ def normal_call(tags, values, n, t, polarity):
     return answer
 
 
-def clause_call(tags, values, n, t, literals, ends):
+def clause_call(tags, values, n, t, literals, ends, table=BUILT_IN):
     if len(literals) < MOST_LITERALS or len(ends) < MOST_CLAUSES:
         return 30, 0, 0, 0
-    answer = check_term(tags, values, n, t)
+    answer = check_term(tags, values, n, t, table)
     if answer[0] == 30:
         return *answer, 0
     count, found = 0, []

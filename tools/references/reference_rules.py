@@ -1,9 +1,10 @@
-"""The check of a step, straight from document 01: checks 30, 14, 15, 16, 18, 1, 17, and then the rule.
+"""The check of a step, straight from document 01: checks 30, 14, 15, 16, 18, 1, 17, and then the rule; after 30 checks 40 and 41 of
+document 02's S-2.
 
 An independent reading, for the expected outputs: nothing here is taken from the Rattle code. The forms of rules 4, 5 and
 6 are those of the Alethe specification.
 
-    check(tags, values, n, rule, conclusion)    (code, first, second); `conclusion` is a list of places
+    check(tags, values, n, rule, conclusion, table)    (code, first, second); `conclusion` is a list of places, `table` one of sort rules
 
 Rule 3 zeroes both lists from n on with every answer but 30; the other rules, and a code that is no rule's, change nothing.
 A rule is a function of a `Checked` pool and the conclusion's place. It returns where it accepts and raises `Refused`
@@ -191,16 +192,16 @@ RULES = {1: qnt_join, 2: qnt_rm_unused, 3: qnt_cnf, 4: miniscope_distribute, 5: 
 
 
 # ---- the call
-def check(tags, values, n, rule, conclusion):
-    answer = step_answer(tags, values, n, rule, conclusion)
+def check(tags, values, n, rule, conclusion, table=reference.BUILT_IN):
+    answer = step_answer(tags, values, n, rule, conclusion, table)
     if rule == 3 and answer[0] != 30:
         cleared(tags, n)
         cleared(values, n)
     return answer
 
 
-def step_answer(tags, values, n, rule, conclusion):
-    answer = reference.check(tags, values, n)
+def step_answer(tags, values, n, rule, conclusion, table):
+    answer = reference.check(tags, values, n, table)
     if answer[0]:
         return answer
     return checked_answer(Checked(tags, values, n), rule, conclusion)

@@ -1,8 +1,10 @@
 """What the program `steps` prints on a step file, by the reference.
 
-    run(file)                             the text
+    run(file, table)                      the text
     read(file)                            tags, values and steps (rule, place); raises BadFile with the answer's code
-    answers(tags, values, steps)          the answer to each step, in arrays of 8,192 cells
+    answers(tags, values, steps, table)   the answer to each step, in arrays of 8,192 cells
+
+The table of sort rules is the one that is lent: the program `steps` lends the built-in one, as is done here where none is given.
 """
 import struct
 
@@ -28,11 +30,11 @@ def read(file):
     return numbers[:n], numbers[n:2 * n], list(zip(numbers[2 * n:2 * n + r], numbers[2 * n + r:]))
 
 
-def answers(tags, values, steps):
+def answers(tags, values, steps, table=reference.BUILT_IN):
     """The pool is checked once for all steps, since none changes a cell below the count."""
     n = len(tags)
     arrays = tags + [0] * (reference.LIMIT - n), values + [0] * (reference.LIMIT - n)
-    trouble = reference.check(*arrays, n)
+    trouble = reference.check(*arrays, n, table)
     if trouble[0]:
         return [trouble for _ in steps]
     shared = Checked(*arrays, n)
@@ -46,9 +48,9 @@ def own_pool(shared):
     return pool
 
 
-def run(file):
+def run(file, table=reference.BUILT_IN):
     try:
-        found = answers(*read(file))
+        found = answers(*read(file), table)
     except BadFile as bad:
         return '0 %d 0 0\n' % bad.args
     return ''.join('%d %d %d %d\n' % (k, *answer) for k, answer in enumerate(found, 1))

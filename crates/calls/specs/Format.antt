@@ -1,4 +1,6 @@
--- The layout of a call file, over the list of its bytes: u32 little-endian words. The word 102 may stand first: tags are lent as bytes (S-9).
+-- The layout of a call file, over the list of its bytes: u32 little-endian words. Blocks may stand first.
+--     100, L, L entries     the table of sort rules in use (S-2)
+--     102                   tags are lent as bytes (S-9)
 -- Then eight words say what follows.
 --     call, T, V, N, rule or place, polarity, X, Y; then T tags and V values, and in a call 0 the X places of the conclusion
 -- Rests on step_files' Words and on the struct `Head`.
@@ -10,11 +12,24 @@ use lib.Dec.{leb, eqb}
 use Rattle.step_files.specs.Words.{wordAt}
 use Rattle.calls.specs.declared.call_files.Head.{Head}
 
--- the file begins with the block that has tags lent as bytes
-unfoldable pub lentInBytes : List ℕ → Bool
-lentInBytes bytes = eqb (wordAt bytes 0) 102
+-- block 100: whether it stands, its L, and its words
+unfoldable pub hasTable : List ℕ → Bool
+hasTable bytes = eqb (wordAt bytes 0) 100
 
--- of the bytes after the block
+unfoldable pub entryCount : List ℕ → ℕ
+entryCount bytes = cond (hasTable bytes) (wordAt bytes 1) 0
+
+unfoldable pub tableWords : List ℕ → ℕ
+tableWords bytes = cond (hasTable bytes) (2 + entryCount bytes) 0
+
+-- block 102 stands after it
+unfoldable pub lentInBytes : List ℕ → Bool
+lentInBytes bytes = eqb (wordAt bytes (tableWords bytes)) 102
+
+unfoldable pub blockWords : List ℕ → ℕ
+blockWords bytes = cond (lentInBytes bytes) (tableWords bytes + 1) (tableWords bytes)
+
+-- of the bytes after the blocks
 unfoldable pub headOf : List ℕ → Head
 headOf bytes =
     record {

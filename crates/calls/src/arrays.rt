@@ -32,10 +32,10 @@ pub fn sevens() -> [u8; 9000]
 }
 
 // One byte more than the longest call file has: a longer one has a wrong length too.
-pub fn file_bytes() -> [u8; 108037]
-    ensures { λ r. ⌜ 108037 ≡ length r ⌝ }
+pub fn file_bytes() -> [u8; 109245]
+    ensures { λ r. ⌜ 109245 ≡ length r ⌝ }
 {
-    [0; 108037]
+    [0; 109245]
 }
 
 // The k words from position start on, at the front of an array.
@@ -46,6 +46,22 @@ pub fn read_array(bytes: &[u8], start: usize, k: usize) -> [u32; 9000]
     let mut array = cells();
     read_words(bytes, start, &mut array[..k]);
     array
+}
+
+fn entry_cells() -> [u32; 300]
+    ensures { λ r. ⌜ 300 ≡ length r ⌝ }
+{
+    [0; 300]
+}
+
+// The k words from position start on, at the front of an array for the entries of a table.
+pub fn read_entries(bytes: &[u8], start: usize, k: usize) -> [u32; 300]
+    requires { ⌜ k ≤ 300 ⌝ }
+    ensures { λ r. ⌜ 300 ≡ length r ⌝ }
+{
+    let mut entries = entry_cells();
+    read_words(bytes, start, &mut entries[..k]);
+    entries
 }
 
 fn byte(tag: u32) -> u8 {

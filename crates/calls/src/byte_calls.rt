@@ -13,7 +13,7 @@ use crate::report;
 use pool::TermPlace;
 
 // Call 0: the check of a step.
-pub fn check(bytes: &[u8], head: Head)
+pub fn check(bytes: &[u8], table: &[u32], head: Head)
     requires { ⌜ Bounded head ⌝ }
 {
     let t = head.tags;
@@ -25,6 +25,7 @@ pub fn check(bytes: &[u8], head: Head)
     let answer = byte_tags::check(
         &mut tags[..t],
         &mut values[..v],
+        table,
         head.n,
         head.place,
         &places[..x],
@@ -33,7 +34,7 @@ pub fn check(bytes: &[u8], head: Head)
 }
 
 // Call 1: the sort of a term.
-pub fn sort(bytes: &[u8], head: Head)
+pub fn sort(bytes: &[u8], table: &[u32], head: Head)
     requires { ⌜ Bounded head ⌝ }
 {
     let t = head.tags;
@@ -41,12 +42,12 @@ pub fn sort(bytes: &[u8], head: Head)
     let place = TermPlace(head.place);
     let tags = read_byte_tags(bytes, t);
     let values = read_array(bytes, HEAD + t, v);
-    let answer = byte_tags::sort_of_term(&tags[..t], &values[..v], head.n, place);
+    let answer = byte_tags::sort_of_term(&tags[..t], &values[..v], table, head.n, place);
     report::byte_pool_after(answer, 0, &tags[..t], &values[..v]);
 }
 
 // Call 2: the free variables of a term.
-pub fn free_vars(bytes: &[u8], head: Head)
+pub fn free_vars(bytes: &[u8], table: &[u32], head: Head)
     requires { ⌜ Bounded head ⌝ }
 {
     let t = head.tags;
@@ -56,13 +57,20 @@ pub fn free_vars(bytes: &[u8], head: Head)
     let tags = read_byte_tags(bytes, t);
     let values = read_array(bytes, HEAD + t, v);
     let mut marks = sevens();
-    let answer = byte_tags::free_vars(&tags[..t], &values[..v], head.n, place, &mut marks[..x]);
+    let answer = byte_tags::free_vars(
+        &tags[..t],
+        &values[..v],
+        table,
+        head.n,
+        place,
+        &mut marks[..x],
+    );
     report::byte_pool_after(answer, 0, &tags[..t], &values[..v]);
     report::byte_line(b"marks", &marks[..x]);
 }
 
 // Call 3: the normal form of a term.
-pub fn normal_form(bytes: &[u8], head: Head)
+pub fn normal_form(bytes: &[u8], table: &[u32], head: Head)
     requires { ⌜ Bounded head ⌝ }
 {
     let t = head.tags;
@@ -71,12 +79,19 @@ pub fn normal_form(bytes: &[u8], head: Head)
     let polarity = head.polarity != 0;
     let mut tags = read_byte_tags(bytes, t);
     let mut values = read_array(bytes, HEAD + t, v);
-    let answer = byte_tags::normal_form(&mut tags[..t], &mut values[..v], head.n, place, polarity);
+    let answer = byte_tags::normal_form(
+        &mut tags[..t],
+        &mut values[..v],
+        table,
+        head.n,
+        place,
+        polarity,
+    );
     report::byte_pool_after(answer, 0, &tags[..t], &values[..v]);
 }
 
 // Call 4: the clause list of a term.
-pub fn clause_list(bytes: &[u8], head: Head)
+pub fn clause_list(bytes: &[u8], table: &[u32], head: Head)
     requires { ⌜ Bounded head ⌝ }
 {
     let t = head.tags;
@@ -90,6 +105,7 @@ pub fn clause_list(bytes: &[u8], head: Head)
     let listed = byte_tags::clause_list(
         &mut tags[..t],
         &mut values[..v],
+        table,
         head.n,
         TermPlace(head.place),
         &mut literals[..x],

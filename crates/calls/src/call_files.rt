@@ -1,8 +1,9 @@
-// The layout of a call file: u32 little-endian words. The word 102 may stand first, the block that has tags lent as bytes. Then eight words are
-// call, T, V, N, rule or place, polarity, X and Y. T tags and V values follow, and in a call 0 the X places of the conclusion.
+// The layout of a call file: u32 little-endian words. Blocks may stand first: 100 with a table of sort rules, its length and its entries, and then
+// 102, which has tags lent as bytes. Then eight words are call, T, V, N, rule or place, polarity, X and Y. T tags and V values follow, and in a
+// call 0 the X places of the conclusion.
 ghost use Prim.Native.Nat.{_≤_};
 ghost use mathlib.Core.Path.{_≡_};
-ghost use Rattle.calls.specs.Format.{lentInBytes, headOf, lentCount, endsCount, conclusionCount, isWhole};
+ghost use Rattle.calls.specs.Format.{hasTable, entryCount, tableWords, lentInBytes, blockWords, headOf, lentCount, endsCount, conclusionCount, isWhole};
 use pool::run::wide;
 use step_files::words::word;
 
@@ -33,14 +34,62 @@ pub const NORMAL_FORM: u32 = 3;
 
 pub const CLAUSE_LIST: u32 = 4;
 
-// The block that has tags lent as bytes.
+pub const LOAD: u32 = 5;
+
+// The block that has the table of sort rules in use, and the one that has tags lent as bytes.
+const TABLE: u32 = 100;
+
 const BYTE_TAGS: u32 = 102;
 
-// Whether the file begins with that block.
+// The words of block 100 before its entries.
+pub const TABLE_HEAD: usize = 2;
+
+// Whether the file begins with a table.
+pub fn has_table(bytes: &[u8]) -> bool
+    ensures { λ r. ⌜ r ≡ hasTable (now (bytes .entry)) ⌝ }
+{
+    word(bytes, 0) == TABLE
+}
+
+// How many entries that table has, and 0 where the file has none.
+pub fn entry_count(bytes: &[u8]) -> usize
+    ensures { λ r. ⌜ r ≡ entryCount (now (bytes .entry)) ⌝ }
+{
+    if has_table(bytes) {
+        return wide(word(bytes, 1));
+    }
+    0
+}
+
+// The words of block 100.
+fn table_words(bytes: &[u8]) -> usize
+    requires { ⌜ entryCount (now bytes) ≤ 300 ⌝ }
+    ensures { λ r. ⌜ r ≡ tableWords (now (bytes .entry)) ⌝ }
+{
+    if has_table(bytes) {
+        return TABLE_HEAD + entry_count(bytes);
+    }
+    0
+}
+
+// Whether block 102 stands after it.
 pub fn lent_in_bytes(bytes: &[u8]) -> bool
+    requires { ⌜ entryCount (now bytes) ≤ 300 ⌝ }
     ensures { λ r. ⌜ r ≡ lentInBytes (now (bytes .entry)) ⌝ }
 {
-    word(bytes, 0) == BYTE_TAGS
+    word(bytes, table_words(bytes)) == BYTE_TAGS
+}
+
+// The words of both blocks.
+pub fn block_words(bytes: &[u8]) -> usize
+    requires { ⌜ entryCount (now bytes) ≤ 300 ⌝ }
+    ensures { λ r. ⌜ r ≡ blockWords (now (bytes .entry)) ⌝ }
+{
+    let words = table_words(bytes);
+    if lent_in_bytes(bytes) {
+        return words + 1;
+    }
+    words
 }
 
 pub fn read_head(bytes: &[u8]) -> Head

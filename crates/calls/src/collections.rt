@@ -61,7 +61,7 @@ fn least(a: usize, b: usize) -> usize
 // file the start is enough.
 fn replay_file(fd: i32, name: &[u8], size: usize) -> bool {
     let mut bytes = file_bytes();
-    let kept = least(size, 108037);
+    let kept = least(size, 109245);
     if !fill(fd, &mut bytes, kept) {
         return false;
     }

@@ -6,6 +6,7 @@ mod call_files;
 mod collections;
 mod one_call;
 mod report;
+mod table_call;
 mod word_calls;
 
 use crate::arrays::file_bytes;

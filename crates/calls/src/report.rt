@@ -97,7 +97,7 @@ pub fn byte_line(name: &[u8], bytes: &[u8]) {
 }
 
 // The answer, and the clause list's new count, which is 0 with every other call.
-fn answer_line(a: Answer, count: u32) {
+pub fn answer_line(a: Answer, count: u32) {
     let mut code = [0u8; 10];
     let end = put_number(&mut code, 0, a.code);
     write_text(&code, end);

@@ -1,4 +1,4 @@
-// The calls on a pool whose tags are lent as u32, the file's own.
+// The calls on a pool whose tags are lent as u32, the file's own. Each is lent the table of sort rules in use.
 ghost use Rattle.calls.specs.Format.{Bounded};
 use crate::arrays::read_array;
 use crate::arrays::seven_cells;
@@ -12,7 +12,7 @@ use crate::report;
 use pool::TermPlace;
 
 // Call 0: the check of a step.
-pub fn check(bytes: &[u8], head: Head)
+pub fn check(bytes: &[u8], table: &[u32], head: Head)
     requires { ⌜ Bounded head ⌝ }
 {
     let t = head.tags;
@@ -24,6 +24,7 @@ pub fn check(bytes: &[u8], head: Head)
     let answer = word_tags::check(
         &mut tags[..t],
         &mut values[..v],
+        table,
         head.n,
         head.place,
         &places[..x],
@@ -32,7 +33,7 @@ pub fn check(bytes: &[u8], head: Head)
 }
 
 // Call 1: the sort of a term.
-pub fn sort(bytes: &[u8], head: Head)
+pub fn sort(bytes: &[u8], table: &[u32], head: Head)
     requires { ⌜ Bounded head ⌝ }
 {
     let t = head.tags;
@@ -40,12 +41,12 @@ pub fn sort(bytes: &[u8], head: Head)
     let place = TermPlace(head.place);
     let tags = read_array(bytes, HEAD, t);
     let values = read_array(bytes, HEAD + t, v);
-    let answer = word_tags::sort_of_term(&tags[..t], &values[..v], head.n, place);
+    let answer = word_tags::sort_of_term(&tags[..t], &values[..v], table, head.n, place);
     report::pool_after(answer, 0, &tags[..t], &values[..v]);
 }
 
 // Call 2: the free variables of a term.
-pub fn free_vars(bytes: &[u8], head: Head)
+pub fn free_vars(bytes: &[u8], table: &[u32], head: Head)
     requires { ⌜ Bounded head ⌝ }
 {
     let t = head.tags;
@@ -55,13 +56,20 @@ pub fn free_vars(bytes: &[u8], head: Head)
     let tags = read_array(bytes, HEAD, t);
     let values = read_array(bytes, HEAD + t, v);
     let mut marks = sevens();
-    let answer = word_tags::free_vars(&tags[..t], &values[..v], head.n, place, &mut marks[..x]);
+    let answer = word_tags::free_vars(
+        &tags[..t],
+        &values[..v],
+        table,
+        head.n,
+        place,
+        &mut marks[..x],
+    );
     report::pool_after(answer, 0, &tags[..t], &values[..v]);
     report::byte_line(b"marks", &marks[..x]);
 }
 
 // Call 3: the normal form of a term.
-pub fn normal_form(bytes: &[u8], head: Head)
+pub fn normal_form(bytes: &[u8], table: &[u32], head: Head)
     requires { ⌜ Bounded head ⌝ }
 {
     let t = head.tags;
@@ -70,12 +78,19 @@ pub fn normal_form(bytes: &[u8], head: Head)
     let polarity = head.polarity != 0;
     let mut tags = read_array(bytes, HEAD, t);
     let mut values = read_array(bytes, HEAD + t, v);
-    let answer = word_tags::normal_form(&mut tags[..t], &mut values[..v], head.n, place, polarity);
+    let answer = word_tags::normal_form(
+        &mut tags[..t],
+        &mut values[..v],
+        table,
+        head.n,
+        place,
+        polarity,
+    );
     report::pool_after(answer, 0, &tags[..t], &values[..v]);
 }
 
 // Call 4: the clause list of a term.
-pub fn clause_list(bytes: &[u8], head: Head)
+pub fn clause_list(bytes: &[u8], table: &[u32], head: Head)
     requires { ⌜ Bounded head ⌝ }
 {
     let t = head.tags;
@@ -89,6 +104,7 @@ pub fn clause_list(bytes: &[u8], head: Head)
     let listed = word_tags::clause_list(
         &mut tags[..t],
         &mut values[..v],
+        table,
         head.n,
         TermPlace(head.place),
         &mut literals[..x],

@@ -8,9 +8,59 @@ use lib.ListN.{length}
 use lib.Dec.{leb, eqb}
 use native.Mathlib.Omega.{arith}
 use borrow.Author.Tests.{lt-leb, le-leb, leb-true, eq-eqb, ne-eqb, not-false}
+use Rattle.cells.specs.ByPlace.{by-test}
 use Rattle.step_files.specs.Words.{wordAt}
-use Rattle.calls.specs.Format.{headOf, conclusionCount, lentCount, endsCount, isWhole, Bounded}
+use Rattle.calls.specs.Format.{hasTable, entryCount, tableWords, lentInBytes, blockWords, headOf, conclusionCount, lentCount, endsCount, isWhole, Bounded}
 use Rattle.calls.specs.declared.call_files.Head.{Head}
+
+-- ---- the blocks
+module _ (bytes : List ℕ) where
+  pub table-has : (w : ℕ) → w ≡ wordAt bytes 0 → eqb w 100 ≡ hasTable bytes
+  unfolding hasTable
+  table-has w e = rw e
+
+  module _ (has : Bool) (is : has ≡ hasTable bytes) where
+    pub entries-some : has ≡ true → (w l : ℕ) → w ≡ wordAt bytes 1 → l ≡ w → l ≡ entryCount bytes
+    unfolding entryCount
+    entries-some h w l e same = rw (← is, h, same) e
+
+    pub entries-none : has ≡ false → 0 ≡ entryCount bytes
+    unfolding entryCount
+    entries-none h = rw (← is, h)
+
+    pub words-some : has ≡ true → (l : ℕ) → l ≡ entryCount bytes → 2 + l ≡ tableWords bytes
+    unfolding tableWords
+    words-some h l e = rw (← is, h, ← e)
+
+    pub words-none : has ≡ false → 0 ≡ tableWords bytes
+    unfolding tableWords
+    words-none h = rw (← is, h)
+
+  -- a block that is not too long
+  pub words-few : entryCount bytes ≤ 300 → (k : ℕ) → k ≡ tableWords bytes → k ≤ 302
+  unfolding tableWords
+  words-few h k e =
+      by-test (hasTable bytes) (λ y. let z : k ≡ 2 + entryCount bytes = rw y at e in omega arith)
+      (λ y. let z : k ≡ 0 = rw y at e in omega arith)
+
+  module _ (k : ℕ) (k-is : k ≡ tableWords bytes) where
+    pub bytes-lent : (w : ℕ) → w ≡ wordAt bytes k → eqb w 102 ≡ lentInBytes bytes
+    unfolding lentInBytes
+    bytes-lent w e = rw (← k-is, e)
+
+    module _ (lent : Bool) (is : lent ≡ lentInBytes bytes) where
+      pub blocks-more : lent ≡ true → k + 1 ≡ blockWords bytes
+      unfolding blockWords
+      blocks-more h = rw (← is, h, ← k-is)
+
+      pub blocks-table : lent ≡ false → k ≡ blockWords bytes
+      unfolding blockWords
+      blocks-table h = rw (← is, h, ← k-is)
+
+  pub entries-few : (l : ℕ) → l ≡ entryCount bytes → l ≤ 300 → entryCount bytes ≤ 300
+  entries-few l e h = omega arith
+
+pub ruleset blocks = (table-has, entries-some, entries-none, words-some, words-none, bytes-lent, blocks-more, blocks-table)
 
 -- ---- the lengths
 both : (a b : Bool) → a && b ≡ true → (a ≡ true) × (b ≡ true)

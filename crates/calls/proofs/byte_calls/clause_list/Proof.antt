@@ -73,10 +73,10 @@ slice-aggregate-line : tie.Need-slice-aggregate-line
 slice-aggregate-line c = search needs
 
 array-share-prefix-literals : tie.Need-array-share-prefix-literals
-array-share-prefix-literals c = front-again _ (c .before .before .before .before .before .before .before .before .clause-list .last .1 .1 .1 .1 .0) _ _ (c .before .before .before .before .before .before .before .before .before .before .before .before .before .before .seven-cells .ensures) (omega (arith, c .before .before .before .before .before .before .before .before .before .before .before .before .before .before .before .before .before .before .before .before .pre .lent, c .before .before .before .before .before .before .before .before .before .before .before .before .before .before .before .before .before .before .lent-count .ensures)) (c .before .before .before .before .before .literals2 .given)
+array-share-prefix-literals c = front-again _ (c .before .before .before .before .before .before .before .before .clause-list .last .1 .1 .1 .1 .1 .0) _ _ (c .before .before .before .before .before .before .before .before .before .before .before .before .before .before .seven-cells .ensures) (omega (arith, c .before .before .before .before .before .before .before .before .before .before .before .before .before .before .before .before .before .before .before .before .before .pre .lent, c .before .before .before .before .before .before .before .before .before .before .before .before .before .before .before .before .before .before .lent-count .ensures)) (c .before .before .before .before .before .literals2 .given)
 
 slice-aggregate-line-2 : tie.Need-slice-aggregate-line-2
-slice-aggregate-line-2 c = front-length _ (c .before .before .before .before .before .before .before .before .before .clause-list .last .1 .1 .1 .1 .0) _ _ (c .before .before .before .before .before .before .before .before .before .before .before .before .before .before .before .seven-cells .ensures) (omega (arith, c .before .before .before .before .before .before .before .before .before .before .before .before .before .before .before .before .before .before .before .before .before .pre .lent, c .before .before .before .before .before .before .before .before .before .before .before .before .before .before .before .before .before .before .before .lent-count .ensures)) (c .before .before .before .before .before .before .literals2 .given)
+slice-aggregate-line-2 c = front-length _ (c .before .before .before .before .before .before .before .before .before .clause-list .last .1 .1 .1 .1 .1 .0) _ _ (c .before .before .before .before .before .before .before .before .before .before .before .before .before .before .before .seven-cells .ensures) (omega (arith, c .before .before .before .before .before .before .before .before .before .before .before .before .before .before .before .before .before .before .before .before .before .before .pre .lent, c .before .before .before .before .before .before .before .before .before .before .before .before .before .before .before .before .before .before .before .lent-count .ensures)) (c .before .before .before .before .before .before .literals2 .given)
 
 line-requires : tie.Need-line-requires
 line-requires c κs = search needs
@@ -85,10 +85,10 @@ slice-aggregate-line-3 : tie.Need-slice-aggregate-line-3
 slice-aggregate-line-3 c = search needs
 
 array-share-prefix-ends : tie.Need-array-share-prefix-ends
-array-share-prefix-ends c = front-again _ (c .before .before .before .before .before .before .before .before .before .before .before .clause-list .last .1 .1 .1 .1 .1 .0) _ _ (c .before .before .before .before .before .before .before .before .before .before .before .before .before .before .before .before .seven-cells2 .ensures) (omega (arith, c .before .before .before .before .before .before .before .before .before .before .before .before .before .before .before .before .before .before .before .before .before .before .before .pre .ends, c .before .before .before .before .before .before .before .before .before .before .before .before .before .before .before .before .before .before .before .before .ends-count .ensures)) (c .before .before .before .before .before .before .before .ends2 .given)
+array-share-prefix-ends c = front-again _ (c .before .before .before .before .before .before .before .before .before .before .before .clause-list .last .1 .1 .1 .1 .1 .1 .0) _ _ (c .before .before .before .before .before .before .before .before .before .before .before .before .before .before .before .before .seven-cells2 .ensures) (omega (arith, c .before .before .before .before .before .before .before .before .before .before .before .before .before .before .before .before .before .before .before .before .before .before .before .before .pre .ends, c .before .before .before .before .before .before .before .before .before .before .before .before .before .before .before .before .before .before .before .before .ends-count .ensures)) (c .before .before .before .before .before .before .before .ends2 .given)
 
 slice-aggregate-line-4 : tie.Need-slice-aggregate-line-4
-slice-aggregate-line-4 c = front-length _ (c .before .before .before .before .before .before .before .before .before .before .before .before .clause-list .last .1 .1 .1 .1 .1 .0) _ _ (c .before .before .before .before .before .before .before .before .before .before .before .before .before .before .before .before .before .seven-cells2 .ensures) (omega (arith, c .before .before .before .before .before .before .before .before .before .before .before .before .before .before .before .before .before .before .before .before .before .before .before .before .pre .ends, c .before .before .before .before .before .before .before .before .before .before .before .before .before .before .before .before .before .before .before .before .before .ends-count .ensures)) (c .before .before .before .before .before .before .before .before .ends2 .given)
+slice-aggregate-line-4 c = front-length _ (c .before .before .before .before .before .before .before .before .before .before .before .before .clause-list .last .1 .1 .1 .1 .1 .1 .0) _ _ (c .before .before .before .before .before .before .before .before .before .before .before .before .before .before .before .before .before .seven-cells2 .ensures) (omega (arith, c .before .before .before .before .before .before .before .before .before .before .before .before .before .before .before .before .before .before .before .before .before .before .before .before .before .pre .ends, c .before .before .before .before .before .before .before .before .before .before .before .before .before .before .before .before .before .before .before .before .before .ends-count .ensures)) (c .before .before .before .before .before .before .before .before .ends2 .given)
 
 line-requires-2 : tie.Need-line-requires-2
 line-requires-2 c κs = search needs

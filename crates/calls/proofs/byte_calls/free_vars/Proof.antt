@@ -61,10 +61,10 @@ slice-aggregate-byte-line : tie.Need-slice-aggregate-byte-line
 slice-aggregate-byte-line c = search needs
 
 array-share-prefix-marks : tie.Need-array-share-prefix-marks
-array-share-prefix-marks c = front-again _ (c .before .before .before .before .before .free-vars .last .1 .1 .1 .1 .0) _ _ (c .before .before .before .before .before .before .before .before .before .sevens .ensures) (omega arith) (c .before .before .before .before .marks2 .given)
+array-share-prefix-marks c = front-again _ (c .before .before .before .before .before .free-vars .last .1 .1 .1 .1 .1 .0) _ _ (c .before .before .before .before .before .before .before .before .before .sevens .ensures) (omega arith) (c .before .before .before .before .marks2 .given)
 
 slice-aggregate-byte-line-2 : tie.Need-slice-aggregate-byte-line-2
-slice-aggregate-byte-line-2 c = front-length _ (c .before .before .before .before .before .before .free-vars .last .1 .1 .1 .1 .0) _ _ (c .before .before .before .before .before .before .before .before .before .before .sevens .ensures) (omega arith) (c .before .before .before .before .before .marks2 .given)
+slice-aggregate-byte-line-2 c = front-length _ (c .before .before .before .before .before .before .free-vars .last .1 .1 .1 .1 .1 .0) _ _ (c .before .before .before .before .before .before .before .before .before .before .sevens .ensures) (omega arith) (c .before .before .before .before .before .marks2 .given)
 
 byte-line-requires : tie.Need-byte-line-requires
 byte-line-requires c κs = search needs
