@@ -78,23 +78,33 @@ def row(name, ours, rust, before):
 HEAD = '%9s %8s %11s %11s %9s %14s  file' % ('ours/Rust', 'growth', 'ours, s', 'Rust, s', 'runs', 'alike')
 
 
-def compare(options, oracle, folder):
-    rng = random.Random(options.seed)
-    (paths, _), = written([('8 bytes', [bytes(8)])], folder)
-    print('true, a program that does nothing: %.5f s\n' % measured(['true'], paths, options.least).seconds)
-    groups = (('The start of the programs, without a step', [('8 bytes', [bytes(8)])], False),
-              ('Valid steps of all rules, %d files of 256 steps' % bench_files.POOLS, bench_files.valid_files(rng), True),
-              ('Clause lists near the limits, 64 steps', bench_files.clause_files(rng), False),
-              ('Hostile pools, 256 steps', bench_files.hostile_files(), False))
-    for title, files, doubles in groups:
+def groups(rng):
+    """Titles, files, and whether each file has twice the cells of the one before."""
+    return (('Valid steps of all rules, %d files of 256 steps' % bench_files.POOLS, bench_files.valid_files(rng), True),
+            ('Clause lists near the limits, 64 steps', bench_files.clause_files(rng), False),
+            ('Hostile pools, 256 steps', bench_files.hostile_files(), False))
+
+
+def tables(measured_groups, both, folder):
+    """A table for each group; both(paths) measures ours and the Rust."""
+    for title, files, doubles in measured_groups:
         print('%s\n%s' % (title, HEAD))
         before, pairs = None, []
         for paths, name in written(files, folder):
-            ours, rust = (measured(command, paths, options.least) for command in ([options.steps], [oracle, 'steps']))
+            ours, rust = both(paths)
             print(row(name, ours, rust, before), flush=True)
             before = ours.seconds if doubles else None
             pairs += [(ours, rust)] * (ratio(ours, rust) is not None)
         print(summed(pairs) + '\n')
+
+
+def compare(options, oracle, folder):
+    empty = [('8 bytes', [bytes(8)])]
+    (paths, _), = written(empty, folder)
+    print('true, a program that does nothing: %.5f s\n' % measured(['true'], paths, options.least).seconds)
+    start = ('The start of the programs, without a step', empty, False)
+    tables((start, *groups(random.Random(options.seed))),
+           lambda paths: [measured(command, paths, options.least) for command in ([options.steps], [oracle, 'steps'])], folder)
 
 
 def summed(pairs):

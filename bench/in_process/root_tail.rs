@@ -1,0 +1,2 @@
+
+pub use driver::answer_text;
