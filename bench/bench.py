@@ -8,7 +8,8 @@ STEPS reads a step file and prints its answers; ORACLE called with `steps` does 
 builds ORACLE into the folder that it is given. The files come from the seed (bench_files.py). Each program runs on a file until
 its runs have at least so much user time together; what is given is the mean of a run. A table has for each file the ratio of the
 two, how ours grows from the file before, of half the cells, the times, the runs, and how many answers are alike of those that
-the Rust was asked for; after it come the ratios of the group. Before the tables stands what `true` takes, a program that does nothing.
+the Rust was asked for; after it come the ratios of the group, and of its rows with like answers. Before the tables stands what
+`true` takes, a program that does nothing.
 
 With --hostile only STEPS runs, on each of the hostile files once, under a stack limit; with --check its answers are held to the
 reference.
@@ -95,7 +96,9 @@ def tables(measured_groups, both, folder):
             print(row(name, ours, rust, before), flush=True)
             before = ours.seconds if doubles else None
             pairs += [(ours, rust)] * (ratio(ours, rust) is not None)
-        print(summed(pairs) + '\n')
+        alike = [(ours, rust) for ours, rust in pairs if ours.lines == rust.lines]
+        print(summed(pairs))
+        print(summed(alike) + '; rows whose answers are all alike\n')
 
 
 def compare(options, oracle, folder):
