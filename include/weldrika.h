@@ -8,7 +8,7 @@
  *     is not const, as the length after it says, or the array bound;
  *   - an array that is not const overlaps no other array of the call, and no other thread uses it during the call; none writes a
  *     const one;
- *   - the stack has room: 8 MB are enough for the deepest terms tried.
+ *   - the stack has room: 8 MB are enough for the deepest terms tried, and 1.5 MB are not.
  * A length is in elements. No call allocates memory, touches anything but its arrays and its stack, or keeps a pointer.
  *
  * A pool is tags and values, two arrays of one length, of which the first n cells are used. Each call on a pool stands here twice,

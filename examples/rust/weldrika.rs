@@ -3,7 +3,7 @@
 //!
 //! The calls on a pool stand in [`byte_tags`] and in [`word_tags`], with the same answers. No call asks anything of its arguments. Each
 //! `unsafe` hands over the pointers and lengths of slices: they are aligned and not null, also of empty ones, and the borrows keep what is
-//! written apart from all else. 8 MB of stack are enough for the deepest terms tried.
+//! written apart from all else. 8 MB of stack are enough for the deepest terms tried, and 1.5 MB are not.
 #![allow(dead_code)]
 
 /// Cells of a pool, at most.
