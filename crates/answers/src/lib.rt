@@ -1,11 +1,13 @@
 // The answers of the public calls.
+#![tactic(auto)]
+
 pub mod checked;
 
 ghost use Rattle.std.specs.Prelude.{◌≡◌};
 ghost use Rattle.answers.specs.Answer.{accepted, refused};
 
 // The answer of a public call: document 01's number, 0 for acceptance, and the two numbers it carries.
-#[derive(Drop)]
+#[derive(Clone, Copy)]
 pub struct Answer {
     pub code: u32,
     pub first: u32,

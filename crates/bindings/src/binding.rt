@@ -6,7 +6,7 @@ ghost use Rattle.bindings.specs.BindingAnswer.{pair, name_of};
 use cells::SortPlace;
 
 // The name of the first pair that passes a test.
-#[derive(Drop)]
+#[derive(Clone, Copy)]
 pub enum FirstName {
     Name(u32),
     Nothing,

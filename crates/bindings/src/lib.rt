@@ -1,4 +1,6 @@
 // Binding lists of quantifiers: finding a pair, comparing two lists, and which pairs of a list are used.
+#![tactic(auto)]
+
 pub mod binding;
 pub mod list_comparison;
 pub mod used_pairs;

@@ -7,7 +7,7 @@ use cells::tags::tag_at;
 use cells::{Found, run};
 
 // What adding a description gives: where it stood already, its new place and the new count, or no room.
-#[derive(Drop)]
+#[derive(Clone, Copy)]
 pub enum Added {
     There(usize),
     New(usize, usize),

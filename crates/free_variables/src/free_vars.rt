@@ -50,7 +50,7 @@ fn pairs_bind(values: &[u32], lets: bool, v: TermPlace, run: &[u32]) -> bool
 
 // What the walk finds at a term: the answer, or that it is the body's, or that of a term of the operand run, or that of a
 // let's values, or that of a let's values and its body.
-#[derive(Drop)]
+#[derive(Clone, Copy)]
 pub enum Step {
     Yes,
     No,

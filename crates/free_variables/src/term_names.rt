@@ -47,7 +47,7 @@ fn mark_name(values: &[u32], names: &mut [u8], v: TermPlace)
 
 // Where a term's free variables are: nowhere, at the term itself, in the body under its pairs, in the operand run, in a let's
 // values, or in its values and in its body under its pairs.
-#[derive(Drop)]
+#[derive(Clone, Copy)]
 pub enum FreeFrom {
     Nothing,
     Variable,

@@ -15,7 +15,7 @@ use cells::tags::{
 pub use cells::tags::{is_term, is_term_tag};
 
 // How the cells of a header are laid out.
-#[derive(Drop)]
+#[derive(Clone, Copy)]
 pub enum Shape {
     Unknown,
     Nullary,
@@ -33,7 +33,7 @@ pub enum Shape {
 }
 
 // What a cell holds: a number, or the place of a sort or of a term.
-#[derive(Drop)]
+#[derive(Clone, Copy)]
 pub enum CellKind {
     Number,
     OfSort,

@@ -1,5 +1,7 @@
 // A shared term pool in document 01's packed form: two arrays of one length, tags in bytes and values in u32, and a
 // count of used cells. Its checks and its calls on a term; and what the crates above need of cells, by name.
+#![tactic(auto)]
+
 pub mod call;
 pub mod checks;
 

@@ -1,6 +1,6 @@
 -- Cases of the loading call, by computation: which entry a refusal names, and which refusal comes first.
 -- Rests on TableAnswer, Table, and answers' Answer.
-use Rattle.std.specs.Prelude.{ℕ, ◌≡◌, refl, List, [], ◌∷◌, ◌++◌, set, length}
+use Rattle.std.specs.Prelude.{◌≡◌, refl, [], ◌∷◌, ◌++◌, set}
 use Rattle.answers.specs.Answer.{accepted, refused}
 use Rattle.sort_table.specs.Table.{built_in}
 use Rattle.sort_table.specs.TableAnswer.{table_answer, first_entry, forbids, is_connective, loses_bool}

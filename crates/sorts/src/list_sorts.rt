@@ -11,7 +11,7 @@ use cells::tags::{FUNCTION, SET, TUPLE, tag_at};
 use cells::{SortPlace, TermPlace, run};
 
 // The rules.
-#[derive(Drop)]
+#[derive(Clone, Copy)]
 pub enum ListRule {
     Tuple,
     Lambda,

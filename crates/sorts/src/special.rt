@@ -1,7 +1,7 @@
 // The names of the special rules that check 16 goes by.
 
 // The operators with a sort rule of their own.
-#[derive(Drop)]
+#[derive(Clone, Copy)]
 pub enum Special {
     Arithmetic,
     Select,

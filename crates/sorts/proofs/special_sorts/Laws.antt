@@ -181,8 +181,9 @@ module _ (tags values : List ℕ) where
   unfolding concat_from
   past a b ha hb param [] = rw (le-ltb _ _ ha, le-ltb _ _ hb)
   past a b ha hb param (o ∷ os) =
+      let more = get_or values (sort_of values o + 1) 0 in
       by-test (eqb (sort_tag tags values o) 7)
-      (λ e. rw e (past _ _ (omega arith) (omega arith) param os))
+      (λ e. rw e (past (a + more) (b + more) (omega arith) (omega arith) param os))
       (λ e. by-test (eqb (sort_tag tags values o) 6)
       (λ f. rw (e, f) (past a b ha hb true os))
       (λ f. rw (e, f)))

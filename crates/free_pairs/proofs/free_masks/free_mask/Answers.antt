@@ -1,0 +1,8 @@
+use Rattle.free_pairs.proofs.free_masks.Laws.{fresh, group-fits, group-mask}
+use Rattle.free_pairs.proofs.free_masks.free_mask.Goals as goal
+
+pub mask_of_term-requires : goal.mask_of_term-requires
+mask_of_term-requires c = (record { list_len_bound = group-fits c.args.list.now _ c.group.ensures; mask_memo = fresh _ _ _ _ 8192 })
+
+pub returns : goal.returns
+returns c = group-mask c.args.list.now _ c.group.ensures _ _ _ _ _ _ c.mask_of_term.ensures

@@ -1,0 +1,12 @@
+use mathlib.Core.Path.{◌≡◌}
+use mathlib.Core.List.{reverse}
+use Prim.Native.Nat.{◌-◌}
+use lib.ListN.{length, drop}
+use Rattle.cells.specs.Cell.{same_cells}
+use Rattle.sorts.proofs.list_sorts.same_reversed.Given as goal
+
+abbrev pub invariant-loop-i : goal.invariant-loop-i
+invariant-loop-i l = same_cells l.a (reverse l.b) ≡ same_cells (drop l.i l.a) (drop l.i (reverse l.b))
+
+abbrev pub decreases-loop-i : goal.decreases-loop-i
+decreases-loop-i l = length l.a - l.i

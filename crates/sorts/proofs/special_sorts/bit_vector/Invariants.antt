@@ -1,0 +1,11 @@
+use mathlib.Core.Path.{◌≡◌}
+use Prim.Native.Nat.{◌-◌}
+use lib.ListN.{length, drop}
+use Rattle.sorts.specs.SortRule.{bit_vector}
+use Rattle.sorts.proofs.special_sorts.bit_vector.Given as goal
+
+abbrev pub invariant-loop-i : goal.invariant-loop-i
+invariant-loop-i l = bit_vector l.tags l.values l.os ≡ bit_vector l.tags l.values (drop l.i l.os)
+
+abbrev pub decreases-loop-i : goal.decreases-loop-i
+decreases-loop-i l = length l.os - l.i
