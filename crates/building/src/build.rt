@@ -9,7 +9,7 @@ use pool::description::Added;
 use pool::index::{INDEX, add};
 
 // Where a term that was built stands, with the new count; or no room.
-#[derive(Drop)]
+#[derive(Clone, Copy)]
 pub enum Built {
     At(TermPlace, usize),
     Full,

@@ -18,7 +18,7 @@ use pool::index::INDEX;
 use pool::run::operands;
 
 // The place of a term, and a polarity.
-#[derive(Drop)]
+#[derive(Clone, Copy)]
 struct Signed(TermPlace, bool);
 
 // The normal form of the term at t at a polarity, put into the pool of n cells.

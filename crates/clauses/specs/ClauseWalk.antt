@@ -5,7 +5,6 @@ use Rattle.std.specs.Prelude.{ℕ, ◌+◌, ◌-◌, ◌*◌, ◌/◌, ◌%◌, 
 use Rattle.cells.specs.Cell.{operands_of}
 use Rattle.formulas.specs.declared.view.NormalView.TheVariants.{Connective}
 use Rattle.formulas.specs.Formula.{all_before}
-use Rattle.formulas.specs.Normal.{Normal}
 use Rattle.formulas.specs.Clauses.{empty_or}
 use Rattle.formulas.specs.Built.{normal_view, form_at}
 use Rattle.formulas.specs.Totals.{Totals, start_of, combine, cap, totals}

@@ -15,7 +15,7 @@ use pool::run::operands;
 use pool::{Answer, TermPlace};
 
 // How many cells of the two arrays are filled: the clauses' ends and the literals.
-#[derive(Drop)]
+#[derive(Clone, Copy)]
 pub struct Filled(pub usize, pub usize);
 
 // Writes the clauses of the term at x, as many as total, one by one.

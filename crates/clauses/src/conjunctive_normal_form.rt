@@ -11,7 +11,7 @@ use pool::TermPlace;
 use pool::run::operands;
 
 // A clause of an `and`: the operand that has it, and its number there.
-#[derive(Drop)]
+#[derive(Clone, Copy)]
 pub struct Chosen {
     pub place: TermPlace,
     pub index: u32,
@@ -43,7 +43,7 @@ fn choose(memo: &[u32], run: &[u32], i: u32) -> Chosen
 
 // The number of a clause in a product, taken apart: how many clauses the rest has, the number in the first list, and the
 // number in the rest.
-#[derive(Drop)]
+#[derive(Clone, Copy)]
 pub struct Digits(pub u32, pub u32, pub u32);
 
 // Takes apart the number i of a clause of a product of total clauses, whose first list has `here`. The first is slowest.

@@ -13,7 +13,7 @@ use pool::run::{cell, operands};
 const ENTRY_BASE: u32 = 16384;
 
 // The clauses and the literals of a list.
-#[derive(Drop)]
+#[derive(Clone, Copy)]
 pub struct Totals {
     pub clauses: u32,
     pub literals: u32,

@@ -9,28 +9,28 @@ use pool::run::{cell, operands};
 use pool::tags::{EQUALS, EXISTS, FORALL, tag_at};
 
 // A forall (true) or exists, with its body.
-#[derive(Drop)]
+#[derive(Clone, Copy)]
 pub enum Quantified {
     Is(bool, TermPlace),
     Not,
 }
 
 // The one operand of a term.
-#[derive(Drop)]
+#[derive(Clone, Copy)]
 pub enum One {
     Is(TermPlace),
     Not,
 }
 
 // The two operands of a term.
-#[derive(Drop)]
+#[derive(Clone, Copy)]
 pub enum Two {
     Are(TermPlace, TermPlace),
     Not,
 }
 
 // The three operands of a term.
-#[derive(Drop)]
+#[derive(Clone, Copy)]
 pub enum Three {
     Are(TermPlace, TermPlace, TermPlace),
     Not,

@@ -8,7 +8,7 @@ use pool::run::{cell, operands, sort_of};
 use pool::tags::{AND, EQUALS, EXISTS, FORALL, IMPLIES, ITE, NOT, OR, TRUE, tag_at};
 
 // A term of a formula: `and` (true) or `or`, forall (true) or exists. Its operands stand before it.
-#[derive(Drop)]
+#[derive(Clone, Copy)]
 pub enum View {
     Opaque,
     Not(TermPlace),
@@ -20,7 +20,7 @@ pub enum View {
 }
 
 // A term in negation normal form, as the taken-out form and the clauses read it.
-#[derive(Drop)]
+#[derive(Clone, Copy)]
 pub enum NormalView {
     Literal,
     Connective(bool),

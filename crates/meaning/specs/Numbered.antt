@@ -31,6 +31,7 @@ next-listed (Memᴰ.tail m) = Memᴰ.tail (next-listed m)
 
 pub below-listed : (n : ℕ) (x : Fin n) → Memᴰ x (below n)
 unfolding below
+below-listed zero (i, h) = elim h [ ]
 below-listed (suc n) (zero, suc-le-suc h) = Memᴰ.head (native.Mathlib.Fin.val_path refl)
 below-listed (suc n) (suc i, suc-le-suc h) = Memᴰ.tail (next-listed (below-listed n (i, h)))
 

@@ -47,14 +47,14 @@ pub fn normal_form(
 }
 
 // What the clause list's call gives: the answer, with the two totals if accepted, and the new count.
-#[derive(Drop)]
+#[derive(Clone, Copy)]
 pub struct Listed {
     pub answer: Answer,
     pub count: u32,
 }
 
 // Where the taken-out normal form of a term stands, with the new count; or the refusal.
-#[derive(Drop)]
+#[derive(Clone, Copy)]
 enum Clausal {
     At(TermPlace, usize),
     Refused(Answer),

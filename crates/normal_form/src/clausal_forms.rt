@@ -13,7 +13,7 @@ use pool::TermPlace;
 use pool::index::{INDEX, forget, index_headers};
 
 // Where the normal form stands, with the count after it, and the same of the taken-out form; or no room.
-#[derive(Drop)]
+#[derive(Clone, Copy)]
 pub enum ClausalForms {
     At(TermPlace, usize, TermPlace, usize),
     Full,

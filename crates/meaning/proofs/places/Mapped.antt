@@ -82,6 +82,7 @@ module _ {B C K L : Type 0} (list : B → C) (leaf : K → L) where
   mem-map : {X Y : Type 0} (f : X → Y) (x : X) (xs : List X) → Memᴰ x xs → Memᴰ (f x) (map f xs)
   mem-map f x (y ∷ xs) (Memᴰ.head q) = Memᴰ.head (ap f q)
   mem-map f x (y ∷ xs) (Memᴰ.tail m) = Memᴰ.tail (mem-map f x xs m)
+  mem-map {X = X} {Y = Y} f x [] x'' = elim x'' [ ]
 
   -- a clause of the taken-out form
   pub clause-map : (c : Clause B K) (n : Normal B K) → Memᴰ c (cnf (prenex n)) → Memᴰ (map on_n c) (cnf (prenex (on_n n)))

@@ -100,6 +100,7 @@ module _ (R : Reading) where
   clause-true c (d ∷ cs) ρ (Memᴰ.head q) e =
       ap (λ (x : Clause Vars Term). clause_truth R x ρ) q ∙ and_or-left true (clause_truth R d ρ) (clauses_truth R cs ρ) e
   clause-true c (d ∷ cs) ρ (Memᴰ.tail m) e = clause-true c cs ρ m (and_or-right true (clause_truth R d ρ) (clauses_truth R cs ρ) e)
+  clause-true c [] ρ x'' e = elim x'' [ ]
 
   normals-truth : (c : Clause Vars Term) (ρ : A) → truth_ns R false (normals c) ρ ≡ clause_truth R c ρ
   normals-truth [] ρ = refl

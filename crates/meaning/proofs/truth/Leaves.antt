@@ -156,6 +156,7 @@ module _ {B L : Type 0} (P : L → Type 0) where
   mem-each : (c : Clause B L) (cs : List (Clause B L)) → Memᴰ c cs → EachCs cs → EachC c
   mem-each c (d ∷ cs) (Memᴰ.head q) o = subst EachC (sym q) o.0
   mem-each c (d ∷ cs) (Memᴰ.tail m) o = mem-each c cs m o.1
+  mem-each c [] x'' o = elim x'' [ ]
 
   normals-each : (c : Clause B L) → EachC c → EachNs (normals c)
   normals-each [] o = o

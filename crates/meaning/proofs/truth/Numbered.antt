@@ -25,6 +25,7 @@ use Rattle.meaning.proofs.truth.TruthAlong.{truth-along}
 position : {A : Type 0} {x : A} {xs : List A} (d : A) → Memᴰ x xs → (i : Fin (suc (length xs))) × (get_or xs i.0 d ≡ x)
 position {xs = y ∷ ys} d (Memᴰ.head e) = ((zero, suc-le-suc zero-le), sym e)
 position {xs = y ∷ ys} d (Memᴰ.tail m) = let r = position d m in (native.Mathlib.Fin.succ r.0, r.1)
+position {A = A} {xs = []} d x3 = elim x3 [ ]
 
 module _ (R : Reading) (start : Assignment R.Value) where
   -- the sort's value that stands at a number; past the list, a value that the assignment `start` gives

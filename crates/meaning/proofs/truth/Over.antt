@@ -150,6 +150,7 @@ module _ (Value : Sort → Type 0) where
 among-elim : {A : Type 0} (b : Bool) (xs : List A) (p : A → Bool) (x : A) → Memᴰ x xs → among b xs p ≡ b → p x ≡ b
 among-elim b (y ∷ xs) p x (Memᴰ.head q) e = ap p q ∙ and_or-left b (p y) (among b xs p) e
 among-elim b (y ∷ xs) p x (Memᴰ.tail m) e = among-elim b xs p x m (and_or-right b (p y) (among b xs p) e)
+among-elim {A = A} b [] p x x4 e = elim x4 [ ]
 
 among-intro : {A : Type 0} (b : Bool) (xs : List A) (p : A → Bool) → ((x : A) → p x ≡ b) → among b xs p ≡ b
 among-intro b [] p h = refl

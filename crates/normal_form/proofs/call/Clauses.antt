@@ -20,7 +20,7 @@ use Rattle.normal_form.specs.declared.call.Clausal.TheVariants.{At as ClausalAt,
 use Rattle.normal_form.specs.declared.call.Listed.{Listed}
 use Rattle.formulas.specs.Normal.{Normal}
 use Rattle.formulas.specs.Clauses.{cnf, empty_or, literal_total}
-use Rattle.formulas.specs.Built.{count, normal_at, form_at}
+use Rattle.formulas.specs.Built.{normal_at, form_at}
 use Rattle.formulas.specs.ClauseLists.{literal_places, clause_ends}
 use Rattle.normal_form.specs.Calls.{no_room, clausal, clausal_form, clause_answer, list_left, count_left, ClauseList}
 use Rattle.building.specs.Walk.{State, Holds}

@@ -1,0 +1,11 @@
+use Rattle.clauses.proofs.conjunctive_normal_form.Laws.{chooses}
+use Rattle.clauses.proofs.conjunctive_normal_form.choose.Goals as goal
+
+pub returns-then-left-here : goal.returns-then-left-here
+returns-then-left-here c = search chooses
+
+pub loop-j-preserved : goal.loop-j-preserved
+loop-j-preserved c = search chooses
+
+pub returns : goal.returns
+returns c = search chooses
