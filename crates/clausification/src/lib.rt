@@ -1,4 +1,6 @@
 // Rule 3: clausification.
+#![tactic(auto)]
+
 mod clause_search;
 pub mod qnt_cnf;
 mod taken_list;

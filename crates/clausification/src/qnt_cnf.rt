@@ -31,7 +31,7 @@ const FORALL_CARRIED: u32 = FORALL as u32;
 const EXISTS_CARRIED: u32 = EXISTS as u32;
 
 // The place of a forall, and its body's.
-#[derive(Drop)]
+#[derive(Clone, Copy)]
 struct Forall {
     place: TermPlace,
     body: TermPlace,

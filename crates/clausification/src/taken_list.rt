@@ -19,7 +19,7 @@ use pool::run::operands;
 use pool::{SortPlace, TermPlace};
 
 // Where the collected pairs begin in an array that is filled from its end; or that there is no room for more.
-#[derive(Drop)]
+#[derive(Clone, Copy)]
 pub enum Collected {
     From(usize),
     Full,

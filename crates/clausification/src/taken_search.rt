@@ -20,14 +20,14 @@ use pool::term_names::mark_names;
 use pool::{SortPlace, TermPlace};
 
 // What is sought: a pair of name and sort; or a variable that the right list lacks and that is free in the term at this place.
-#[derive(Drop)]
+#[derive(Clone, Copy)]
 pub enum Sought {
     Pair(u32, SortPlace),
     Missing(TermPlace),
 }
 
 // What the walk finds at a term: the answer, or that it is the body's, or that of the operand run.
-#[derive(Drop)]
+#[derive(Clone, Copy)]
 pub enum Step {
     Found(u32),
     Nothing,

@@ -1,4 +1,6 @@
 // The list comparison of `qnt_join` over lent records of name and sort.
+#![tactic(auto)]
+
 ghost use Rattle.std.specs.Prelude.{◌≡◌, get_or};
 ghost use Rattle.bindings.specs.Binding.{same_all};
 ghost use Rattle.quantifier_rules.specs.QntJoin.{joined};
@@ -8,14 +10,14 @@ use bindings::binding::same_pair;
 use cells::SortPlace;
 
 // A quantifier's variable: its name and its sort.
-#[derive(Drop)]
+#[derive(Clone, Copy)]
 pub struct Binding {
     pub name: u32,
     pub sort: u32,
 }
 
 // How far some pairs and the right list agree: whether they do, the last of the pairs, and how many pairs of the right list they passed.
-#[derive(Drop)]
+#[derive(Clone, Copy)]
 struct Along {
     agrees: bool,
     last: Binding,

@@ -13,7 +13,7 @@ use pool::tags::ITE;
 use pool::{Answer, TermPlace};
 
 // The places of the left quantifier, of the first operand of `ite`, and of the two quantifiers on the right.
-#[derive(Drop)]
+#[derive(Clone, Copy)]
 pub struct ItePlaces {
     pub left: TermPlace,
     pub test: TermPlace,
@@ -21,7 +21,7 @@ pub struct ItePlaces {
     pub no: TermPlace,
 }
 
-#[derive(Drop)]
+#[derive(Clone, Copy)]
 pub enum IteMatched {
     At(ItePlaces),
     Nothing,

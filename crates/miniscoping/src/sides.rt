@@ -13,7 +13,7 @@ use pool::run::operands;
 use pool::tags::tag_at;
 
 // The quantifier's kind, forall (true) or exists, its place, its body's and the right side's.
-#[derive(Drop)]
+#[derive(Clone, Copy)]
 pub struct Places {
     pub kind: bool,
     pub left: TermPlace,
@@ -21,7 +21,7 @@ pub struct Places {
     pub right: TermPlace,
 }
 
-#[derive(Drop)]
+#[derive(Clone, Copy)]
 pub enum Matched {
     At(Places),
     Nothing,

@@ -13,7 +13,7 @@ use pool::run::cell;
 use pool::{Answer, SortPlace, TermPlace};
 
 // Where the right list stands after some pairs that agree with it, or that they do not.
-#[derive(Drop)]
+#[derive(Clone, Copy)]
 pub enum Along {
     To(usize),
     Off,

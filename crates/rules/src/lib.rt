@@ -1,4 +1,6 @@
 // The six rules of document 01, over a pool that passes its checks.
+#![tactic(auto)]
+
 pub mod check;
 
 pub use miniscoping::{miniscope_distribute, miniscope_ite};

@@ -247,6 +247,7 @@ cnf-not-absent (clausifies s s' xs zs t c d m is a u) e =
     by-clause : Memᴰ d ((lit true p ∷ []) ∷ (lit true p ∷ []) ∷ []) → ⊥
     by-clause (Memᴰ.head o) = let w : c ≡ p = rw o at is in other (sym w ∙ (cc))
     by-clause (Memᴰ.tail (Memᴰ.head o)) = let w : c ≡ p = rw o at is in other (sym w ∙ (cc))
+    by-clause (Memᴰ.tail (Memᴰ.tail m')) = elim m' [ ]
 
 cnf-not-new : {T : Term} → QntCnf T → T ≡ implies'' (forall' (i ∷ []) (P i)) (forall' (i ∷ j ∷ []) (P i)) → ⊥
 unfolding has same is_yes Var-discrete Sort-discrete ℕ_discrete skeleton

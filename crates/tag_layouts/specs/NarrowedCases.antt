@@ -10,7 +10,7 @@ use Rattle.cells.specs.declared.Found.TheVariants.{At, Nothing}
 use Rattle.headers.specs.WellFormed.{shape_of, count_fits, is_term_tag, bool_first, header_fits, first_bad}
 use Rattle.descriptions.specs.Description.{find, repeats, first_repeat}
 use Rattle.sorts.specs.SortRule.{is_sort, special_of, by_special, by_rule, compute_sort, states_sort, first_wrong_sort}
-use Rattle.pool.specs.Check.{arrays_fit, check_cells, check_pool}
+use Rattle.pool.specs.Check.{check_cells}
 use Rattle.tag_layouts.specs.Narrowed.{narrow, narrowed}
 
 -- two headers with tags that are none's

@@ -2,7 +2,7 @@
 --     clauses-listed     for the callers: the clauses that the arrays of a clause list spell are that list's
 -- Assumes nothing.
 use Prim.Native.Nat.{ℕ, suc, ◌+◌, ◌-◌, ◌≤◌, ◌<◌}
-use mathlib.Core.Path.{◌≡◌, refl, sym, ap, ap₂, ◌∙◌}
+use mathlib.Core.Path.{◌≡◌, refl, sym, ap, ap₂, ◌∙◌, subst}
 use mathlib.Core.Bool.{Bool, true, false}
 use mathlib.Core.List.{List, [], ◌∷◌, ◌++◌, map, append_assoc}
 use lib.ListN.{length, get_or, take, drop, length-append, length-drop, drop_of_length-le}
@@ -107,9 +107,13 @@ clauses-after : (after tail : List ℕ) (cs : List (List (Normal (List ℕ) ℕ)
 unfolding clauses_in
 clauses-after after tail [] before = refl
 clauses-after after tail (c ∷ cs) before =
-    rw (append_assoc (clause_places c))
-    (ap₂ ◌∷◌ (part-is before c (literal_places cs ++ after))
-    (rw (← append_assoc before, ← end_is before c) (clauses-after after tail cs (before ++ clause_places c))))
+    let here : before ++ (literal_places (c ∷ cs) ++ after) ≡ (before ++ clause_places c) ++ (literal_places cs ++ after) =
+    ap (λ (l : List ℕ). before ++ l) (append_assoc (clause_places c) (literal_places cs) after) ∙ sym (append_assoc before (clause_places c) (literal_places cs ++ after)) in
+    let next : clauses_in ((before ++ clause_places c) ++ (literal_places cs ++ after)) (clause_ends (length before + length c) cs ++ tail) (length before + length c) (length cs) ≡ map clause_places cs =
+    subst (λ m. clauses_in ((before ++ clause_places c) ++ (literal_places cs ++ after)) (clause_ends m cs ++ tail) m (length cs) ≡ map clause_places cs) (end_is before c) (clauses-after after tail cs (before ++ clause_places c)) in
+    ap₂ ◌∷◌
+    (ap (λ (l : List ℕ). take (length before + length c - length before) (drop (length before) (before ++ l))) (append_assoc (clause_places c) (literal_places cs) after) ∙ part-is before c (literal_places cs ++ after))
+    (ap (λ (l : List ℕ). clauses_in l (clause_ends (length before + length c) cs ++ tail) (length before + length c) (length cs)) here ∙ next)
 
 pub clauses-listed : (cs : List (List (Normal (List ℕ) ℕ))) (k m : ℕ) (literals ends : List ℕ) (count : ℕ)
     → literals ≡ padded (literal_places cs) k → ends ≡ padded (clause_ends 0 cs) m → count ≡ length cs

@@ -80,6 +80,8 @@ module _ (at : ℕ → Term) (test : List ℕ → Bool) where
     present [] (e ∷ ds) z a m = let y : ◌≡◌ {A = ℕ} 0 1 = cc in absurd (omega arith)
     present (c ∷ cs) (e ∷ ds) z a (Memᴰ.head p) = or_left (test c) _ (go c a.0 (cc))
     present (c ∷ cs) (e ∷ ds) z a (Memᴰ.tail m) = or_right (test c) _ (present cs ds (cc) a.1 m)
+    present [] [] z a m = elim m [ ]
+    present (c ∷ cs) [] z a m = elim m [ ]
 
 module _ {tags values rules : List ℕ} {n : ℕ} (c : Passed tags values rules n) (t : ℕ) (term : is_term tags n t ≡ true) where
   q : Pool
