@@ -1,5 +1,7 @@
 // The calls that users make on a pool whose tags are bytes (document 02, S-9). They work on the lent arrays themselves: no tag is copied.
 // Each is lent the table of sort rules in use: `built_in` hands out the built-in one, and `load` replaces one (S-2).
+#![tactic(auto)]
+
 ghost use Rattle.std.specs.Prelude.{◌≡◌};
 ghost use Rattle.pool.specs.Check.{check_pool};
 ghost use Rattle.pool.specs.Calls.{sort_answer, FreeVars};

@@ -1,6 +1,8 @@
 // The calls that users make on a pool whose tags are u32 (document 01's pool). Each narrows the tags that it can look at into a local array of
 // bytes, has the call on bytes work on that, and writes back what the call changed. Numbers that are no tags stay where nothing may change.
 // Each is lent the table of sort rules in use: `built_in` hands out the built-in one, and `load` replaces one.
+#![tactic(auto)]
+
 ghost use Rattle.std.specs.Prelude.{◌≡◌};
 ghost use Rattle.pool.specs.Check.{check_pool};
 ghost use Rattle.pool.specs.Calls.{sort_answer, FreeVars};
