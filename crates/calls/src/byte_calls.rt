@@ -5,9 +5,11 @@ use crate::arrays::{read_array, read_byte_tags, seven_cells, sevens};
 use crate::call_files::{HEAD, Head, conclusion_count, ends_count, lent_count};
 use crate::report;
 use pool::TermPlace;
+use std::io;
+use std::io::Write;
 
 // Call 0: the check of a step.
-pub fn check(bytes: &[u8], table: &[u32], head: Head)
+pub fn check<W: Write>(bytes: &[u8], table: &[u32], head: Head, out: &mut W) -> io::Result<()>
     requires { Bounded head }
 {
     let t = head.tags;
@@ -24,11 +26,11 @@ pub fn check(bytes: &[u8], table: &[u32], head: Head)
         head.place,
         &places[..x],
     );
-    report::byte_pool_after(answer, 0, &tags[..t], &values[..v]);
+    report::byte_pool_after(answer, 0, &tags[..t], &values[..v], out)
 }
 
 // Call 1: the sort of a term.
-pub fn sort(bytes: &[u8], table: &[u32], head: Head)
+pub fn sort<W: Write>(bytes: &[u8], table: &[u32], head: Head, out: &mut W) -> io::Result<()>
     requires { Bounded head }
 {
     let t = head.tags;
@@ -37,11 +39,11 @@ pub fn sort(bytes: &[u8], table: &[u32], head: Head)
     let tags = read_byte_tags(bytes, t);
     let values = read_array(bytes, HEAD + t, v);
     let answer = byte_tags::sort_of_term(&tags[..t], &values[..v], table, head.n, place);
-    report::byte_pool_after(answer, 0, &tags[..t], &values[..v]);
+    report::byte_pool_after(answer, 0, &tags[..t], &values[..v], out)
 }
 
 // Call 2: the free variables of a term.
-pub fn free_vars(bytes: &[u8], table: &[u32], head: Head)
+pub fn free_vars<W: Write>(bytes: &[u8], table: &[u32], head: Head, out: &mut W) -> io::Result<()>
     requires { Bounded head }
 {
     let t = head.tags;
@@ -59,12 +61,12 @@ pub fn free_vars(bytes: &[u8], table: &[u32], head: Head)
         place,
         &mut marks[..x],
     );
-    report::byte_pool_after(answer, 0, &tags[..t], &values[..v]);
-    report::byte_line(b"marks", &marks[..x]);
+    report::byte_pool_after(answer, 0, &tags[..t], &values[..v], out)?;
+    report::byte_line(b"marks", &marks[..x], out)
 }
 
 // Call 3: the normal form of a term.
-pub fn normal_form(bytes: &[u8], table: &[u32], head: Head)
+pub fn normal_form<W: Write>(bytes: &[u8], table: &[u32], head: Head, out: &mut W) -> io::Result<()>
     requires { Bounded head }
 {
     let t = head.tags;
@@ -81,11 +83,11 @@ pub fn normal_form(bytes: &[u8], table: &[u32], head: Head)
         place,
         polarity,
     );
-    report::byte_pool_after(answer, 0, &tags[..t], &values[..v]);
+    report::byte_pool_after(answer, 0, &tags[..t], &values[..v], out)
 }
 
 // Call 4: the clause list of a term.
-pub fn clause_list(bytes: &[u8], table: &[u32], head: Head)
+pub fn clause_list<W: Write>(bytes: &[u8], table: &[u32], head: Head, out: &mut W) -> io::Result<()>
     requires { Bounded head }
 {
     let t = head.tags;
@@ -105,7 +107,7 @@ pub fn clause_list(bytes: &[u8], table: &[u32], head: Head)
         &mut literals[..x],
         &mut ends[..y],
     );
-    report::byte_pool_after(listed.answer, listed.count, &tags[..t], &values[..v]);
-    report::line(b"literals", &literals[..x]);
-    report::line(b"ends", &ends[..y]);
+    report::byte_pool_after(listed.answer, listed.count, &tags[..t], &values[..v], out)?;
+    report::line(b"literals", &literals[..x], out)?;
+    report::line(b"ends", &ends[..y], out)
 }

@@ -9,7 +9,7 @@ use step_files::words::word;
 
 // The words that the calls use: X is `lent`, the length of the conclusion, of the marks or of the literals, and Y is `ends`, that
 // of the clause ends.
-#[derive(Drop)]
+#[derive(Clone, Copy)]
 pub struct Head {
     pub call: u32,
     pub tags: usize,

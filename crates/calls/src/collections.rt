@@ -6,49 +6,49 @@ use crate::arrays::file_bytes;
 use crate::one_call::run;
 use crate::report::{bad_file, name_line};
 use pool::run::wide;
+use std::io;
+use std::io::{Eprint, Read, Write};
+use std::rt::Files;
+use step_files::inputs::{open, read_full};
 use step_files::words::word;
 
 // A count or a length, or the file ends before it.
-#[derive(Drop)]
+#[derive(Clone, Copy)]
 enum Number {
     Is(usize),
     Missing,
 }
 
 pub fn is_collection(path: &[u8]) -> bool {
-    if path.len() < 6 {
-        return false;
-    }
-    let start = path.len() - 6;
-    check::same(&path[start..], b".calls")
+    path.ends_with(b".calls")
 }
 
 // Whether the file has n bytes more, which are read to the front of buf.
-fn fill(fd: i32, buf: &mut [u8], n: usize) -> bool
+fn fill<R: Read>(file: &mut R, buf: &mut [u8], n: usize) -> bool
     requires { n ≤ length buf.old }
 {
-    io::read_full(fd, &mut buf[..n]) == n
+    read_full(file, &mut buf[..n]) == n
 }
 
-fn read_number(fd: i32) -> Number {
+fn read_number<R: Read>(file: &mut R) -> Number {
     let mut bytes = [0u8; 4];
-    if !fill(fd, &mut bytes, 4) {
+    if !fill(file, &mut bytes, 4) {
         return Number::Missing;
     }
     Number::Is(wide(word(&bytes, 0)))
 }
 
 // Whether the file has so many bytes more, which are read and left.
-fn skip(fd: i32, size: usize) -> bool {
-    let mut space = io::buffer();
+fn skip<R: Read>(file: &mut R, size: usize) -> bool {
+    let mut space = [0u8; 4096];
     let mut rest = size;
     while 4096 <= rest {
-        if !fill(fd, &mut space, 4096) {
+        if !fill(file, &mut space, 4096) {
             return false;
         }
         rest -= 4096;
     }
-    fill(fd, &mut space, rest)
+    fill(file, &mut space, rest)
 }
 
 fn least(a: usize, b: usize) -> usize
@@ -59,76 +59,80 @@ fn least(a: usize, b: usize) -> usize
 
 // Prints what the call file of that size gives, after its name, unless the collection ends first. Of one that is longer than any call
 // file the start is enough.
-fn replay_file(fd: i32, name: &[u8], size: usize) -> bool {
+fn replay_file<R: Read, W: Write>(
+    file: &mut R,
+    name: &[u8],
+    size: usize,
+    out: &mut W,
+) -> io::Result<bool> {
     let mut bytes = file_bytes();
     let kept = least(size, 109245);
-    if !fill(fd, &mut bytes, kept) {
-        return false;
+    if !fill(file, &mut bytes, kept) {
+        return Ok(false);
     }
-    if !skip(fd, size - kept) {
-        return false;
+    if !skip(file, size - kept) {
+        return Ok(false);
     }
-    name_line(name);
-    run(&bytes[..kept]);
-    true
+    name_line(name, out)?;
+    run(&bytes[..kept], out)?;
+    Ok(true)
 }
 
 // False where the collection ends too early, and where the name is too long.
-fn replay_call(fd: i32) -> bool {
-    let Number::Is(length) = read_number(fd) else {
-        return false;
+fn replay_call<R: Read, W: Write>(file: &mut R, out: &mut W) -> io::Result<bool> {
+    let Number::Is(length) = read_number(file) else {
+        return Ok(false);
     };
     if 4096 < length {
-        return false;
+        return Ok(false);
     }
-    let mut name = io::buffer();
-    if !fill(fd, &mut name, length) {
-        return false;
+    let mut name = [0u8; 4096];
+    if !fill(file, &mut name, length) {
+        return Ok(false);
     }
-    let Number::Is(size) = read_number(fd) else {
-        return false;
+    let Number::Is(size) = read_number(file) else {
+        return Ok(false);
     };
-    replay_file(fd, &name[..length], size)
+    replay_file(file, &name[..length], size, out)
 }
 
-fn replay_calls(fd: i32, count: usize) -> bool {
-    let mut i = 0;
-    while i < count {
-        if !replay_call(fd) {
-            return false;
+fn replay_calls<R: Read, W: Write>(file: &mut R, count: usize, out: &mut W) -> io::Result<bool> {
+    for _ in 0..count {
+        if !replay_call(file, out)? {
+            return Ok(false);
         }
-        i += 1;
     }
-    true
+    Ok(true)
 }
 
 // Whether the collection ends with the last of its calls.
-fn replay_whole(fd: i32) -> bool {
-    let Number::Is(count) = read_number(fd) else {
-        return false;
+fn replay_whole<R: Read, W: Write>(file: &mut R, out: &mut W) -> io::Result<bool> {
+    let Number::Is(count) = read_number(file) else {
+        return Ok(false);
     };
-    if !replay_calls(fd, count) {
-        return false;
+    if !replay_calls(file, count, out)? {
+        return Ok(false);
     }
     let mut more = [0u8; 1];
-    !fill(fd, &mut more, 1)
+    Ok(!fill(file, &mut more, 1))
 }
 
-fn bad_collection(path: &[u8]) {
-    name_line(path);
-    bad_file();
+fn bad_collection<W: Write>(path: &[u8], out: &mut W) -> io::Result<()> {
+    name_line(path, out)?;
+    bad_file(out)
 }
 
 // The calls of the collection, each after a line with its name. What is wrong with the collection is said after them, under its own name.
-pub fn replay_collection(path: &[u8]) {
-    let fd = os::open_read(path);
-    if fd < 0 {
-        os::fail(path);
-        bad_collection(path);
-        return;
+pub fn replay_collection<R: Files + Eprint, W: Write>(
+    rt: &R,
+    path: &[u8],
+    out: &mut W,
+) -> io::Result<()> {
+    let Some(mut file) = open(rt, path) else {
+        return bad_collection(path, out);
+    };
+    if !replay_whole(&mut file, out)? {
+        return bad_collection(path, out);
     }
-    if !replay_whole(fd) {
-        bad_collection(path);
-    }
-    libc::close(fd);
+    Ok(())
 }

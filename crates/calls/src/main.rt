@@ -1,5 +1,7 @@
 // The check of a step and the public calls of the pool and of normal forms from a shell: a call file on standard input, or the call
 // files that the arguments name, each after a line with its name. An argument that ends in `.calls` names a collection of them.
+#![tactic(auto)]
+
 mod arrays;
 mod byte_calls;
 mod call_files;
@@ -13,50 +15,56 @@ use crate::arrays::file_bytes;
 use crate::collections::{is_collection, replay_collection};
 use crate::one_call::run;
 use crate::report::{bad_file, name_line};
-use libc::STDIN_FILENO;
+use std::io;
+use std::io::{Eprint, Read, Write};
+use std::rt::{Env, Files};
+use step_files::inputs::{argument, open, read_full};
 
-fn run_file(fd: i32) {
+fn run_file<R: Read, W: Write>(input: &mut R, out: &mut W) -> io::Result<()> {
     let mut bytes = file_bytes();
-    let n = io::read_full(fd, &mut bytes);
-    run(&bytes[..n]);
+    let n = read_full(input, &mut bytes);
+    run(&bytes[..n], out)
 }
 
-fn replay_named(path: &[u8]) {
+fn replay_named<R: Files + Eprint, W: Write>(rt: &R, path: &[u8], out: &mut W) -> io::Result<()> {
     if is_collection(path) {
-        replay_collection(path);
-        return;
+        return replay_collection(rt, path, out);
     }
-    name_line(path);
-    let fd = os::open_read(path);
-    if fd < 0 {
-        os::fail(path);
-        bad_file();
-        return;
-    }
-    run_file(fd);
-    libc::close(fd);
-}
-
-// The file that argument i names.
-fn replay_one(i: usize) {
-    let mut path = io::buffer();
-    let length = os::arg(i, &mut path);
-    replay_named(&path[..length]);
-}
-
-fn replay(count: usize) {
-    let mut i = 1;
-    while i < count {
-        replay_one(i);
-        i += 1;
+    name_line(path, out)?;
+    match open(rt, path) {
+        Some(mut file) => run_file(&mut file, out),
+        None => bad_file(out),
     }
 }
 
-fn main() {
-    let count = os::arg_count();
-    if count < 2 {
-        run_file(STDIN_FILENO);
-        return;
+// The file that argument i names. False where there is no such argument.
+fn replay_one<R: Env + Files + Eprint, W: Write>(
+    rt: &R,
+    i: usize,
+    out: &mut W,
+) -> io::Result<bool> {
+    let mut path = [0u8; 4096];
+    let Some(length) = argument(rt, i, &mut path) else {
+        return Ok(false);
+    };
+    replay_named(rt, &path[..length], out)?;
+    Ok(true)
+}
+
+fn replay<R: Env + Files + Eprint, W: Write>(rt: &R, out: &mut W) -> io::Result<()> {
+    for i in 1..usize::MAX {
+        if !replay_one(rt, i, out)? {
+            break;
+        }
     }
-    replay(count);
+    Ok(())
+}
+
+fn main(rt: HostRuntime) -> io::Result<()> {
+    let mut out = rt.stdout();
+    let mut path = [0u8; 4096];
+    if argument(&rt, 1, &mut path).is_none() {
+        return run_file(&mut rt.reader(), &mut out);
+    }
+    replay(&rt, &mut out)
 }

@@ -3,6 +3,8 @@ use crate::call_files::read_head;
 use crate::report;
 use sort_table::loading;
 use sort_table::table::built_in;
+use std::io;
+use std::io::Write;
 
 // It has no pool: T, V and N are 0, and nothing follows the head.
 fn has_no_pool(bytes: &[u8]) -> bool {
@@ -19,13 +21,12 @@ fn has_no_pool(bytes: &[u8]) -> bool {
     head.n == 0
 }
 
-pub fn load(bytes: &[u8], entries: &[u32]) {
+pub fn load<W: Write>(bytes: &[u8], entries: &[u32], out: &mut W) -> io::Result<()> {
     if !has_no_pool(bytes) {
-        report::bad_file();
-        return;
+        return report::bad_file(out);
     }
     let mut table = built_in();
     let answer = loading::load(entries, &mut table);
-    report::answer_line(answer, 0);
-    report::line(b"table", &table);
+    report::answer_line(answer, 0, out)?;
+    report::line(b"table", &table, out)
 }

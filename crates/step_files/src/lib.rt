@@ -1,5 +1,8 @@
 // A step file from its bytes to the lines that answer it.
+#![tactic(auto)]
+
 pub mod answer_lines;
+pub mod inputs;
 mod lines;
 pub mod words;
 

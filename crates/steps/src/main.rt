@@ -1,10 +1,15 @@
 // Answers a step file on standard input, or the step files that the arguments name, each after a line with its name. The name `-`
 // is standard input.
+#![tactic(auto)]
+
 ghost use Rattle.std.specs.Prelude.{◌≡◌, length};
 
-use libc::{STDIN_FILENO, STDOUT_FILENO};
 use sort_table::table::built_in;
+use std::io;
+use std::io::{Eprint, Input, Read, Write};
+use std::rt::{Env, Files};
 use step_files::answer_file;
+use step_files::inputs::{argument, open, read_full};
 
 // One byte more than the longest step file, 4 * (2 + 2 * 8,192 + 2 * 256): a longer one has a wrong length too.
 fn file_bytes() -> [u8; 67593]
@@ -19,13 +24,13 @@ fn text_bytes() -> [u8; 11264]
     [0; 11264]
 }
 
-fn answer(fd: i32) {
+fn answer<R: Read, W: Write>(input: &mut R, out: &mut W) -> io::Result<()> {
     let mut file = file_bytes();
-    let n = io::read_full(fd, &mut file);
+    let n = read_full(input, &mut file);
     let table = built_in();
     let mut text = text_bytes();
     let end = answer_file(&file[..n], &table, &mut text);
-    io::write_all(STDOUT_FILENO, &text[..end]);
+    out.write_all(&text[..end])
 }
 
 fn is_standard_input(path: &[u8]) -> bool {
@@ -35,38 +40,39 @@ fn is_standard_input(path: &[u8]) -> bool {
     path[0] == b'-'
 }
 
-// The step file that argument i names.
-fn answer_named(i: usize) {
-    let mut path = io::buffer();
-    let length = os::arg(i, &mut path);
-    io::write_all(STDOUT_FILENO, &path[..length]);
-    io::write_all(STDOUT_FILENO, b":\n");
-    if is_standard_input(&path[..length]) {
-        answer(STDIN_FILENO);
-        return;
+// The step file that an argument names.
+fn answer_named<R: Files + Input + Eprint, W: Write>(
+    rt: &R,
+    path: &[u8],
+    out: &mut W,
+) -> io::Result<()> {
+    out.write_all(path)?;
+    out.write_all(b":\n")?;
+    if is_standard_input(path) {
+        return answer(&mut rt.reader(), out);
     }
-    let fd = os::open_read(&path[..length]);
-    if fd < 0 {
-        os::fail(&path[..length]);
-        return;
-    }
-    answer(fd);
-    libc::close(fd);
-}
-
-fn answer_all(count: usize) {
-    let mut i = 1;
-    while i < count {
-        answer_named(i);
-        i += 1;
+    match open(rt, path) {
+        Some(mut file) => answer(&mut file, out),
+        None => Ok(()),
     }
 }
 
-fn main() {
-    let count = os::arg_count();
-    if count < 2 {
-        answer(STDIN_FILENO);
-        return;
+fn answer_all<R: Env + Files + Input + Eprint, W: Write>(rt: &R, out: &mut W) -> io::Result<()> {
+    let mut path = [0u8; 4096];
+    for i in 1..usize::MAX {
+        let Some(length) = argument(rt, i, &mut path) else {
+            break;
+        };
+        answer_named(rt, &path[..length], out)?;
     }
-    answer_all(count);
+    Ok(())
+}
+
+fn main(rt: HostRuntime) -> io::Result<()> {
+    let mut out = rt.stdout();
+    let mut path = [0u8; 4096];
+    if argument(&rt, 1, &mut path).is_none() {
+        return answer(&mut rt.reader(), &mut out);
+    }
+    answer_all(&rt, &mut out)
 }

@@ -1,11 +1,14 @@
 // The comparison of joined lists, a line for each case.
+#![tactic(auto)]
+
 ghost use Rattle.std.specs.Prelude.{◌≤◌};
 
 use joined_records::{Binding, same_joined};
-use libc::STDOUT_FILENO;
+use std::io;
+use std::io::Write;
 
 // The first n of four pairs.
-#[derive(Drop)]
+#[derive(Clone, Copy)]
 struct List {
     pairs: [Binding; 4],
     n: usize,
@@ -64,49 +67,93 @@ fn joins(
     same_joined(&outer[..n], &inner[..m], &right[..k])
 }
 
-fn case(name: &[u8], outer: List, inner: List, right: List)
+fn case<W: Write>(name: &[u8], outer: List, inner: List, right: List, out: &mut W) -> io::Result<()>
     requires { (outer.n ≤ 4) × ((inner.n ≤ 4) × (right.n ≤ 4)) }
 {
     let a = outer.pairs;
     let b = inner.pairs;
     let c = right.pairs;
-    io::write_all(STDOUT_FILENO, name);
+    out.write_all(name)?;
     if joins(a, outer.n, b, inner.n, c, right.n) {
-        io::write_all(STDOUT_FILENO, b": equal\n");
+        out.write_all(b": equal\n")
     } else {
-        io::write_all(STDOUT_FILENO, b": not equal\n");
+        out.write_all(b": not equal\n")
     }
 }
 
-// A name under two sorts is x and z.
-fn main() {
+// Lists that meet in one pair, and lists that do not.
+fn meeting_lists<W: Write>(out: &mut W) -> io::Result<()> {
     let x = pair(1, 0);
     let y = pair(2, 0);
-    let z = pair(1, 3);
     case(
         b"x with y x, right x y x",
         one(x),
         two(y, x),
         three(x, y, x),
-    );
-    case(b"x with y x, right x y", one(x), two(y, x), two(x, y));
-    case(b"x with x, right x", one(x), one(x), one(x));
-    case(b"x with x, right x x", one(x), one(x), two(x, x));
-    case(b"none with none, right none", none(), none(), none());
-    case(b"none with none, right x", none(), none(), one(x));
-    case(b"none with x, right x", none(), one(x), one(x));
-    case(b"x y with none, right x y", two(x, y), none(), two(x, y));
-    case(b"x with none, right none", one(x), none(), none());
-    case(b"x with z, right x z", one(x), one(z), two(x, z));
-    case(b"x with z, right x", one(x), one(z), one(x));
-    case(b"x x with x y, right x y", two(x, x), two(x, y), two(x, y));
-    case(b"x with y, right y x", one(x), one(y), two(y, x));
-    case(b"x with y, right x", one(x), one(y), one(x));
-    case(b"x with y, right x y x", one(x), one(y), three(x, y, x));
+        out,
+    )?;
+    case(b"x with y x, right x y", one(x), two(y, x), two(x, y), out)?;
+    case(b"x with x, right x", one(x), one(x), one(x), out)?;
+    case(b"x with x, right x x", one(x), one(x), two(x, x), out)
+}
+
+fn empty_lists<W: Write>(out: &mut W) -> io::Result<()> {
+    let x = pair(1, 0);
+    let y = pair(2, 0);
+    case(b"none with none, right none", none(), none(), none(), out)?;
+    case(b"none with none, right x", none(), none(), one(x), out)?;
+    case(b"none with x, right x", none(), one(x), one(x), out)?;
+    case(
+        b"x y with none, right x y",
+        two(x, y),
+        none(),
+        two(x, y),
+        out,
+    )?;
+    case(b"x with none, right none", one(x), none(), none(), out)
+}
+
+// A name under two sorts is x and z.
+fn two_sorts<W: Write>(out: &mut W) -> io::Result<()> {
+    let x = pair(1, 0);
+    let z = pair(1, 3);
+    case(b"x with z, right x z", one(x), one(z), two(x, z), out)?;
+    case(b"x with z, right x", one(x), one(z), one(x), out)
+}
+
+// Equal pairs within a list, and right lists in another order or of another length.
+fn right_lists<W: Write>(out: &mut W) -> io::Result<()> {
+    let x = pair(1, 0);
+    let y = pair(2, 0);
+    case(
+        b"x x with x y, right x y",
+        two(x, x),
+        two(x, y),
+        two(x, y),
+        out,
+    )?;
+    case(b"x with y, right y x", one(x), one(y), two(y, x), out)?;
+    case(b"x with y, right x", one(x), one(y), one(x), out)?;
+    case(
+        b"x with y, right x y x",
+        one(x),
+        one(y),
+        three(x, y, x),
+        out,
+    )?;
     case(
         b"x y with x y, right x y x y",
         two(x, y),
         two(x, y),
         four(x, y, x, y),
-    );
+        out,
+    )
+}
+
+fn main(rt: HostRuntime) -> io::Result<()> {
+    let mut out = rt.stdout();
+    meeting_lists(&mut out)?;
+    empty_lists(&mut out)?;
+    two_sorts(&mut out)?;
+    right_lists(&mut out)
 }

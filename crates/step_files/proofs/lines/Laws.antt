@@ -16,7 +16,7 @@ use Rattle.step_files.specs.Words.{word_at, words_from}
 use Rattle.step_files.proofs.words.Words.{length-words, get_d_words}
 use Rattle.step_files.proofs.NarrowedTags.{file-answer}
 use Rattle.tag_layouts.specs.Narrowed.{narrow, narrowed}
-use Rattle.tag_layouts.proofs.Alike.{narrowed_at, narrowed-length, narrowed-append, narrowed-padded}
+use Rattle.tag_layouts.proofs.Alike.{narrowed_at, narrowed-length, narrowed-padded}
 use Rattle.pool.specs.Check.{check_pool, Indexed}
 use Rattle.answers.specs.declared.Answer.{Answer}
 use Rattle.rules.specs.Step.{cells_left, Step}

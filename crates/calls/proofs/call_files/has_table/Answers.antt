@@ -1,0 +1,6 @@
+use borrow.Author.Rules.{rules}
+use Rattle.calls.proofs.call_files.Laws.{blocks}
+use Rattle.calls.proofs.call_files.has_table.Goals as goal
+
+pub returns : goal.returns
+returns c = search (blocks, rules)

@@ -1,0 +1,4 @@
+use Rattle.weldrika.proofs.byte_calls.weldrika_normal_form_u8.Goals as goal
+
+pub returns : goal.returns
+returns c = rw c.put_answer.ensures c.normal_form-a.ensures
