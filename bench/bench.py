@@ -83,6 +83,7 @@ def groups(rng):
     """Titles, files, and whether each file has twice the cells of the one before."""
     return (('Valid steps of all rules, %d files of 256 steps' % bench_files.POOLS, bench_files.valid_files(rng), True),
             ('Clause lists near the limits, 64 steps', bench_files.clause_files(rng), False),
+            ('Outer lists of rule 5, 256 steps', bench_files.outer_files(), False),
             ('Hostile pools, 256 steps', bench_files.hostile_files(), False))
 
 

@@ -2,6 +2,7 @@
 
     valid_files(rng)        steps that are accepted, of all six rules, on pools of 500 to 8,000 cells
     clause_files(rng)       steps of rule 3 whose clause lists are about as long as they may be
+    outer_files()           steps of rule 5 with many operands, or with long outer lists
     hostile_files()         pools made to be slow: shared terms, products that explode, deep terms, long lists, full pools
 
 Each gives names with lists of files, which are measured together. A file has at most 256 steps; fewer conclusions are gone through
@@ -111,6 +112,45 @@ def clause_files(rng):
     for k in range(1, NEAR + 1):
         pool = near_step(rng)
         yield 'random near the limits %d' % k, [whole(pool, pool.steps, CLAUSE_STEPS)]
+
+
+# ---- outer lists
+def named(count):
+    return [(2 + i, 0) for i in range(count)]
+
+
+def split(pool, quantifier, connective, outer, phis, uses):
+    """A step of rule 5: each operand phi under a quantifier over the outer pairs that it uses, and as it is where it uses none."""
+    left = pool.binder(quantifier, pool.op(connective, *phis), outer)
+    right = pool.op(connective, *(pool.binder(quantifier, phi, used) if used else phi for phi, used in zip(phis, uses)))
+    return 5, pool.op('Equals', left, right)
+
+
+def many_operands(outer, uses):
+    """An operand for each list of used pairs: the first variable of it, or p."""
+    pool = Parts()
+    phis = [pool.var(*used[0]) if used else pool.p for used in uses]
+    return whole(pool, [split(pool, *kind, outer, phis, uses) for kind in (('forall', 'Or'), ('exists', 'And'))])
+
+
+def long_outer_list(outer, uses):
+    """The operand p for each list of used pairs."""
+    pool = Parts()
+    return whole(pool, [split(pool, 'forall', 'Or', outer, [pool.p] * len(uses), uses)])
+
+
+def outer_files():
+    sixty, long = named(60), named(2000)
+    each, half = [[pair] for pair in sixty], named(30)
+    yield '60 operands, a list of 60', [many_operands(sixty, each)]
+    yield 'the same, the last operand first', [many_operands(sixty, each[::-1])]
+    yield 'the same, the last one uses a pair again', [many_operands(sixty, each[:-1] + [[sixty[-1], sixty[0]]])]
+    yield '60 operands, a list of 30 pairs twice', [many_operands(half + half, [[pair] for pair in half] + [[]] * 30)]
+    yield 'a list of 2,000, used by one operand', [long_outer_list(long, [long])]
+    yield 'the same, the last pair first', [long_outer_list(long, [long[::-1]])]
+    yield 'the same, by 20 operands', [long_outer_list(long, [long[i::20] for i in range(20)])]
+    yield 'the same, the last pair used again', [long_outer_list(long, [long[:-1] + long[-2:-1]])]
+    yield 'a list of 1,000 pairs twice', [long_outer_list(named(1000) * 2, [named(1000)])]
 
 
 # ---- hostile pools

@@ -1,3 +1,5 @@
 pub mod Binding
 pub mod BindingAnswer
+pub mod Distinct
+pub mod OuterPairs
 pub mod Used

@@ -3,4 +3,5 @@
 
 pub mod binding;
 pub mod list_comparison;
+pub mod outer_pairs;
 pub mod used_pairs;

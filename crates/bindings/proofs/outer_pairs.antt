@@ -1,0 +1,3 @@
+pub mod Entering
+pub mod Laws
+pub mod Left

@@ -1,0 +1,277 @@
+-- Laws of `OuterPairs`, one for each way through the code.
+-- Assumes nothing.
+use Prim.Native.Nat.{ℕ, zero, suc, ◌+◌, ◌-◌, ◌*◌, ◌/◌, ◌%◌, ◌≤◌, ◌<◌}
+use mathlib.Core.Path.{◌≡◌, refl, sym, ◌∙◌}
+use mathlib.Core.Bool.{Bool, true, false, not}
+use mathlib.Core.List.{List, []}
+use lib.ListN.{length, get_or, drop, set, replicate, length-set, length-replicate}
+use lib.Seq.{get_or-set_same, get_or-set_other}
+use lib.Dec.{eqb}
+use native.Mathlib.Omega.{arith}
+use native.Mathlib.Nat.{mod-lt}
+use borrow.Author.Tests.{eq-eqb, ne_eqb, eqb-true, eqb-false, not-true, not-false}
+use Rattle.cells.specs.ByPlace.{by-test}
+use Rattle.answers.specs.Outcome.{Outcome, ◌>>◌, guard}
+use Rattle.answers.specs.declared.checked.Checked.TheVariants.{Passes, Refuses}
+use Rattle.bindings.specs.Binding.{Binding, bindings_of, same, has}
+use Rattle.bindings.specs.BindingAnswer.{pair, pair_at}
+use Rattle.bindings.specs.Used.{use_all}
+use Rattle.bindings.specs.Distinct.{added, added_all, distinct}
+use Rattle.bindings.specs.OuterPairs.{pair_in, link_of, head_of, still_left, is_pair, left_below, left_in, bucket_of, scan, OnChain, Prepared, Bucket, entered, Room, Filled, Puts, Blank, PreparedFor, UsesPrepared, Leaves}
+use Rattle.bindings.proofs.binding.Laws.{same-is, pairs_end, pairs_next}
+use Rattle.bindings.proofs.Distinct.{clash}
+use Rattle.bindings.proofs.outer_pairs.Left.{left-inside, pair_left, pair_same, left-none, left-some, scan-none, scan-one, scan-found, scan-lacks, below_more, below-without, chain-end, chain_next, chain-kept}
+use Rattle.bindings.proofs.outer_pairs.Entering.{filled⁺, pairs⁺}
+
+-- ---- the bucket of a pair
+pub bucket-is : (cells : List ℕ) (a s : ℕ) → 5 ≤ length cells → Bucket cells (pair a s) ((a * 1021 + s) % (length cells / 5))
+unfolding bucket_of
+bucket-is cells a s h =
+    let small : (a * 1021 + s) % (length cells / 5) < length cells / 5 = mod-lt (a * 1021 + s) (omega arith) in
+    record { is = refl; inside = omega arith }
+
+pub ruleset buckets = (bucket-is)
+
+-- ---- whether pair k is left and is a: l is its mark
+module _ (cells : List ℕ) (a : Binding) (k l : ℕ) (mark : l ≡ get_or cells (5 * k + 2) 0) where
+  pub test-gone : l ≡ 0 → false ≡ is_pair cells a k
+  unfolding is_pair still_left
+  test-gone e = rw (eq-eqb _ _ (sym mark ∙ e))
+
+  pub test-left : (l ≡ 0 → ⊥) → (x y : ℕ) → x ≡ get_or cells (5 * k) 0 → y ≡ get_or cells (5 * k + 1) 0 → (r : Bool) → r ≡ same (pair x y) a
+      → r ≡ is_pair cells a k
+  unfolding is_pair still_left
+  test-left n x y p q r e = rw (ne_eqb _ _ (λ z. n (mark ∙ z)), ← p, ← q) e
+
+pub ruleset tests = (test-gone, test-left)
+
+-- ---- a pair stands at one place
+one_place : (cells : List ℕ) → Prepared cells → (a : Binding) (j k : ℕ) → is_pair cells a j ≡ true → is_pair cells a k ≡ true → j ≡ k
+one_place cells p a j k s t =
+    p.single j k (pair_left cells a j s) (pair_left cells a k t)
+    (rw (← same-is (pair_in cells k) a (pair_same cells a k t)) at (pair_same cells a j s))
+
+-- ---- a pair sought: every place of a is on the chain from c
+pub record Seeking (cells : List ℕ) (a : Binding) (c : ℕ) : Type 0 where
+  pub left : (k : ℕ) → is_pair cells a k ≡ true → OnChain cells c k
+
+module _ (cells : List ℕ) (a : Binding) where
+  pub seek-start : Prepared cells → (b : ℕ) → Bucket cells a b → Seeking cells a (head_of cells b)
+  seek-start p b k = record {
+    left = λ j e.
+        rw k.is
+        (rw (same-is (pair_in cells j) a (pair_same cells a j e)) at (p.reached j (pair_left cells a j e)));
+  }
+
+  module _ (c : ℕ) (s : Seeking cells a c) where
+    pub seek-end : c ≤ 0 → 0 ≡ scan cells a
+    seek-end h = sym (scan-none cells a (λ k. by-test (is_pair cells a k) (λ t. absurd (chain-end cells k (s.left k t) (omega arith))) (λ t. t)))
+
+    module _ (h : 0 < c) (r : Bool) (is : r ≡ is_pair cells a (c - 1)) where
+      pub seek-here : Prepared cells → r ≡ true → c ≡ scan cells a
+      seek-here p e =
+          let z : suc (c - 1) ≡ c = omega arith in
+          sym (scan-one cells a (c - 1) (sym is ∙ e) (λ k t. one_place cells p a k (c - 1) t (sym is ∙ e)) ∙ z)
+
+      pub seek-next : r ≡ false → (d : ℕ) → d ≡ link_of cells (c - 1) → Seeking cells a d
+      seek-next e d l = record {
+        left = λ k t. rw l (chain_next cells k (s.left k t) (c - 1) (omega arith) (λ z. clash (is_pair cells a k) t (rw z (sym is ∙ e))));
+      }
+
+pub ruleset seeks = (seek-start, seek-end, seek-here, seek-next)
+
+-- a chain goes back: the measure
+pub link-less : (cells : List ℕ) (c d : ℕ) → Prepared cells → 0 < c → d ≡ link_of cells (c - 1) → d < c
+link-less cells c d p h e = omega (arith, p.back (c - 1))
+
+pub ruleset descent = (link-less)
+
+-- ---- a pair put at the end, unless it is there
+module _ (cells : List ℕ) (a : Binding) (n : ℕ) (f : Filled cells n) (c : ℕ) (found : c ≡ scan cells a) where
+  pub put-there : (c ≡ 0 → ⊥) → Puts a cells n cells n
+  unfolding added
+  put-there o =
+      let there : has (left_in cells) a ≡ true = left-some cells a (c - 1) (scan-found cells a (c - 1) (omega arith)) in
+      record { filled = f; more = omega arith; pairs = rw there }
+
+  module _ (z : c ≡ 0) where
+    lacks : (j : ℕ) → is_pair cells a j ≡ false
+    lacks = scan-lacks cells a (sym found ∙ z)
+
+    pub put-new : Room cells n → (b : ℕ) → Bucket cells a b → (after : List ℕ) → after ≡ entered cells n a b → Puts a cells n after (n + 1)
+    unfolding added
+    put-new r b k after e =
+        rw e
+        (record {
+          filled = filled⁺ cells n a b r k f lacks;
+          more = omega arith;
+          pairs = pairs⁺ cells n a b r k f lacks ∙ rw (left-none cells a lacks);
+        })
+
+pub ruleset puts = (put-there, put-new)
+
+-- ---- the outer list prepared: n pairs are entered, and the list is to be read from i on
+pub record Preparing (outer cells : List ℕ) (n i : ℕ) : Type 0 where
+  pub filled : Filled cells n
+  pub few : 2 * n ≤ i
+  pub within : i ≤ length outer
+  pub enough : 5 * length outer ≤ 2 * length cells
+  pub small : length outer ≤ 8192
+  pub pairs : distinct (bindings_of outer) ≡ added_all (left_in cells) (bindings_of (drop i outer))
+
+zeroes-at : (n i : ℕ) → get_or {A = ℕ} (replicate n 0) i 0 ≡ 0
+zeroes-at zero i = refl
+zeroes-at (suc n) zero = refl
+zeroes-at (suc n) (suc i) = zeroes-at n i
+
+-- an array of n zeroes
+pub blank : (n size : ℕ) → 5 * size ≤ 2 * n → 5 ≤ n → size ≤ 8192 → Blank (replicate n 0) size
+blank n size e r s = record {
+  zeroes = zeroes-at n;
+  enough = rw (length-replicate {A = ℕ} n 0) e;
+  room = rw (length-replicate {A = ℕ} n 0) r;
+  small = s;
+}
+
+module _ (cells : List ℕ) (zeroes : (i : ℕ) → get_or cells i 0 ≡ 0) where
+  none_left : (k : ℕ) → still_left cells k ≡ false
+  unfolding still_left
+  none_left k = rw (zeroes (5 * k + 2))
+
+  all-zero : left_in cells ≡ []
+  unfolding left_in left_below
+  all-zero = below_more cells 0 (λ k h. none_left k) (length cells) (omega arith)
+
+  filled_none : 5 ≤ length cells → Filled cells 0
+  filled_none h = record {
+    ready = record {
+      room = h;
+      back = λ k. omega (arith, zeroes (5 * k + 3));
+      reached = λ k e. clash (still_left cells k) e (none_left k);
+      single = λ j k l m s. clash (still_left cells j) l (none_left j);
+    };
+    rest = λ k h. none_left k;
+    heads = λ b. omega (arith, zeroes (5 * b + 4));
+  }
+
+module _ (outer cells : List ℕ) where
+  pub prepare-start : Blank cells (length outer) → Preparing outer cells 0 0
+  unfolding distinct
+  prepare-start b = record {
+    filled = filled_none cells b.zeroes b.room;
+    few = omega arith;
+    within = omega arith;
+    enough = b.enough;
+    small = b.small;
+    pairs = rw (all-zero cells b.zeroes);
+  }
+
+  module _ (n i : ℕ) (p : Preparing outer cells n i) where
+    pub prepare-end : length outer - i < 2 → PreparedFor (bindings_of outer) cells
+    unfolding added_all
+    prepare-end h = record { ready = p.filled.ready; pairs = sym (rw (pairs_end outer i h) at p.pairs) }
+
+    module _ (h : 2 ≤ length outer - i) where
+      pub prepare-room : Room cells n
+      prepare-room = record { inside = omega (arith, p.few, p.enough); small = omega (arith, p.few, p.small) }
+
+      pub prepare-next : (after : List ℕ) (m : ℕ) → length after ≡ length cells → Puts (pair_at outer i) cells n after m → Preparing outer after m (i + 2)
+      unfolding added_all
+      prepare-next after m e q = record {
+        filled = q.filled;
+        few = omega (arith, q.more, p.few);
+        within = omega arith;
+        enough = omega (arith, p.enough);
+        small = p.small;
+        pairs = p.pairs ∙ rw (pairs_next outer i h, q.pairs);
+      }
+
+pub ruleset prepares = (prepare-start, prepare-end, prepare-room, prepare-next)
+
+-- ---- one pair used
+module _ (cells : List ℕ) (p : Prepared cells) (q : ℕ) where
+  abbrev used : List ℕ
+  used = set cells (5 * q + 2) 0
+
+  -- no other cell changes
+  kept : (i : ℕ) → (i ≡ 5 * q + 2 → ⊥) → get_or used i 0 ≡ get_or cells i 0
+  kept i o = get_or-set_other cells (5 * q + 2) i 0 0 o
+
+  pair-kept : (k : ℕ) → pair_in used k ≡ pair_in cells k
+  pair-kept k = rw (kept (5 * k) (λ e. omega arith), kept (5 * k + 1) (λ e. omega arith))
+
+  left-kept : (k : ℕ) → (k ≡ q → ⊥) → still_left used k ≡ still_left cells k
+  unfolding still_left
+  left-kept k o = rw (kept (5 * k + 2) (λ e. o (omega arith)))
+
+  module _ (l : still_left cells q ≡ true) where
+    used-gone : still_left used q ≡ false
+    unfolding still_left
+    used-gone = rw (get_or-set_same cells (5 * q + 2) 0 0 (left-inside cells q l))
+
+    -- what is left was left
+    was-left : (k : ℕ) → still_left used k ≡ true → still_left cells k ≡ true
+    was-left k e =
+        by-test (eqb k q)
+        (λ s. let z : k ≡ q = eqb-true _ _ s in clash (still_left used k) e (rw z used-gone))
+        (λ s. sym (left-kept k (eqb-false _ _ s)) ∙ e)
+
+    used-ready : Prepared used
+    used-ready = record {
+      room = rw length-set p.room;
+      back = λ k. rw (kept (5 * k + 3) (λ e. omega arith)) (p.back k);
+      reached = λ k e.
+          rw (pair-kept k, length-set, kept (5 * bucket_of (length cells) (pair_in cells k) + 4) (λ z. omega arith))
+          (chain-kept cells k used (head_of cells (bucket_of (length cells) (pair_in cells k))) (λ j h. kept (5 * j + 3) (λ z. omega arith)) p.back
+          (p.reached k (was-left k e)) (omega arith));
+      single = λ j k e m s. p.single j k (was-left j e) (was-left k m) (rw (pair-kept j, pair-kept k) at s);
+    }
+
+    used-left : (a : Binding) → is_pair cells a q ≡ true → UsesPrepared a cells true used
+    unfolding left_in
+    used-left a t = record {
+      was = sym (left-some cells a q t);
+      rest = rw length-set (below-without cells used a q t (λ k e. one_place cells p a k q e t) used-gone left-kept pair-kept (length cells));
+      kept = used-ready;
+    }
+
+module _ (cells : List ℕ) (p : Prepared cells) (a : Binding) (c : ℕ) (found : c ≡ scan cells a) where
+  pub use-not : c ≡ 0 → UsesPrepared a cells false cells
+  use-not z = record { was = sym (left-none cells a (scan-lacks cells a (sym found ∙ z))); rest = refl; kept = p }
+
+  module _ (o : c ≡ 0 → ⊥) where
+    found-there : is_pair cells a (c - 1) ≡ true
+    found-there = scan-found cells a (c - 1) (omega arith)
+
+    pub use-inside : 5 * (c - 1) + 2 < length cells
+    use-inside = left-inside cells (c - 1) (pair_left cells a (c - 1) found-there)
+
+    pub use-left : (after : List ℕ) → after ≡ set cells (5 * (c - 1) + 2) 0 → UsesPrepared a cells true after
+    use-left after e = rw e (used-left cells p (c - 1) (pair_left cells a (c - 1) found-there) a found-there)
+
+pub ruleset uses = (use-not, use-inside, use-left)
+
+-- ---- an inner list used: w is what its pairs from the cell i on do to what is left
+pub record Using (w : Outcome (List Binding)) (inner : List ℕ) (i : ℕ) (cells : List ℕ) : Type 0 where
+  pub within : i ≤ length inner
+  pub ready : Prepared cells
+  pub rest : w ≡ use_all (bindings_of (drop i inner)) (left_in cells)
+
+pub all_start : (inner cells : List ℕ) → Prepared cells → Using (use_all (bindings_of inner) (left_in cells)) inner 0 cells
+all_start inner cells p = record { within = omega arith; ready = p; rest = refl }
+
+module _ (w : Outcome (List Binding)) (inner : List ℕ) (i : ℕ) (cells : List ℕ) (s : Using w inner i cells) where
+  pub all_end : length inner - i < 2 → Leaves w Passes cells
+  unfolding use_all
+  all_end h = record { outcome = rw (s.rest, pairs_end inner i h); kept = s.ready }
+
+  module _ (h : 2 ≤ length inner - i) (r : Bool) (after : List ℕ) (u : UsesPrepared (pair_at inner i) cells r after) where
+    pub all_new : not r ≡ true → Leaves w (Refuses 8 (get_or inner i 0) 0) after
+    unfolding use_all ◌>>◌ guard
+    all_new e = record { outcome = rw (s.rest, pairs_next inner i h, ← u.was, not-true r e); kept = u.kept }
+
+    pub all-next : not r ≡ false → Using w inner (i + 2) after
+    unfolding use_all ◌>>◌ guard
+    all-next e = record { within = omega arith; ready = u.kept; rest = rw (s.rest, pairs_next inner i h, ← u.was, u.rest, not-false r e) }
+
+pub ruleset all = (all_start, all_end, all_new, all-next)
