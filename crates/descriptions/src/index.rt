@@ -3,7 +3,7 @@ ghost use Rattle.cells.specs.Limits.{cell_limit};
 ghost use Rattle.std.specs.Prelude.{◌≡◌, cond, ◌+◌, ◌≤◌, ◌<◌, get_or};
 ghost use Rattle.cells.specs.Cell.{is_at};
 ghost use Rattle.descriptions.specs.Description.{repeats, first_repeat, Added-is};
-ghost use Rattle.descriptions.specs.Index.{bucket_count, bucket_of, head_of, on_chain, as_found, PointsBack, Index, entered, without, Earlier, Indexes, count_after};
+ghost use Rattle.descriptions.specs.Index.{bucket_count, bucket_of, head_of, on_chain, as_found, PointsBack, Index, entered, without, Earlier, Indexes, count_after, look_up};
 
 use crate::adding::{is_full, put};
 use crate::description::{Added, zero_from};
@@ -82,6 +82,14 @@ fn first_in(
         return Found::Nothing;
     }
     Found::At(run::wide(last) - 1)
+}
+
+// What the index has of a description.
+pub fn look_up(tags: &[u8], values: &[u32], index: &[u32; INDEX], tag: u8, cells: &[u32]) -> Found
+    requires { PointsBack index.now }
+    ensures { result ≡ look_up tags.now values.now index.now tag cells.now }
+{
+    first_in(tags, values, index, bucket(tag, cells), tag, cells)
 }
 
 // Puts the header at p in front of the chain of bucket b.

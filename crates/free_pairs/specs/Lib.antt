@@ -2,3 +2,4 @@ pub mod FreeLists
 pub mod Mask
 pub mod MaskWalk
 pub mod BindingFree
+pub mod BindingListed

@@ -5,6 +5,7 @@ ghost use Rattle.std.specs.Prelude.{◌≡◌, ◌+◌, get_or, set};
 ghost use Rattle.cells.specs.Cell.{sort_of};
 ghost use Rattle.free_variables.specs.Free.{let_values};
 ghost use Rattle.free_variables.specs.Names.{bucket_of, may_be_free, free_in, NamesMarked};
+ghost use Rattle.free_variables.specs.Occurs.{OccursFrom};
 ghost use Rattle.free_variables.specs.NamesWalk.{free_among, FreeFromMeans, NamesMemo, NamesWalked};
 
 use cells::limits::CELLS;
@@ -59,7 +60,8 @@ pub enum FreeFrom {
 
 // Where the free variables of the term at t are.
 pub fn free_from(tags: &[u8], values: &[u32], t: TermPlace) -> FreeFrom
-    ensures { FreeFromMeans tags.now values.now t.0 result }
+    ensures means { FreeFromMeans tags.now values.now t.0 result }
+    ensures occurs { OccursFrom tags.now values.now t.0 result }
 {
     let at = t.0 as usize;
     let tag = tag_at(tags, at);

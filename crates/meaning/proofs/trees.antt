@@ -1,7 +1,9 @@
+pub mod Appearing
 pub mod Computed
 pub mod Forms
 pub mod Free
 pub mod Header
+pub mod ListOfTree
 pub mod Occurs
 pub mod Operators
 pub mod Parts

@@ -12,3 +12,5 @@ pub mod SortTree
 pub mod Term
 pub mod Tree
 pub mod Reached
+pub mod Occurrences
+pub mod AppearingCases

@@ -9,8 +9,9 @@ use lib.Seq.{drop-cons}
 use native.Mathlib.Omega.{arith}
 use native.Mathlib.Nat.{mod-lt}
 use native.Mathlib.Numerals.{add-one}
+use Rattle.cells.specs.Cell.{is_at}
 use Rattle.cells.specs.ByPlace.{by-test}
-use Rattle.descriptions.specs.Index.{hash_from, bucket_of, chain_in, on_chain, as_found, PointsBack}
+use Rattle.descriptions.specs.Index.{hash_from, bucket_of, chain_in, on_chain, head_of, as_found, look_up, PointsBack}
 use Rattle.cells.specs.declared.Found.{Found}
 use Rattle.cells.specs.declared.Found.TheVariants.{At, Nothing}
 use Rattle.descriptions.proofs.description.Fills.{or_else}
@@ -136,3 +137,9 @@ module _ (last w : ℕ) (is : last ≡ w) where
   one_found x n e = ap At (ap (λ y. y - 1) e) ∙ rw (← is) (as-found last n)
 
 pub ruleset founds = (none_found, one_found)
+
+-- what the index has of a description, found in the chain of its bucket
+pub looks-up : (tags values index : List ℕ) (tag : ℕ) (cells : List ℕ) (b : ℕ) → b ≡ bucket_of tag cells → (r : Found)
+    → r ≡ as_found (on_chain index (λ q. is_at tags values q tag cells) (head_of index b) 0) → r ≡ look_up tags values index tag cells
+unfolding look_up
+looks-up tags values index tag cells b e r is = is ∙ ap (λ (x : ℕ). as_found (on_chain index (λ q. is_at tags values q tag cells) (head_of index x) 0)) e

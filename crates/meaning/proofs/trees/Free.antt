@@ -72,12 +72,34 @@ module _ (tags values : List ℕ) (n : ℕ) (whole : n ≤ length values) (forme
       rw (eq-eqb _ _ p, eq-eqb _ _ q))
 
   -- another place is another variable
-  var-same : (t : ℕ) → t < n → get_or tags t 0 ≡ 21 → eqb t v ≡ same (var_at tags values t) (var_at tags values v)
+  pub var-same : (t : ℕ) → t < n → get_or tags t 0 ≡ 21 → eqb t v ≡ same (var_at tags values t) (var_at tags values v)
   unfolding same
   var-same t h e =
       decides (eqb t v) (Var-discrete (var_at tags values t) (var_at tags values v)) (λ o. ap (var_at tags values) (eqb-true t v o))
       (λ o. eq-eqb t v (term-one tags values n whole formed single t v h hv (var-tag _ e) (var-tag _ is_var)
       (var-is tags values n whole formed t h e ∙ (ap var o ∙ sym (var-is tags values n whole formed v hv is_var)))))
+
+  -- ---- the pairs of the term at t bind the variable exactly if the list of its tree has it
+  module _ (t : ℕ) (h : t < n) where
+    pub vars-has : (j : ℕ) (cs : List ℕ) → 2 ≤ j → j % 2 ≡ 0 → Each tags t Binder j cs
+        → pair_in (λ s. s) (get_or values (v + 2) 0) (sort_of values v) cs ≡ has (vars_of (sort_tree tags values) cs) (var_at tags values v)
+    unfolding pair_in has vars_of kind_at
+    vars-has j [] l e f = refl
+    vars-has j (a ∷ []) l e f = refl
+    vars-has j (a ∷ (s ∷ cs)) l e f =
+        let (m, k) = sort-cell tags t s (rw (pair-second OfSort j l e) at f.1.0) in
+        ap₂ ◌||◌ (pair_same a s (omega arith) k) (vars-has (suc (suc j)) cs (omega arith) (omega arith) f.1.1)
+
+    pub lets-has : (j : ℕ) (cs : List ℕ) → 2 ≤ j → j % 2 ≡ 0 → Each tags t Let j cs
+        → pair_in (sort_of values) (get_or values (v + 2) 0) (sort_of values v) cs ≡ has (let_vars (lets_of (tree tags values) cs)) (var_at tags values v)
+    unfolding pair_in has let_vars lets_of kind_at
+    lets-has j [] l e f = refl
+    lets-has j (a ∷ []) l e f = refl
+    lets-has j (a ∷ (u ∷ cs)) l e f =
+        let (m, k) = term-cell tags t u (rw (pair-second OfTerm j l e) at f.1.0) in
+        let (i, o) = sort-place tags values n whole formed u (omega arith) k in
+        ap₂ ◌||◌ (rw (← stated-is tags values n whole formed u (omega arith) k) at (pair_same a (sort_of values u) (omega arith) o))
+        (lets-has (suc (suc j)) cs (omega arith) (omega arith) f.1.1)
 
   -- ---- the cells of the term at t, where rec is right before t
   module _ (t : ℕ) (h : t < n) (rec : ℕ → Bool) (right : (u : ℕ) → u < t → is_term_tag (get_or tags u 0) ≡ true → rec u ≡ free (tree tags values u) (var_at tags values v)) where
@@ -89,26 +111,6 @@ module _ (tags values : List ℕ) (n : ℕ) (whole : n ≤ length values) (forme
     unfolding any_of free terms_of
     any-free shape j [] k f = refl
     any-free shape j (c ∷ cs) k f = ap₂ ◌||◌ (right-cell c (rw (k j (omega arith)) at f.0)) (any-free shape (suc j) cs (λ i l. k i (omega arith)) f.1)
-
-    vars-has : (j : ℕ) (cs : List ℕ) → 2 ≤ j → j % 2 ≡ 0 → Each tags t Binder j cs
-        → pair_in (λ s. s) (get_or values (v + 2) 0) (sort_of values v) cs ≡ has (vars_of (sort_tree tags values) cs) (var_at tags values v)
-    unfolding pair_in has vars_of kind_at
-    vars-has j [] l e f = refl
-    vars-has j (a ∷ []) l e f = refl
-    vars-has j (a ∷ (s ∷ cs)) l e f =
-        let (m, k) = sort-cell tags t s (rw (pair-second OfSort j l e) at f.1.0) in
-        ap₂ ◌||◌ (pair_same a s (omega arith) k) (vars-has (suc (suc j)) cs (omega arith) (omega arith) f.1.1)
-
-    lets-has : (j : ℕ) (cs : List ℕ) → 2 ≤ j → j % 2 ≡ 0 → Each tags t Let j cs
-        → pair_in (sort_of values) (get_or values (v + 2) 0) (sort_of values v) cs ≡ has (let_vars (lets_of (tree tags values) cs)) (var_at tags values v)
-    unfolding pair_in has let_vars lets_of kind_at
-    lets-has j [] l e f = refl
-    lets-has j (a ∷ []) l e f = refl
-    lets-has j (a ∷ (u ∷ cs)) l e f =
-        let (m, k) = term-cell tags t u (rw (pair-second OfTerm j l e) at f.1.0) in
-        let (i, o) = sort-place tags values n whole formed u (omega arith) k in
-        ap₂ ◌||◌ (rw (← stated-is tags values n whole formed u (omega arith) k) at (pair_same a (sort_of values u) (omega arith) o))
-        (lets-has (suc (suc j)) cs (omega arith) (omega arith) f.1.1)
 
     values-free : (j : ℕ) (cs : List ℕ) → 2 ≤ j → j % 2 ≡ 0 → Each tags t Let j cs
         → any_of rec (values_in cs) ≡ free_values (lets_of (tree tags values) cs) (var_at tags values v)
@@ -133,7 +135,7 @@ module _ (tags values : List ℕ) (n : ℕ) (whole : n ≤ length values) (forme
     under-vars : (b : ℕ) (cs : List ℕ) → value_fits tags t OfTerm b ≡ true → Each tags t Binder 2 cs
         → cond (pair_in (λ s. s) (get_or values (v + 2) 0) (sort_of values v) cs) false (rec b)
         ≡ (not (has (vars_of (sort_tree tags values) cs) (var_at tags values v)) && free (tree tags values b) (var_at tags values v))
-    under-vars b cs f g = under _ _ _ _ (vars-has 2 cs (omega arith) refl g) (right-cell b f)
+    under-vars b cs f g = under _ _ _ _ (vars-has t h 2 cs (omega arith) refl g) (right-cell b f)
 
     right-at : (cells : List ℕ) (k : ℕ) → is_term_tag k ≡ true → (k ≡ 21 → ⊥) → count_fits (shape_of k) (length cells) ≡ true → Right k cells
     unfolding below free term_from shape_of count_fits kind_at pair_kind under_pairs bound_by let_binds let_values any_of
@@ -150,7 +152,7 @@ module _ (tags values : List ℕ) (n : ℕ) (whole : n ≤ length values) (forme
         (λ o c. from-two (Right 24) (λ s b cs f. under-vars b cs f.1.0 f.1.1) cells (even-rest _ c).0)
         (λ o c. from-two (Right 25) (λ s b cs f. under-vars b cs f.1.0 f.1.1) cells (even-rest _ c).0)
         (λ o c. from-two (Right 26) (λ s b cs f. under-vars b cs f.1.0 f.1.1) cells (even-rest _ c).0)
-        (λ o c. from-two (Right 27) (λ s b cs f. ap₂ ◌||◌ (values-free 2 cs (omega arith) refl f.1.1) (under _ _ _ _ (lets-has 2 cs (omega arith) refl f.1.1) (right-cell b f.1.0))) cells (even-rest _ c).0)
+        (λ o c. from-two (Right 27) (λ s b cs f. ap₂ ◌||◌ (values-free 2 cs (omega arith) refl f.1.1) (under _ _ _ _ (lets-has t h 2 cs (omega arith) refl f.1.1) (right-cell b f.1.0))) cells (even-rest _ c).0)
         (λ k l m o. right-op cells k l m)
         k (length cells) m c o c
 

@@ -16,13 +16,13 @@ pub mask_of_term-returns-then-known-ne0 : goal.mask_of_term-returns-then-known-n
 mask_of_term-returns-then-known-ne0 t c = search walks
 
 pub mask_of_term-variable_mask-requires : goal.mask_of_term-variable_mask-requires
-mask_of_term-variable_mask-requires t c = (record { list_len_bound = search rules; t_value = variable-tag _ _ _ _ c.free_from-place.ensures c.in-Variable.is })
+mask_of_term-variable_mask-requires t c = (record { list_len_bound = search rules; t_value = variable-tag _ _ _ _ c.free_from-place.ensures.means c.in-Variable.is })
 
 pub mask_of_term-note_mask-requires-in-Variable : goal.mask_of_term-note_mask-requires-in-Variable
 mask_of_term-note_mask-requires-in-Variable t c = known-room c.args.list.now c.requires.list_len_bound _ _ c.variable_mask.ensures
 
 pub mask_of_term-mask_of_term-inside-requires : goal.mask_of_term-mask_of_term-inside-requires
-mask_of_term-mask_of_term-inside-requires t c = let h = body_below _ _ _ _ c.free_from-place.ensures _ c.in-Body.is in
+mask_of_term-mask_of_term-inside-requires t c = let h = body_below _ _ _ _ c.free_from-place.ensures.means _ c.in-Body.is in
     (omega arith, (search rules, search rules))
 
 pub mask_of_term-note_mask-requires-in-Body : goal.mask_of_term-note_mask-requires-in-Body
@@ -35,7 +35,7 @@ pub mask_of_term-note_mask-requires-in-Values : goal.mask_of_term-note_mask-requ
 mask_of_term-note_mask-requires-in-Values t c = among-room c.args.list.now c.requires.list_len_bound _ _ _ _ _ _ _ c.mask_of_values-among.ensures
 
 pub mask_of_term-mask_of_term-inside-requires-in-Let : goal.mask_of_term-mask_of_term-inside-requires-in-Let
-mask_of_term-mask_of_term-inside-requires-in-Let t c = let h = let-below _ _ _ _ c.free_from-place.ensures _ c.in-Let.is in
+mask_of_term-mask_of_term-inside-requires-in-Let t c = let h = let-below _ _ _ _ c.free_from-place.ensures.means _ c.in-Let.is in
     (omega arith, (c.requires.list_len_bound, c.mask_of_values-among-in-Let.ensures.right))
 
 pub mask_of_term-note_mask-requires-in-Let : goal.mask_of_term-note_mask-requires-in-Let
@@ -57,7 +57,7 @@ pub mask_of_term-returns-in-Values : goal.mask_of_term-returns-in-Values
 mask_of_term-returns-in-Values t c = search walks
 
 pub mask_of_term-returns-in-Let : goal.mask_of_term-returns-in-Let
-mask_of_term-returns-in-Let t c = walk-let _ _ _ _ _ _ c.free_from-place.ensures _ c.in-Let.is _ c.operands-run-in-Let.ensures _ _ c.mask_of_values-among-in-Let.ensures
+mask_of_term-returns-in-Let t c = walk-let _ _ _ _ _ _ c.free_from-place.ensures.means _ c.in-Let.is _ c.operands-run-in-Let.ensures _ _ c.mask_of_values-among-in-Let.ensures
     _ _ c.mask_of_term-inside-in-Let.ensures _ c.tag_at-lets-in-Let.ensures _ c.unbound_pairs-rest.ensures _ _ c.note_mask-in-Let.ensures
 
 pub mask_of_values-returns-then-run-lt3 : goal.mask_of_values-returns-then-run-lt3

@@ -16,11 +16,11 @@ pub names_of_term-returns-then-mark_at-eq1 : goal.names_of_term-returns-then-mar
 names_of_term-returns-then-mark_at-eq1 t c = search walk-seen
 
 pub names_of_term-names_of_term-requires : goal.names_of_term-names_of_term-requires
-names_of_term-names_of_term-requires t c = let h = body_below _ _ _ _ c.free_from-place.ensures _ c.in-Body.is in
+names_of_term-names_of_term-requires t c = let h = body_below _ _ _ _ c.free_from-place.ensures.means _ c.in-Body.is in
     (omega arith, search rules)
 
 pub names_of_term-names_of_term-requires-in-Let : goal.names_of_term-names_of_term-requires-in-Let
-names_of_term-names_of_term-requires-in-Let t c = let h = let-below _ _ _ _ c.free_from-place.ensures _ c.in-Let.is in
+names_of_term-names_of_term-requires-in-Let t c = let h = let-below _ _ _ _ c.free_from-place.ensures.means _ c.in-Let.is in
     (omega arith, search rules)
 
 pub names_of_term-returns-in-Nothing : goal.names_of_term-returns-in-Nothing
@@ -33,13 +33,13 @@ pub names_of_term-returns-in-Body : goal.names_of_term-returns-in-Body
 names_of_term-returns-in-Body t c = search walk-body
 
 pub names_of_term-returns-in-Run : goal.names_of_term-returns-in-Run
-names_of_term-returns-in-Run t c = walk-run _ _ _ _ c.free_from-place.ensures _ _ _ c.in-Run.is _ c.operands.ensures c.names_of_run.ensures _ c.set_mark-in-Run.ensures
+names_of_term-returns-in-Run t c = walk-run _ _ _ _ c.free_from-place.ensures.means _ _ _ c.in-Run.is _ c.operands.ensures c.names_of_run.ensures _ c.set_mark-in-Run.ensures
 
 pub names_of_term-returns-in-Values : goal.names_of_term-returns-in-Values
-names_of_term-returns-in-Values t c = walk-values _ _ _ _ c.free_from-place.ensures _ _ _ c.in-Values.is _ c.operands-in-Values.ensures c.names_of_values.ensures _ c.set_mark-in-Values.ensures
+names_of_term-returns-in-Values t c = walk-values _ _ _ _ c.free_from-place.ensures.means _ _ _ c.in-Values.is _ c.operands-in-Values.ensures c.names_of_values.ensures _ c.set_mark-in-Values.ensures
 
 pub names_of_term-returns-in-Let : goal.names_of_term-returns-in-Let
-names_of_term-returns-in-Let t c = walk-let _ _ _ _ c.free_from-place.ensures _ _ _ _ c.in-Let.is _ c.operands-in-Let.ensures c.names_of_values-in-Let.ensures
+names_of_term-returns-in-Let t c = walk-let _ _ _ _ c.free_from-place.ensures.means _ _ _ _ c.in-Let.is _ c.operands-in-Let.ensures c.names_of_values-in-Let.ensures
     _ _ c.names_of_term-in-Let.ensures _ c.set_mark-in-Let.ensures
 
 pub names_of_values-returns-then-run-lt3 : goal.names_of_values-returns-then-run-lt3

@@ -1,0 +1,4 @@
+pub mod Bits
+pub mod Pairs
+pub mod Rows
+pub mod Walk

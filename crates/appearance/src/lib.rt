@@ -1,0 +1,7 @@
+// The free variables of a term in the order in which they appear.
+#![tactic(auto)]
+
+mod bits;
+pub mod compute_free_vars;
+mod pairs;
+mod rows;
