@@ -121,12 +121,12 @@ pub record Builds (form_at : ℕ → Normal (List ℕ) ℕ) (end : ℕ) (tags va
   pub memo-is : Remembers form_at work r tags' values' work'
 
 -- ---- the two walks over the cells before `end`
--- the negation normal form of a term, or the taken_out form of a term in normal form
+-- the negation normal form of a term, or the taken-out form of a term in normal form
 pub data Walk : Type 0 where
   normal : Walk
   taken_out : Walk
 
--- the form that a walk builds of the term at t; a taken_out form has no polarity
+-- the form that a walk builds of the term at t; a taken-out form has no polarity
 unfoldable pub form_of : Walk → ℕ → List ℕ → List ℕ → ℕ → Bool → Normal (List ℕ) ℕ
 form_of normal end tags values t polarity = nnf (form (take end tags) (take end values) t) polarity
 form_of taken_out end tags values t polarity = prenex (normal_at (pool_of tags values end) t)

@@ -1,4 +1,4 @@
-// The taken_out form of a term in normal form, built into the pool: foralls are taken out through `and`, `or` and forall alone.
+// The taken-out form of a term in normal form, built into the pool: foralls are taken out through `and`, `or` and forall alone.
 // The source pool is the cells before `end`. The array `work` is as for the normal form, at true polarity alone.
 ghost use Rattle.std.specs.Prelude.{true, ◌<◌};
 ghost use Rattle.formulas.specs.Built.{taken_out_form};
@@ -13,7 +13,7 @@ use pool::TermPlace;
 use pool::index::INDEX;
 use pool::run::operands;
 
-// The taken_out form of the term at x, put into the pool of n cells.
+// The taken-out form of the term at x, put into the pool of n cells.
 #[cycle(operand_forms_prenex_forall_take_out)]
 fn prenex_forall(
     tags: &mut [u8],
@@ -72,7 +72,7 @@ fn take_out(
     }
 }
 
-// The taken_out forms of the operands of the term at x. The memo then has their places, and the answer's is 0.
+// The taken-out forms of the operands of the term at x. The memo then has their places, and the answer's is 0.
 #[cycle(operand_forms_prenex_forall_take_out)]
 fn operand_forms(
     tags: &mut [u8],
@@ -106,7 +106,7 @@ fn operand_forms(
     }
 }
 
-// The taken_out form of the term in normal form at x, put into the pool of n cells.
+// The taken-out form of the term in normal form at x, put into the pool of n cells.
 pub fn build_taken_out(
     tags: &mut [u8],
     values: &mut [u32],

@@ -1,4 +1,4 @@
--- Laws of the walkers that build the taken_out form: a term by how it is read, and the whole walk.
+-- Laws of the walkers that build the taken-out form: a term by how it is read, and the whole walk.
 -- Assumes nothing.
 use Prim.Native.Nat.{ℕ, ◌<◌}
 use mathlib.Core.Path.{◌≡◌, refl, sym, ◌∙◌}
