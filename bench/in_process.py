@@ -3,7 +3,7 @@
 
     in_process.py --archive LIBWELDRIKA.A --oracle-sources FOLDER [--seed SEED] [--least SECONDS]
 
-LIBWELDRIKA.A is what `rt staticlib weldrika` writes. FOLDER has a build.sh that lays out and builds the Rust in the folder that it is given:
+LIBWELDRIKA.A is what `rt lib` in crates/weldrika writes. FOLDER has a build.sh that lays out and builds the Rust in the folder that it is given:
 src/main.rs and src/driver.rs with the others, and deps/ with the libraries that they use. Both files get a few lines appended, which let
 another crate call the functions that answer a step file (in_process/*_tail.rs); their own text is not changed. in_process/measure.rs links
 the two and measures. The files, their groups and the tables are those of bench.py.

@@ -1,5 +1,5 @@
 #!/usr/bin/env python3
-"""Tests of the examples: `python3 examples/test_examples.py [--archive target/staticlib/libweldrika.a]`
+"""Tests of the examples: `python3 examples/test_examples.py [--archive crates/weldrika/out/libweldrika.a]`
 
 Builds each example and holds what it prints to expected/. Holds the declarations of include/weldrika.h and rust/weldrika.rs to the functions
 that crates/weldrika/src exports: no compiler compares them.
@@ -14,7 +14,7 @@ import unittest
 ROOT = pathlib.Path(__file__).resolve().parent.parent
 STEP_FILE = 'crates/steps/stdin'
 GCC = ['gcc', '-std=c99', '-pedantic', '-Wall', '-Wextra', '-Werror', '-Iinclude']
-OPTIONS = argparse.Namespace(archive=ROOT / 'target/staticlib/libweldrika.a')
+OPTIONS = argparse.Namespace(archive=ROOT / 'crates/weldrika/out/libweldrika.a')
 
 
 def output(*command, given=b''):

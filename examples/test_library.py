@@ -1,7 +1,7 @@
 #!/usr/bin/env python3
 """Makes the test calls of crates/calls/data and answers the step files of crates/steps/data through the library, and compares.
 
-    test_library.py [--archive target/staticlib/libweldrika.a]
+    test_library.py [--archive crates/weldrika/out/libweldrika.a]
 
 Each answer, and each array after the call, must be what the reference of tools/ gives; every call on a pool is also made as a pool check.
 The archive is linked into a shared object, whose functions Python calls.
@@ -123,7 +123,7 @@ def tables_and_short_text(library):
 
 def main():
     parser = argparse.ArgumentParser()
-    parser.add_argument('--archive', type=pathlib.Path, default=ROOT / 'target/staticlib/libweldrika.a')
+    parser.add_argument('--archive', type=pathlib.Path, default=ROOT / 'crates/weldrika/out/libweldrika.a')
     options = parser.parse_args()
     with tempfile.TemporaryDirectory() as folder:
         shared = pathlib.Path(folder) / 'libweldrika.so'

@@ -1,6 +1,6 @@
 /*
  * Weldrika: checks of the quantifier steps of Alethe proofs, over a packed pool of terms. Link libweldrika.a, which
- * `rt staticlib weldrika` writes. README.md has the form of a pool and of a step file, the rules and the answers.
+ * `rt lib` in crates/weldrika writes. README.md has the form of a pool and of a step file, the rules and the answers.
  *
  * Every call ends, with an answer, whatever the numbers are that its arrays hold, and whatever lengths, counts and places it is
  * given. It asks of its caller only that:

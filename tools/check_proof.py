@@ -1,7 +1,7 @@
 #!/usr/bin/env python3
 """Checks the quantifier steps of an Alethe proof by the proved program `steps`.
 
-    check_proof.py PROBLEM.smt2 PROOF.alethe --steps target/bin/steps [--keep DIR] [--quiet] [--holes]
+    check_proof.py PROBLEM.smt2 PROOF.alethe --steps crates/steps/out/steps [--keep DIR] [--quiet] [--holes]
 
 A line for each step of the rules, and totals (docs/PROOF_FILES.md). Exit: 0 all accepted, 1 something refused, 2 something not
 checked or not written, 3 the input cannot be read.

@@ -1,5 +1,5 @@
 #!/usr/bin/env python3
-"""Tests of check_proof.py. `python3 tools/test_check_proof.py [--steps target/bin/steps] [--oracle ORACLE] [TEST ..]`
+"""Tests of check_proof.py. `python3 tools/test_check_proof.py [--steps crates/steps/out/steps] [--oracle ORACLE] [TEST ..]`
 
 Without --steps the reference answers; ORACLE as in comparisons/comparison.py. --expect writes data/real/expected.txt anew.
 TEST is a module of proof_tests, such as proof_tests.error_tests, or a class or test in one.

@@ -1,4 +1,4 @@
-//! Weldrika's calls as safe Rust: link libweldrika.a, which `rt staticlib weldrika` writes. include/weldrika.h says what each call
+//! Weldrika's calls as safe Rust: link libweldrika.a, which `rt lib` in crates/weldrika writes. include/weldrika.h says what each call
 //! promises and has the codes of answers; README.md has the form of a pool and of a step file.
 //!
 //! The calls on a pool stand in [`byte_tags`] and in [`word_tags`], with the same answers. No call asks anything of its arguments. Each
