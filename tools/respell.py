@@ -1,7 +1,7 @@
 #!/usr/bin/env python3
 """Spells the repository's own definitions and lemmas as the language's library does: words in snake case.
 
-usage: python3 tools/respell.py          at the top of the repository, once, after /opt/rattle/port/port.py
+usage: python3 tools/respell.py          at the top of the repository, once, after the scripts of the kit
 
 In the .antt files, in the ghost text of the .rt files, in must-fail edits and in the documents, each name that a dash joins to others and that is
 written in lower camel case (`cellsFrom`, `byPlace-is`) gets underscores (`cells_from`, `by_place-is`). Names in strings stay, and so do names of functions, which have
