@@ -1,9 +1,8 @@
 -- The answers of the public calls: 01's number and the two numbers that it carries.
 -- 01, "What stops a step": "Each refusal carries two numbers, 0 where none is named. 0 is acceptance."
--- Rests on the struct `Answer` and on cells' enum `Found`.
+-- Rests on the struct `Answer`.
+use Rattle.std.specs.Prelude.{Option, Some, None}
 use Rattle.std.specs.Prelude.{ℕ}
-use Rattle.cells.specs.declared.Found.{Found}
-use Rattle.cells.specs.declared.Found.TheVariants.{At, Nothing}
 use Rattle.answers.specs.declared.Answer.{Answer}
 
 -- the code, and the two numbers that it carries
@@ -42,6 +41,6 @@ abbrev pub not_bool : ℕ → Answer
 not_bool i = refused 41 i 0
 
 -- a refusal with the place or entry found, else what comes next
-abbrev pub refuse_at : (ℕ → Answer) → Found → Answer → Answer
-refuse_at refusal (At p) next = refusal p
-refuse_at refusal Nothing next = next
+abbrev pub refuse_at : (ℕ → Answer) → Option ℕ → Answer → Answer
+refuse_at refusal (Some p) next = refusal p
+refuse_at refusal None next = next

@@ -1,3 +1,3 @@
 pub mod Answer
-pub mod Checked
+pub mod Refusal
 pub mod Outcome

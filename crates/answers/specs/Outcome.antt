@@ -2,7 +2,7 @@
 -- 01, "What stops a step": "Each refusal carries two numbers, 0 where none is named."
 -- Rests on Answer and the struct `Answer`.
 use Rattle.std.specs.Prelude.{ℕ, Bool, true, false}
-use Rattle.std.proofs.Math.Option.{Option, some, none}
+use Rattle.std.specs.Prelude.{Option, Some, None}
 use Rattle.answers.specs.Answer.{accepted, refused}
 use Rattle.answers.specs.declared.Answer.{Answer}
 
@@ -22,8 +22,8 @@ unfoldable pub ◌>>◌ : {A B : Type 0} → Outcome A → Outcome B → Outcome
 
 -- what must be there, else a refusal
 unfoldable pub need : {A : Type 0} → ℕ → ℕ → ℕ → Option A → Outcome A
-need k m n (some a) = pass a
-need k m n none = refuse k m n
+need k m n (Some a) = pass a
+need k m n None = refuse k m n
 
 -- what must hold, else a refusal
 unfoldable pub guard : ℕ → ℕ → ℕ → Bool → Outcome (Unit {0})
@@ -32,8 +32,8 @@ guard k m n false = refuse k m n
 
 -- the first of a list that offends, with its refusal's numbers
 unfoldable pub unless : {A : Type 0} → ℕ → (A → ℕ) → ℕ → Option A → Outcome (Unit {0})
-unless k number n (some a) = refuse k (number a) n
-unless k number n none = pass tt
+unless k number n (Some a) = refuse k (number a) n
+unless k number n None = pass tt
 
 -- a rule's answer
 abbrev pub answer_of : Outcome (Unit {0}) → Answer

@@ -1,13 +1,13 @@
 // The answers of the public calls.
 #![tactic(auto)]
 
-pub mod checked;
+pub mod refusal;
 
 ghost use Rattle.std.specs.Prelude.{◌≡◌};
 ghost use Rattle.answers.specs.Answer.{accepted, refused};
 
 // The answer of a public call: document 01's number, 0 for acceptance, and the two numbers it carries.
-#[derive(Clone, Copy)]
+#[derive(Clone, Copy, PartialEq, Eq)]
 pub struct Answer {
     pub code: u32,
     pub first: u32,
@@ -20,8 +20,8 @@ impl Answer {
     {
         Self {
             code: 0,
-            first: first,
-            second: second,
+            first,
+            second,
         }
     }
 
@@ -29,9 +29,9 @@ impl Answer {
         ensures { result ≡ refused code first second }
     {
         Self {
-            code: code,
-            first: first,
-            second: second,
+            code,
+            first,
+            second,
         }
     }
 }

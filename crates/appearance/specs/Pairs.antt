@@ -1,25 +1,23 @@
 -- The variable that a pair of a binding list binds, by the index of a pool's descriptions; and what of a checked pool its pairs rest on.
--- Rests on cells' Cell and enum `Found`, on descriptions' Index, and on free_variables' BoundPairs.
-use Rattle.std.specs.Prelude.{ℕ, ◌+◌, ◌≤◌, ◌<◌, ◌≡◌, Bool, false, cond, List, [], ◌∷◌, length, get_or, eqb}
+-- Rests on cells' Cell and Limits, on descriptions' Index, and on free_variables' FreeMemo.
+use Rattle.std.specs.Prelude.{Option, Some, None, ℕ, ◌+◌, ◌≤◌, ◌<◌, ◌≡◌, Bool, false, cond, List, [], ◌∷◌, length, get_or, eqb}
 use Rattle.cells.specs.Cell.{sort_of, operands_of}
 use Rattle.cells.specs.Limits.{cell_limit}
-use Rattle.cells.specs.declared.Found.{Found}
-use Rattle.cells.specs.declared.Found.TheVariants.{At, Nothing}
 use Rattle.descriptions.specs.Index.{look_up, PointsBack}
 use Rattle.free_variables.specs.FreeMemo.{pair_sort}
 
 -- the place of the variable with this name and sort
-unfoldable pub place_of : List ℕ → List ℕ → List ℕ → ℕ → ℕ → Found
+unfoldable pub place_of : List ℕ → List ℕ → List ℕ → ℕ → ℕ → Option ℕ
 place_of tags values index name sort = look_up tags values index 21 (sort ∷ name ∷ [])
 
 -- the place of the variable that the pair a, b binds; of a let's pair where `lets`
-unfoldable pub variable_of : List ℕ → List ℕ → List ℕ → Bool → ℕ → ℕ → Found
+unfoldable pub variable_of : List ℕ → List ℕ → List ℕ → Bool → ℕ → ℕ → Option ℕ
 variable_of tags values index lets a b = place_of tags values index a (pair_sort values lets b)
 
 -- the variable that the pair binds is the one at v
-abbrev pub is_place : Found → ℕ → Bool
-is_place (At u) v = eqb u v
-is_place Nothing v = false
+abbrev pub is_place : Option ℕ → ℕ → Bool
+is_place (Some u) v = eqb u v
+is_place None v = false
 
 -- how many of a list of pairs bind the variable at v
 unfoldable pub binders_of : List ℕ → List ℕ → List ℕ → Bool → List ℕ → ℕ → ℕ
@@ -32,7 +30,7 @@ binders_of tags values index lets (a ∷ (b ∷ rest)) v =
 pub record IndexedVariables (tags values : List ℕ) (n : ℕ) (index : List ℕ) : Type 0 where
   pub small : n ≤ cell_limit
   pub back : PointsBack index
-  pub found : (name sort v : ℕ) → place_of tags values index name sort ≡ At v
+  pub found : (name sort v : ℕ) → place_of tags values index name sort ≡ Some v
       → (v < n) × ((get_or tags v 0 ≡ 21) × ((get_or values (v + 2) 0 ≡ name) × (sort_of values v ≡ sort)))
-  pub once : (v : ℕ) → v < n → get_or tags v 0 ≡ 21 → place_of tags values index (get_or values (v + 2) 0) (sort_of values v) ≡ At v
+  pub once : (v : ℕ) → v < n → get_or tags v 0 ≡ 21 → place_of tags values index (get_or values (v + 2) 0) (sort_of values v) ≡ Some v
   pub short : (t : ℕ) → t < n → length (operands_of tags values t) ≤ cell_limit

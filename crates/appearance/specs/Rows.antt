@@ -1,6 +1,6 @@
--- The table of rows: the number of each variable at its place, where the row of each term with parts starts at its place, then the rows. A row
--- has bit k set where the variable with the number k is free in the term, and may have others; a term that starts at 0 has no row.
--- Rests on free_variables' BoundPairs and Names, and on Bits and Pairs.
+-- The table of rows: the number of each variable at its place, where the row of each term with parts starts at its place, then the rows. A
+-- row has bit k set where the variable with the number k is free in the term, and may have others; a term that starts at 0 has no row.
+-- Rests on free_variables' Names and FreeMemo, and on Bits and Pairs.
 use Rattle.std.specs.Prelude.{ℕ, zero, suc, ◌+◌, ◌/◌, ◌≤◌, ◌<◌, ◌≡◌, Bool, true, false, cond, List, length, get_or, eqb}
 use Rattle.free_variables.specs.Names.{free_in}
 use Rattle.free_variables.specs.FreeMemo.{pairs_bind}

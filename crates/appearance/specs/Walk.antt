@@ -1,10 +1,9 @@
--- What the walk says of itself. The state counts for each place of a variable why it is not wanted, and has after the counts a row of what is
--- wanted. What a term adds to the places found are its free occurrences without those that are not wanted, each once.
--- Rests on cells' Cell, Limits and enum `Found`, on descriptions' Index, on free_variables' Free, Once and Appearing, and on Bits, Pairs and Rows.
-use Rattle.std.specs.Prelude.{ℕ, ◌+◌, ◌-◌, ◌*◌, ◌/◌, ◌≤◌, ◌<◌, ◌≡◌, Bool, true, false, not, cond, List, [], ◌∷◌, ◌++◌, length, get_or, set, take, ltb, eqb}
+-- What the walk says of itself. The state counts for each place of a variable why it is not wanted, and has after the counts a row of what
+-- is wanted. What a term adds to the places found are its free occurrences without those that are not wanted, each once.
+-- Rests on cells' Cell and Limits, on descriptions' Index, on free_variables' Free, Once and Occurs, and on Bits, Pairs and Rows.
+use Rattle.std.specs.Prelude.{Some, ℕ, ◌+◌, ◌-◌, ◌*◌, ◌/◌, ◌≤◌, ◌<◌, ◌≡◌, Bool, true, false, not, cond, List, [], ◌∷◌, ◌++◌, length, get_or, set, take, ltb, eqb}
 use Rattle.cells.specs.Limits.{cell_limit}
 use Rattle.cells.specs.Cell.{sort_of, operands_of}
-use Rattle.cells.specs.declared.Found.TheVariants.{At}
 use Rattle.descriptions.specs.Index.{PointsBack}
 use Rattle.free_variables.specs.Free.{is_free}
 use Rattle.free_variables.specs.Once.{among, leave_out, firsts}
@@ -16,12 +15,12 @@ use Rattle.appearance.specs.Rows.{number_of}
 -- a variable that is found at its own place
 pub record Known (tags values index : List ℕ) (v : ℕ) : Type 0 where
   pub tag : get_or tags v 0 ≡ 21
-  pub place : place_of tags values index (get_or values (v + 2) 0) (sort_of values v) ≡ At v
+  pub place : place_of tags values index (get_or values (v + 2) 0) (sort_of values v) ≡ Some v
 
 -- what the walk reads of pairs: what is found is a variable's place, and the table has its number
 pub record PairTable (tags values index table : List ℕ) : Type 0 where
   pub back : PointsBack index
-  pub found : (name sort v : ℕ) → place_of tags values index name sort ≡ At v
+  pub found : (name sort v : ℕ) → place_of tags values index name sort ≡ Some v
       → (v < cell_limit) × ((get_or tags v 0 ≡ 21) × ((get_or values (v + 2) 0 ≡ name) × (sort_of values v ≡ sort)))
   pub numbered : (v : ℕ) → Known tags values index v → get_or table v 0 ≡ number_of tags v
 
@@ -29,7 +28,7 @@ pub record PairTable (tags values index table : List ℕ) : Type 0 where
 pub record Prepared (tags values index table : List ℕ) (words t : ℕ) : Type 0 where
   pub small : t < cell_limit
   pub pairs : PairTable tags values index table
-  pub once : (v : ℕ) → v ≤ t → get_or tags v 0 ≡ 21 → place_of tags values index (get_or values (v + 2) 0) (sort_of values v) ≡ At v
+  pub once : (v : ℕ) → v ≤ t → get_or tags v 0 ≡ 21 → place_of tags values index (get_or values (v + 2) 0) (sort_of values v) ≡ Some v
   pub short : (u : ℕ) → u ≤ t → length (operands_of tags values u) ≤ cell_limit
   pub wide : (v : ℕ) → Known tags values index v → number_of tags v / 32 < words
   pub rows : (u : ℕ) → u ≤ t → 21 < get_or tags u 0 → (get_or table u 0 ≡ 0 → ⊥) → (v : ℕ) → Known tags values index v

@@ -3,13 +3,13 @@
 ghost use Rattle.std.specs.Prelude.{◌≡◌};
 ghost use Rattle.appearance.specs.Bits.{with_bit, without_bit, meets};
 
-use cells::run::{cell, wide};
+use cells::run::cell;
 
 // Sets bit k of a row.
 pub fn set_bit(a: &mut [u32], from: u32, k: u32)
     ensures { a.new ≡ with_bit a.old from k }
 {
-    let i = wide(from) + wide(k / 32);
+    let i = from as usize + (k / 32) as usize;
     if i < a.len() {
         a[i] = a[i] | (1 << (k % 32));
     }
@@ -19,7 +19,7 @@ pub fn set_bit(a: &mut [u32], from: u32, k: u32)
 pub fn clear_bit(a: &mut [u32], from: u32, k: u32)
     ensures { a.new ≡ without_bit a.old from k }
 {
-    let i = wide(from) + wide(k / 32);
+    let i = from as usize + (k / 32) as usize;
     let bit: u32 = 1 << (k % 32);
     if cell(a, i) & bit == 0 {
         return;
@@ -33,14 +33,12 @@ pub fn clear_bit(a: &mut [u32], from: u32, k: u32)
 pub fn meets(a: &[u32], from: u32, b: &[u32], start: u32, words: u32) -> bool
     ensures { result ≡ meets a.now from b.now start words }
 {
-    let mut j: u32 = 0;
-    while j < words {
-        let x = cell(a, wide(from) + wide(j));
-        let y = cell(b, wide(start) + wide(j));
+    for j in 0..words {
+        let x = cell(a, from as usize + j as usize);
+        let y = cell(b, start as usize + j as usize);
         if x & y != 0 {
             return true;
         }
-        j += 1;
     }
     false
 }

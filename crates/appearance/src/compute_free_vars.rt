@@ -13,10 +13,10 @@ ghost use Rattle.appearance.specs.Walk.{Fresh, Places, PairTable, hide_at, show_
 use crate::bits::{clear_bit, meets, set_bit};
 use crate::pairs::variable_of;
 use crate::rows::{TABLE, fill_row, make_rows};
+use cells::TermPlace;
 use cells::limits::CELLS;
-use cells::run::{cell, operands, wide};
+use cells::run::{cell, operands};
 use cells::tags::{APPLICATION, LET, tag_at};
-use cells::{Found, TermPlace};
 use descriptions::index::INDEX;
 use free_variables::term_names::{FreeFrom, free_from};
 
@@ -63,14 +63,10 @@ fn hide_pairs(
     requires run_len_bound { length run.now ≤ cell_limit }
     ensures { Hid tags.now values.now index.now lets (drop 1 run.now) state.old state.new }
 {
-    let mut i: usize = 2;
-    while i < run.len() {
-        let pair = variable_of(tags, values, index, lets, run[i - 1], run[i]);
-        i += 2;
-        let Found::At(v) = pair else {
-            continue;
-        };
-        hide(table, state, v);
+    for i in (2..run.len()).step_by(2) {
+        if let Some(v) = variable_of(tags, values, index, lets, run[i - 1], run[i]) {
+            hide(table, state, v);
+        }
     }
 }
 
@@ -89,14 +85,10 @@ fn show_pairs(
     requires bound { Bound tags.now values.now index.now lets (drop 1 run.now) state.old }
     ensures { Shown tags.now values.now index.now lets (drop 1 run.now) state.old state.new }
 {
-    let mut i: usize = 2;
-    while i < run.len() {
-        let pair = variable_of(tags, values, index, lets, run[i - 1], run[i]);
-        i += 2;
-        let Found::At(v) = pair else {
-            continue;
-        };
-        show(table, state, v);
+    for i in (2..run.len()).step_by(2) {
+        if let Some(v) = variable_of(tags, values, index, lets, run[i - 1], run[i]) {
+            show(table, state, v);
+        }
     }
 }
 
@@ -220,11 +212,8 @@ fn run_free_vars(
 {
     let run = operands(tags, values, t);
     let mut end = len;
-    let mut i: usize = 0;
-    while i < run.len() {
-        let u = run[i];
-        i += 1;
-        if t.0 <= u {
+    for u in run {
+        if t.0 <= *u {
             continue;
         }
         end = compute_free_vars(
@@ -236,7 +225,7 @@ fn run_free_vars(
             state,
             found,
             end,
-            TermPlace(u),
+            TermPlace(*u),
         );
     }
     end
@@ -260,10 +249,8 @@ fn values_free_vars(
 {
     let run = operands(tags, values, t);
     let mut end = len;
-    let mut i: usize = 2;
-    while i < run.len() {
+    for i in (2..run.len()).step_by(2) {
         let u = run[i];
-        i += 2;
         if t.0 <= u {
             continue;
         }

@@ -3,9 +3,9 @@ ghost use Rattle.std.specs.Prelude.{◌≡◌};
 ghost use Rattle.descriptions.specs.Index.{PointsBack};
 ghost use Rattle.appearance.specs.Pairs.{variable_of};
 
+use cells::TermPlace;
 use cells::run::sort_of;
 use cells::tags::VARIABLE;
-use cells::{Found, TermPlace};
 use descriptions::index::{INDEX, look_up};
 
 // The place of the variable that the pair a, b binds, where one stands in the pool. A let's pair (`lets`) holds a value of the
@@ -17,14 +17,14 @@ pub fn variable_of(
     lets: bool,
     a: u32,
     b: u32,
-) -> Found
+) -> Option<usize>
     requires { PointsBack index.now }
     ensures { result ≡ variable_of tags.now values.now index.now lets a b }
 {
-    if lets {
-        let cells = [sort_of(values, TermPlace(b)).0, a];
-        return look_up(tags, values, index, VARIABLE, &cells);
-    }
-    let cells = [b, a];
-    look_up(tags, values, index, VARIABLE, &cells)
+    let sort = if lets {
+        sort_of(values, TermPlace(b)).0
+    } else {
+        b
+    };
+    look_up(tags, values, index, VARIABLE, &[sort, a])
 }

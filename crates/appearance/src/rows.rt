@@ -12,10 +12,10 @@ ghost use Rattle.appearance.specs.Rows.{number_of, words_of, Numbered, RowAdded,
 
 use crate::bits::{clear_bit, set_bit};
 use crate::pairs::variable_of;
+use cells::TermPlace;
 use cells::limits::CELLS;
-use cells::run::{cell, operands, wide};
+use cells::run::{cell, operands};
 use cells::tags::{APPLICATION, LET, VARIABLE, tag_at};
-use cells::{Found, TermPlace};
 use descriptions::index::INDEX;
 use free_variables::term_names::{FreeFrom, free_from};
 
@@ -33,14 +33,11 @@ fn number_variables(tags: &[u8], n: usize, table: &mut [u32]) -> u32
     ensures numbered { Numbered tags.now n table.new }
 {
     let mut count: u32 = 0;
-    let mut p: usize = 0;
-    while p < n {
-        let at = p;
-        p += 1;
-        if tag_at(tags, at) != VARIABLE {
+    for p in 0..n {
+        if tag_at(tags, p) != VARIABLE {
             continue;
         }
-        table[at] = count;
+        table[p] = count;
         count += 1;
     }
     count
@@ -50,15 +47,13 @@ fn number_variables(tags: &[u8], n: usize, table: &mut [u32]) -> u32
 fn add_row(table: &mut [u32], to: u32, from: u32, words: u32)
     ensures { RowAdded table.old to from words table.new }
 {
-    let mut j: u32 = 0;
-    while j < words {
-        let i = wide(to) + wide(j);
+    for j in 0..words {
+        let i = to as usize + j as usize;
         if table.len() <= i {
             return;
         }
-        let x = cell(table, wide(from) + wide(j));
+        let x = cell(table, from as usize + j as usize);
         table[i] = table[i] | x;
-        j += 1;
     }
 }
 
@@ -66,15 +61,9 @@ fn add_row(table: &mut [u32], to: u32, from: u32, words: u32)
 pub fn fill_row(a: &mut [u32], to: u32, words: u32)
     ensures { Filled a.old to words a.new }
 {
-    let mut j: u32 = 0;
-    while j < words {
-        let i = wide(to) + wide(j);
-        if a.len() <= i {
-            return;
-        }
-        a[i] = EVERY;
-        j += 1;
-    }
+    let start = a.len().min(to as usize);
+    let end = a.len().min(to as usize + words as usize);
+    a[start..end].fill(EVERY);
 }
 
 // Adds the free variables of the term at u to the row at `to`.
@@ -100,14 +89,11 @@ fn add_term(tags: &[u8], table: &mut [u32], to: u32, words: u32, u: TermPlace)
 fn add_run(tags: &[u8], table: &mut [u32], to: u32, words: u32, t: TermPlace, run: &[u32])
     ensures { Adds tags.now words table.old t.0 to table.new (λ values. free_among tags.now values t.0 run.now) }
 {
-    let mut i: usize = 0;
-    while i < run.len() {
-        let u = run[i];
-        i += 1;
-        if t.0 <= u {
+    for u in run {
+        if t.0 <= *u {
             continue;
         }
-        add_term(tags, table, to, words, TermPlace(u));
+        add_term(tags, table, to, words, TermPlace(*u));
     }
 }
 
@@ -115,10 +101,8 @@ fn add_run(tags: &[u8], table: &mut [u32], to: u32, words: u32, t: TermPlace, ru
 fn add_values(tags: &[u8], table: &mut [u32], to: u32, words: u32, t: TermPlace, run: &[u32])
     ensures { Adds tags.now words table.old t.0 to table.new (λ values. free_among tags.now values t.0 (let_values run.now)) }
 {
-    let mut i: usize = 2;
-    while i < run.len() {
+    for i in (2..run.len()).step_by(2) {
         let u = run[i];
-        i += 2;
         if t.0 <= u {
             continue;
         }
@@ -139,15 +123,11 @@ fn drop_pairs(
     requires { PointsBack index.now }
     ensures { Drops tags.now values.now index.now table.old to table.new lets run.now }
 {
-    let mut i: usize = 2;
-    while i < run.len() {
-        let pair = variable_of(tags, values, index, lets, run[i - 1], run[i]);
-        i += 2;
-        let Found::At(v) = pair else {
-            continue;
-        };
-        let k = cell(table, v);
-        clear_bit(table, to, k);
+    for i in (2..run.len()).step_by(2) {
+        if let Some(v) = variable_of(tags, values, index, lets, run[i - 1], run[i]) {
+            let k = cell(table, v);
+            clear_bit(table, to, k);
+        }
     }
 }
 
@@ -200,15 +180,12 @@ fn make_all(
     ensures { Rows tags.now values.now n words table.new }
 {
     let mut next: u32 = CELLS as u32;
-    let mut p: u32 = 0;
-    while wide(p) < n {
-        let at = wide(p);
-        let t = TermPlace(p);
-        p += 1;
+    for at in 0..n {
+        let t = TermPlace(at as u32);
         if tag_at(tags, at) < APPLICATION {
             continue;
         }
-        if table.len() - wide(next) < wide(words) {
+        if table.len() - (next as usize) < words as usize {
             table[at] = 0;
             continue;
         }

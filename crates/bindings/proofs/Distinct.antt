@@ -1,5 +1,5 @@
--- The distinct pairs of a list: its members, each once, in order of first appearance (`distinct-members`, `distinct-once`, `distinct-order`), and a list
--- uses of them what it uses of the list itself (`distinct-uses`).
+-- The distinct pairs of a list: its members, each once, in order of first appearance (`distinct-members`, `distinct-once`,
+-- `distinct-order`), and a list uses of them what it uses of the list itself (`distinct-uses`).
 -- Assumes nothing.
 use mathlib.Core.Path.{◌≡◌, refl, sym, ap, ◌∙◌}
 use mathlib.Core.Bool.{Bool, true, false, ◌||◌}

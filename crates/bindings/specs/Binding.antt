@@ -1,7 +1,7 @@
 -- Binding lists of quantifiers. A variable is its name with its sort; here the sort is its place.
 -- Rests on the library alone.
 use Rattle.std.specs.Prelude.{ℕ, Bool, true, false, ◌&&◌, ◌||◌, cond, List, [], ◌∷◌, eqb}
-use Rattle.std.proofs.Math.Option.{Option, some, none}
+use Rattle.std.specs.Prelude.{Option, Some, None}
 
 pub record Binding : Type 0 where
   pub name : ℕ
@@ -29,5 +29,5 @@ same_all (a ∷ as') (b ∷ bs) = same a b && same_all as' bs
 
 -- the first of a list that passes a test
 unfoldable pub first_of : (Binding → Bool) → List Binding → Option Binding
-first_of test [] = none
-first_of test (a ∷ rest) = cond (test a) (some a) (first_of test rest)
+first_of test [] = None
+first_of test (a ∷ rest) = cond (test a) (Some a) (first_of test rest)

@@ -1,17 +1,18 @@
--- The outer pairs of rule 5, prepared once: the distinct pairs of the outer list in order of first appearance, which of them are left, and an index of
--- them by hash, the pairs of each bucket in a chain, the last one first. It is one array of records of five cells:
+-- The outer pairs of rule 5, prepared once: the distinct pairs of the outer list in order of first appearance, which of them are left, and
+-- an index of them by hash, the pairs of each bucket in a chain, the last one first. It is one array of records of five cells:
 --     5 * k        the name of pair k
 --     5 * k + 1    its sort
 --     5 * k + 2    1 as long as it is left; 0 once it is used, and where there is no pair
 --     5 * k + 3    1 + the pair before it in its bucket, 0 where there is none
 --     5 * b + 4    1 + the last pair of bucket b, 0 where there is none
 -- A bucket for each record.
--- Rests on cells' Limits, on answers' Outcome and Checked, and on Binding, Used and Distinct.
+-- Rests on cells' Limits, on answers' Outcome and Refusal, and on Binding, Used and Distinct.
 use Rattle.std.specs.Prelude.{ℕ, zero, suc, ◌+◌, ◌*◌, ◌/◌, ◌%◌, ◌≤◌, ◌<◌, ◌≡◌, Bool, true, false, ◌&&◌, not, cond, List, [], ◌∷◌, ◌++◌, length, get_or, set, eqb}
 use Rattle.cells.specs.Limits.{cell_limit}
 use Rattle.answers.specs.Outcome.{Outcome}
-use Rattle.answers.specs.Checked.{outcome_of}
-use Rattle.answers.specs.declared.checked.Checked.{Checked}
+use Rattle.answers.specs.Refusal.{outcome_of}
+use Rattle.std.specs.Prelude.{Result}
+use Rattle.answers.specs.declared.refusal.Refusal.{Refusal}
 use Rattle.bindings.specs.Binding.{Binding, same, has}
 use Rattle.bindings.specs.Used.{without}
 use Rattle.bindings.specs.Distinct.{added, distinct}
@@ -59,8 +60,8 @@ pub data OnChain (cells : List ℕ) : ℕ → ℕ → Type 0 where
   here : {k : ℕ} → OnChain cells (suc k) k
   next : {q k : ℕ} → OnChain cells (link_of cells q) k → OnChain cells (suc q) k
 
--- ---- what is asked of it, and kept: each pair that is left is on the chain of its bucket, and stands in the array once. So the index finds what the scan
--- finds (the contract of `find`)
+-- ---- what is asked of it, and kept: each pair that is left is on the chain of its bucket, and stands in the array once. So
+-- the index finds what the scan finds (the contract of `find`)
 pub record Prepared (cells : List ℕ) : Type 0 where
   pub room : 5 ≤ length cells  -- there is a bucket
   pub back : (k : ℕ) → link_of cells k ≤ k  -- a chain goes back
@@ -114,6 +115,6 @@ pub record UsesPrepared (a : Binding) (before : List ℕ) (r : Bool) (after : Li
   pub kept : Prepared after
 
 -- the outcome leaves these pairs
-pub record Leaves (o : Outcome (List Binding)) (r : Checked) (after : List ℕ) : Type 0 where
+pub record Leaves (o : Outcome (List Binding)) (r : Result (Unit {0}) Refusal) (after : List ℕ) : Type 0 where
   pub outcome : o ≡ outcome_of r (left_in after)
   pub kept : Prepared after

@@ -1,5 +1,5 @@
--- Rule 5's use of the outer pairs, "each outer pair used at most once, also where the outer list repeats it"; and which of them are left: a mark
--- for each pair of the outer list, 0 as long as the pair is left. A pair past the marks is not left.
+-- Rule 5's use of the outer pairs, "each outer pair used at most once, also where the outer list repeats it"; and which of them are left: a
+-- mark for each pair of the outer list, 0 as long as the pair is left. A pair past the marks is not left.
 -- Rests on answers' Outcome and on Binding.
 use Rattle.std.specs.Prelude.{ℕ, ◌≡◌, Bool, ◌&&◌, cond, List, [], ◌∷◌, eqb}
 use Rattle.answers.specs.Outcome.{Outcome, pass, ◌>>◌, guard}

@@ -4,4 +4,5 @@
 pub mod binding;
 pub mod list_comparison;
 pub mod outer_pairs;
+pub mod pairs;
 pub mod used_pairs;

@@ -4,17 +4,14 @@ use Prim.Native.Nat.{ℕ, ◌+◌, ◌-◌, ◌≤◌, ◌<◌}
 use mathlib.Core.Path.{◌≡◌, refl, sym, ap}
 use mathlib.Core.Bool.{Bool, true, false}
 use mathlib.Core.List.{List, [], ◌∷◌}
-use lib.ListN.{length, get_or, take, drop, drop_of_length-le, get_or-eq_default, length-drop}
-use lib.Seq.{drop-cons, take_all, take-nil}
+use lib.ListN.{length, get_or, take, drop, drop_of_length-le, length-drop}
+use lib.Seq.{take_all, take-nil}
 use lib.Dec.{eqb}
+use Rattle.std.specs.Cmp.Lexicographic.{pointwise}
 use native.Mathlib.Omega.{arith}
-use native.Mathlib.Numerals.{add-one}
 use borrow.Author.Tests.{lt-ltb, le-ltb, eq-eqb, ne_eqb, eqb-true}
 use Rattle.cells.specs.ByPlace.{by-test}
 use Rattle.cells.specs.Cell.{cells_of, operands_of, same_cells, is_at}
-
-pub cell-past : (a : List ℕ) (i : ℕ) → length a ≤ i → 0 ≡ get_or a i 0
-cell-past a i h = sym (get_or-eq_default a 0 h)
 
 -- what `&l[i..]` is
 rest-is : (l : List ℕ) (i : ℕ) → take (length l - i) (drop i l) ≡ drop i l
@@ -76,25 +73,16 @@ same-eq (x ∷ a) (y ∷ b) e =
     (λ o. let h : x ≡ y = eqb-true x y o in let t : a ≡ b = same-eq a b (rw o at e) in cc)
     (λ o. let z : false ≡ true = rw o at e in cc)
 
+-- `same_cells` is the library's test of two lists
+pub same-pointwise : (a b : List ℕ) (r : Bool) → r ≡ pointwise eqb a b → r ≡ same_cells a b
+unfolding same_cells
+same-pointwise [] [] r e = e
+same-pointwise [] (y ∷ b) r e = e
+same-pointwise (x ∷ a) [] r e = e
+same-pointwise (x ∷ a) (y ∷ b) r e = by-test (eqb x y) (λ o. rw o (same-pointwise a b r (rw o at e))) (λ o. rw o (rw o at e))
+
 pub same-lengths : (a b : List ℕ) → (length a ≡ length b → ⊥) → false ≡ same_cells a b
 same-lengths a b n = by-test (same_cells a b) (λ e. absurd (n (ap length (same-eq a b e)))) (λ e. sym e)
-
--- w says whether the cells from i on are equal
-module _ (w : Bool) (a b : List ℕ) (i : ℕ) (inv : w ≡ same_cells (drop i a) (drop i b)) (long : length a ≡ length b) where
-  pub same_end : length a ≤ i → true ≡ w
-  unfolding same_cells
-  same_end h = rw (inv, drop_of_length-le a h, drop_of_length-le b {i = i} (omega arith))
-
-  module _ (h : i < length a) where
-    pub same_not : (get_or a i 0 ≡ get_or b i 0 → ⊥) → false ≡ w
-    unfolding same_cells
-    same_not n = rw (inv, drop-cons a i 0 h, drop-cons b i 0 (omega arith), ne_eqb _ _ n)
-
-    pub same_next : get_or a i 0 ≡ get_or b i 0 → w ≡ same_cells (drop (i + 1) a) (drop (i + 1) b)
-    unfolding same_cells
-    same_next e = rw (inv, drop-cons a i 0 h, drop-cons b i 0 (omega arith), eq-eqb _ _ e, add-one i)
-
-pub ruleset same = (same-lengths, same_end, same_not, same_next)
 
 -- ---- a description
 module _ (tags values : List ℕ) (p tag : ℕ) (cells : List ℕ) (k : ℕ) (is : k ≡ get_or tags p 0) where

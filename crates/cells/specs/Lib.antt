@@ -6,3 +6,4 @@ pub mod Marks
 pub mod TermTag
 pub mod Place
 pub mod Limits
+pub mod HeadersLeft

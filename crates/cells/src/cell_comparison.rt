@@ -9,17 +9,7 @@ use crate::tags::tag_at;
 pub fn same_cells(a: &[u32], b: &[u32]) -> bool
     ensures { result ≡ same_cells a.now b.now }
 {
-    if a.len() != b.len() {
-        return false;
-    }
-    let mut i: usize = 0;
-    while i < a.len() {
-        if a[i] != b[i] {
-            return false;
-        }
-        i += 1;
-    }
-    true
+    a == b
 }
 
 // Whether the header at p has this tag and these cells.

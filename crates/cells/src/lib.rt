@@ -2,22 +2,17 @@
 #![tactic(auto)]
 
 pub mod cell_comparison;
+pub mod header_places;
 pub mod limits;
 pub mod marks;
 pub mod run;
 pub mod tags;
+pub mod variable;
 
 // The place of a term: its header's index.
-#[derive(Clone, Copy)]
+#[derive(Clone, Copy, PartialEq, Eq)]
 pub struct TermPlace(pub u32);
 
 // The place of a sort: its header's index.
-#[derive(Clone, Copy)]
+#[derive(Clone, Copy, PartialEq, Eq)]
 pub struct SortPlace(pub u32);
-
-// What a walk over headers finds.
-#[derive(Clone, Copy)]
-pub enum Found {
-    At(usize),
-    Nothing,
-}

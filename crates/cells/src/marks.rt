@@ -8,8 +8,7 @@ use crate::TermPlace;
 pub fn mark_at(marks: &[u8], t: TermPlace) -> u8
     ensures { result ≡ get_or marks.now t.0 0 }
 {
-    let i = t.0 as usize;
-    if i < marks.len() { marks[i] } else { 0 }
+    marks.get(t.0 as usize).copied().unwrap_or(0)
 }
 
 // Marks a place with 1.
@@ -37,9 +36,5 @@ pub fn note_no(marks: &mut [u8], t: TermPlace, answer: bool) -> bool
 pub fn clear_marks(marks: &mut [u8])
     ensures { marks.new ≡ replicate (length marks.old) 0 }
 {
-    let mut i: usize = 0;
-    while i < marks.len() {
-        marks[i] = 0;
-        i += 1;
-    }
+    marks.fill(0);
 }

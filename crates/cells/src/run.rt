@@ -9,14 +9,7 @@ use crate::{SortPlace, TermPlace};
 pub fn cell(a: &[u32], i: usize) -> u32
     ensures { result ≡ get_or a.now i 0 }
 {
-    if i < a.len() { a[i] } else { 0 }
-}
-
-// A cell's number as an index.
-pub fn wide(x: u32) -> usize
-    ensures { result ≡ x }
-{
-    x as usize
+    a.get(i).copied().unwrap_or(0)
 }
 
 // The cells after the header at p, as a part of the value array.
@@ -27,7 +20,7 @@ pub fn cells(values: &[u32], p: usize) -> &[u32]
         return &values[0..0];
     }
     let start = p + 1;
-    let n = wide(values[p]);
+    let n = values[p] as usize;
     if values.len() - start < n {
         return &values[start..];
     }

@@ -73,7 +73,7 @@ pub const REL_PRODUCT: u8 = 166;
 pub fn tag_at(tags: &[u8], i: usize) -> u8
     ensures { result ≡ get_or tags.now i 0 }
 {
-    if i < tags.len() { tags[i] } else { 0 }
+    tags.get(i).copied().unwrap_or(0)
 }
 
 // Whether a header with this tag is a term's, in a pool that passes check 14.

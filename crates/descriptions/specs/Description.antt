@@ -1,29 +1,28 @@
 -- Check 15 and adding a term: descriptions, which are a header's tag and cells.
 -- 01, "Pool": "No two headers describe the same thing."
--- Rests on cells' Cell, Headers and enum `Found`, and on the enum `Added`.
+-- Rests on cells' Cell and Headers, and on the enum `Added`.
+use Rattle.std.specs.Prelude.{Option, Some, None}
 use Rattle.std.specs.Prelude.{ℕ, ◌+◌, ◌-◌, ◌≤◌, ◌≡◌, Bool, true, false, ◌||◌, cond, List, ◌∷◌, ◌++◌, length, get_or, take, replicate, ltb}
 use Rattle.std.proofs.lemmas.List.Edits.{sets}
 use Rattle.cells.specs.Cell.{cells_of, is_at}
 use Rattle.cells.specs.Headers.{first_header}
-use Rattle.cells.specs.declared.Found.{Found}
-use Rattle.cells.specs.declared.Found.TheVariants.{At, Nothing}
 use Rattle.descriptions.specs.declared.description.Added.{Added}
 use Rattle.descriptions.specs.declared.description.Added.TheVariants.{There, New, Full}
 
 -- the first header below n with this tag and these cells
-unfoldable pub find : List ℕ → List ℕ → ℕ → ℕ → List ℕ → Found
+unfoldable pub find : List ℕ → List ℕ → ℕ → ℕ → List ℕ → Option ℕ
 find tags values n tag cells = first_header values n (λ q. is_at tags values q tag cells)
 
-abbrev pub is_found : Found → Bool
-is_found (At p) = true
-is_found Nothing = false
+abbrev pub is_found : Option ℕ → Bool
+is_found (Some p) = true
+is_found None = false
 
 -- the header at p repeats an earlier one
 unfoldable pub repeats : List ℕ → List ℕ → ℕ → Bool
 repeats tags values p = is_found (find tags values p (get_or tags p 0) (cells_of values p))
 
 -- "15 repeated description (the first later place)"
-unfoldable pub first_repeat : List ℕ → List ℕ → ℕ → Found
+unfoldable pub first_repeat : List ℕ → List ℕ → ℕ → Option ℕ
 first_repeat tags values n = first_header values n (repeats tags values)
 
 -- ---- adding a term
@@ -48,9 +47,9 @@ append tags values limit n tag cells =
       values = sets values n (length cells ∷ cells);
     })
 
-unfoldable pub found_or : List ℕ → List ℕ → Found → Adding → Adding
-found_or tags values (At p) new = record { answer = There p; tags = tags; values = values }
-found_or tags values Nothing new = new
+unfoldable pub found_or : List ℕ → List ℕ → Option ℕ → Adding → Adding
+found_or tags values (Some p) new = record { answer = There p; tags = tags; values = values }
+found_or tags values None new = new
 
 -- the place of an equal description; or the description after the count, and the new count; or no room, and nothing changed
 unfoldable pub adding : List ℕ → List ℕ → ℕ → ℕ → ℕ → List ℕ → Adding

@@ -1,14 +1,13 @@
 -- An index of descriptions by hash: the headers of each bucket stand in a chain, the last one first. It is one array,
 --     below 8,192    for each header 1 + the one before it in its bucket, 0 where there is none
 --     from there on  for each bucket 1 + the last header in it, 0 where there is none
--- Rests on cells' Cell, Limits and enum `Found`, on headers' WellFormed, and on Description and the enum `Added`.
+-- Rests on cells' Cell and Limits, on headers' WellFormed, and on Description and the enum `Added`.
+use Rattle.std.specs.Prelude.{Option, Some, None}
 use Rattle.std.specs.Prelude.{ℕ, zero, suc, ◌+◌, ◌-◌, ◌*◌, ◌%◌, ◌≤◌, ◌<◌, ◌≡◌, Bool, cond, List, [], ◌∷◌, length, get_or, set, eqb}
 use Rattle.cells.specs.Limits.{cell_limit}
 use Rattle.cells.specs.Cell.{cells_of, is_at}
 use Rattle.descriptions.specs.Description.{find, first_repeat}
 use Rattle.headers.specs.WellFormed.{first_bad}
-use Rattle.cells.specs.declared.Found.{Found}
-use Rattle.cells.specs.declared.Found.TheVariants.{At, Nothing}
 use Rattle.descriptions.specs.declared.description.Added.{Added}
 use Rattle.descriptions.specs.declared.description.Added.TheVariants.{There, New, Full}
 
@@ -38,12 +37,12 @@ chain_in index test (suc f) (suc q) last = chain_in index test f (get_or index q
 unfoldable pub on_chain : List ℕ → (ℕ → Bool) → ℕ → ℕ → ℕ
 on_chain index test c last = chain_in index test c c last
 
-abbrev pub as_found : ℕ → Found
-as_found zero = Nothing
-as_found (suc q) = At q
+abbrev pub as_found : ℕ → Option ℕ
+as_found zero = None
+as_found (suc q) = Some q
 
 -- what the index has of a description
-unfoldable pub look_up : List ℕ → List ℕ → List ℕ → ℕ → List ℕ → Found
+unfoldable pub look_up : List ℕ → List ℕ → List ℕ → ℕ → List ℕ → Option ℕ
 look_up tags values index tag cells = as_found (on_chain index (λ q. is_at tags values q tag cells) (head_of index (bucket_of tag cells)) 0)
 
 -- no entry is above its own place: a chain goes back
@@ -100,7 +99,7 @@ pub record Earlier (values : List ℕ) (p m : ℕ) : Type 0 where
 
 -- after check 15: a well-formed pool without repeats is in the index
 pub record Indexes (tags values : List ℕ) (n : ℕ) (index : List ℕ) : Type 0 where
-  pub whole : n ≤ cell_limit → first_bad tags values n ≡ Nothing → first_repeat tags values n ≡ Nothing → Index tags values n index
+  pub whole : n ≤ cell_limit → first_bad tags values n ≡ None → first_repeat tags values n ≡ None → Index tags values n index
 
 -- the count after adding to n cells
 abbrev pub count_after : ℕ → Added → ℕ

@@ -28,13 +28,9 @@ fn put_cells(tags: &mut [u8], values: &mut [u32], at: usize, cells: &[u32])
     requires cells_in_bounds_2 { at + length cells.now ≤ length values.old }
     ensures { Put tags.old values.old at (replicate (length cells.now) 0) cells.now tags.new values.new }
 {
-    let mut j: usize = 0;
-    while j < cells.len() {
-        let i = at + j;
-        tags[i] = 0;
-        values[i] = cells[j];
-        j += 1;
-    }
+    let end = at + cells.len();
+    tags[at..end].fill(0);
+    values[at..end].copy_from_slice(cells);
 }
 
 // Writes a header and its cells from n on, and gives the new count.

@@ -8,9 +8,10 @@ ghost use Rattle.descriptions.specs.Index.{bucket_count, bucket_of, head_of, on_
 use crate::adding::{is_full, put};
 use crate::description::{Added, zero_from};
 use cells::cell_comparison::is_at;
+use cells::header_places::header_places;
 use cells::limits::CELLS;
+use cells::run;
 use cells::tags::tag_at;
-use cells::{Found, run};
 
 // The index: for each cell one more than the header before it in its chain, or 0; then the last header of each bucket, one more than it.
 pub const INDEX: usize = 12288;
@@ -26,10 +27,8 @@ fn bucket(tag: u8, cells: &[u32]) -> usize
     ensures upper_bound { result < bucket_count }
 {
     let mut h = (tag as usize) % BUCKETS;
-    let mut i: usize = 0;
-    while i < cells.len() {
-        h = (h * 1021 + run::wide(cells[i]) % BUCKETS) % BUCKETS;
-        i += 1;
+    for x in cells {
+        h = (h * 1021 + *x as usize % BUCKETS) % BUCKETS;
     }
     h
 }
@@ -56,8 +55,9 @@ fn on_chain(
 {
     let mut c = head;
     let mut last: u32 = 0;
+    // Kept: each header's cell names the next one of its chain, so no range and no iterator over places fits.
     while 0 < c {
-        let q = run::wide(c) - 1;
+        let q = c as usize - 1;
         last = latest(is_at(tags, values, q, tag, cells), c, last);
         c = run::cell(index, q);
     }
@@ -72,20 +72,26 @@ fn first_in(
     b: usize,
     tag: u8,
     cells: &[u32],
-) -> Found
+) -> Option<usize>
     requires points_back { PointsBack index.now }
     requires b_lt_bucket_count { b < bucket_count }
     ensures { result ≡ as_found (on_chain index.now (λ q. is_at tags.now values.now q tag cells.now) (head_of index.now b) 0) }
 {
     let last = on_chain(tags, values, index, index[HEADS + b], tag, cells);
     if last == 0 {
-        return Found::Nothing;
+        return None;
     }
-    Found::At(run::wide(last) - 1)
+    Some(last as usize - 1)
 }
 
 // What the index has of a description.
-pub fn look_up(tags: &[u8], values: &[u32], index: &[u32; INDEX], tag: u8, cells: &[u32]) -> Found
+pub fn look_up(
+    tags: &[u8],
+    values: &[u32],
+    index: &[u32; INDEX],
+    tag: u8,
+    cells: &[u32],
+) -> Option<usize>
     requires { PointsBack index.now }
     ensures { result ≡ look_up tags.now values.now index.now tag cells.now }
 {
@@ -115,31 +121,27 @@ fn enter_header(tags: &[u8], values: &[u32], p: usize, index: &mut [u32; INDEX])
     let b = bucket(tag, there);
     let earlier = first_in(tags, values, index, b, tag, there);
     enter(index, p, b);
-    match earlier {
-        Found::At(_) => true,
-        Found::Nothing => false,
-    }
+    earlier.is_some()
 }
 
 // Check 15, with an index that is empty at first.
-pub(crate) fn first_repeat(tags: &[u8], values: &[u32], n: usize, index: &mut [u32; INDEX]) -> Found
+pub(crate) fn first_repeat(
+    tags: &[u8],
+    values: &[u32],
+    n: usize,
+    index: &mut [u32; INDEX],
+) -> Option<usize>
     requires index { Index tags.now values.now 0 index.old }
     requires n_le_cell_limit { n ≤ cell_limit }
     ensures value { result ≡ first_repeat tags.now values.now n }
     ensures indexes { Indexes tags.now values.now n index.new }
 {
-    let mut p: usize = 0;
-    while p < n {
+    for p in header_places(values, n) {
         if enter_header(tags, values, p, index) {
-            return Found::At(p);
+            return Some(p);
         }
-        let k = run::cell(values, p) as usize;
-        if n - p <= k {
-            return Found::Nothing;
-        }
-        p += 1 + k;
     }
-    Found::Nothing
+    None
 }
 
 // Makes the index of the headers below n anew.
@@ -148,11 +150,8 @@ pub fn index_headers(tags: &[u8], values: &[u32], n: usize, index: &mut [u32; IN
     ensures { Index tags.now values.now n index.new }
 {
     zero_from(index, 0);
-    let mut p: usize = 0;
-    while p < n {
+    for p in header_places(values, n) {
         enter_header(tags, values, p, index);
-        let k = run::cell(values, p) as usize;
-        p += 1 + k;
     }
 }
 
@@ -162,7 +161,7 @@ fn leave(index: &mut [u32; INDEX], p: usize, b: usize)
     requires b_lt_bucket_count { b < bucket_count }
     ensures { index.new ≡ without index.old p b }
 {
-    if run::wide(index[HEADS + b]) != p + 1 {
+    if index[HEADS + b] as usize != p + 1 {
         index[p] = 0;
         return;
     }
@@ -203,8 +202,8 @@ pub fn add(
     let b = bucket(tag, cells);
     let there = first_in(tags, values, index, b, tag, cells);
     match there {
-        Found::At(p) => Added::There(p),
-        Found::Nothing => {
+        Some(p) => Added::There(p),
+        None => {
             if is_full(tags, values, CELLS, n, cells.len()) {
                 return Added::Full;
             }

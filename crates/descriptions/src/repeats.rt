@@ -6,12 +6,16 @@ ghost use Rattle.descriptions.specs.Index.{Indexes};
 use crate::description::{scan_repeats, zero_from};
 use crate::index;
 use crate::index::INDEX;
-use cells::Found;
 use cells::limits::CELLS;
 
 // Check 15: the first header below n that repeats an earlier one. The index then has the headers, if there is none; it has
 // room for 8,192 cells.
-pub fn first_repeat(tags: &[u8], values: &[u32], n: usize, index: &mut [u32; INDEX]) -> Found
+pub fn first_repeat(
+    tags: &[u8],
+    values: &[u32],
+    n: usize,
+    index: &mut [u32; INDEX],
+) -> Option<usize>
     ensures value { result ≡ first_repeat tags.now values.now n }
     ensures indexes { Indexes tags.now values.now n index.new }
 {

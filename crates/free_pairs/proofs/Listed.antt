@@ -1,14 +1,13 @@
 -- A pair is in the list of a term's free variables exactly if it is free there, of any two lists of cells.
 --     binding-listed      the question by the list is the question by `is_free`
---     first-pair-that     so the first pair of a binding list that passes a test and is in the list is the first that passes it and is free:
---                         the refusals name the same variables (02, S-6)
+--     first-pair-that     so the first pair of a binding list that passes a test and is in the list is the first that passes it and is
+--                         free: the refusals name the same variables (02, S-6)
 -- Assumes nothing.
+use Rattle.std.specs.Prelude.{Option, Some, None}
 use Prim.Native.Nat.{ℕ}
 use mathlib.Core.Path.{◌≡◌, refl, ap, fun_ext}
 use mathlib.Core.Bool.{Bool, ◌&&◌}
 use mathlib.Core.List.{List, [], ◌∷◌}
-use Rattle.cells.specs.declared.Found.{Found}
-use Rattle.cells.specs.declared.Found.TheVariants as found
 use Rattle.descriptions.specs.Description.{find}
 use Rattle.bindings.specs.Binding.{Binding, first_of}
 use Rattle.free_variables.proofs.appearing.Listed.{listed-at}
@@ -21,9 +20,9 @@ module _ (tags values : List ℕ) (n t : ℕ) where
   unfolding binding_listed binding_free
   binding-listed a = by (find tags values n 21 (a.sort ∷ a.name ∷ [])) refl
     where
-      by : (f : Found) → find tags values n 21 (a.sort ∷ a.name ∷ []) ≡ f → listed_at tags values t f ≡ free_at tags values t f
-      by found.Nothing q = refl
-      by (found.At v) q = listed-at tags values v (stands tags values n a.name a.sort v q).tag t
+      by : (f : Option ℕ) → find tags values n 21 (a.sort ∷ a.name ∷ []) ≡ f → listed_at tags values t f ≡ free_at tags values t f
+      by None q = refl
+      by (Some v) q = listed-at tags values v (stands tags values n a.name a.sort v q).tag t
 
   pub first-pair : (as' : List Binding) → first_of (binding_listed tags values n t) as' ≡ first_of (binding_free tags values n t) as'
   first-pair as' = ap (λ (f : Binding → Bool). first_of f as') (fun_ext binding-listed)

@@ -1,7 +1,7 @@
 -- Pairs that a list lacks, free in a term; and the first of them by a mask.
 -- Rests on bindings' Binding and on BindingFree.
 use Rattle.std.specs.Prelude.{ℕ, ◌/◌, ◌%◌, Bool, not, ◌&&◌, cond, List, [], ◌∷◌, eqb}
-use Rattle.std.proofs.Math.Option.{Option, some, none}
+use Rattle.std.specs.Prelude.{Option, Some, None}
 use Rattle.bindings.specs.Binding.{Binding, has}
 use Rattle.free_pairs.specs.BindingFree.{binding_free}
 
@@ -15,5 +15,5 @@ is_marked other m a = not (eqb (m % 2) 0) && not (has other a)
 
 -- the first pair that the mask has and another list lacks
 unfoldable pub first_marked : List Binding → ℕ → List Binding → Option Binding
-first_marked other m [] = none
-first_marked other m (a ∷ rest) = cond (is_marked other m a) (some a) (first_marked other (m / 2) rest)
+first_marked other m [] = None
+first_marked other m (a ∷ rest) = cond (is_marked other m a) (Some a) (first_marked other (m / 2) rest)

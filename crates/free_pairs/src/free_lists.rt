@@ -4,39 +4,39 @@ ghost use Rattle.std.specs.Prelude.{◌≡◌, not, ◌&&◌, take};
 ghost use Rattle.free_variables.specs.Names.{may_be_free, free_in, NamesMarked};
 ghost use Rattle.bindings.specs.Binding.{bindings_of, has, first_of};
 ghost use Rattle.free_pairs.specs.BindingFree.{binding_free};
-ghost use Rattle.bindings.specs.BindingAnswer.{pair, name_of};
+ghost use Rattle.bindings.specs.BindingAnswer.{binding, name_of};
 ghost use Rattle.free_pairs.specs.FreeLists.{is_marked, first_marked, is_missing};
 
 use crate::free_masks::{free_mask, group};
-use bindings::binding::{FirstName, has};
+use bindings::binding::has;
+use bindings::pairs::pairs_of;
 use cells::limits::CELLS;
+use cells::variable::Variable;
 use cells::{SortPlace, TermPlace};
 use free_variables::term_names::{mark_names, may_be_free};
 
 // Whether the mask's lowest bit is set and a list lacks this pair.
-fn is_marked(mask: u32, other: &[u32], name: u32, sort: SortPlace) -> bool
-    ensures { result ≡ is_marked (bindings_of other.now) mask (pair name sort.0) }
+fn is_marked(mask: u32, other: &[u32], pair: Variable) -> bool
+    ensures { result ≡ is_marked (bindings_of other.now) mask (binding pair) }
 {
     if mask % 2 == 0 {
         return false;
     }
-    !has(other, name, sort)
+    !has(other, pair)
 }
 
 // The first pair of a list that the mask has and another list lacks.
-fn first_marked(list: &[u32], mask: u32, other: &[u32]) -> FirstName
+fn first_marked(list: &[u32], mask: u32, other: &[u32]) -> Option<u32>
     ensures { result ≡ name_of (first_marked (bindings_of other.now) mask (bindings_of list.now)) }
 {
-    let mut i: usize = 0;
     let mut m = mask;
-    while 2 <= list.len() - i {
-        if is_marked(m, other, list[i], SortPlace(list[i + 1])) {
-            return FirstName::Name(list[i]);
+    for pair in pairs_of(list) {
+        if is_marked(m, other, pair) {
+            return Some(pair.name);
         }
-        m = m / 2;
-        i += 2;
+        m /= 2;
     }
-    FirstName::Nothing
+    None
 }
 
 // The first pair among the first 31 of a list that another lacks and whose variable is free in the term at t: by one walk.
@@ -47,7 +47,7 @@ fn first_in_group(
     t: TermPlace,
     list: &[u32],
     other: &[u32],
-) -> FirstName
+) -> Option<u32>
     ensures { result ≡ name_of (first_of (is_missing tags.now values.now n t.0 (bindings_of other.now)) (bindings_of (take 62 list.now))) }
 {
     let mask = free_mask(tags, values, n, t, list);
@@ -55,13 +55,13 @@ fn first_in_group(
 }
 
 // Whether a list lacks this pair and, by the table of the term's names, its variable may be free.
-fn may_be_missing(names: &[u8], other: &[u32], name: u32, sort: SortPlace) -> bool
-    ensures { result ≡ (not (has (bindings_of other.now) (pair name sort.0)) && may_be_free names.now name sort.0) }
+fn may_be_missing(names: &[u8], other: &[u32], pair: Variable) -> bool
+    ensures { result ≡ (not (has (bindings_of other.now) (binding pair)) && may_be_free names.now pair.name pair.sort.0) }
 {
-    if !may_be_free(names, name, sort) {
+    if !may_be_free(names, pair) {
         return false;
     }
-    !has(other, name, sort)
+    !has(other, pair)
 }
 
 // The first pair of a list that another lacks and whose variable is free in the term at t, with the table of the term's names.
@@ -73,24 +73,28 @@ pub fn first_missing_by(
     t: TermPlace,
     list: &[u32],
     other: &[u32],
-) -> FirstName
+) -> Option<u32>
     requires { NamesMarked tags.now values.now names.now (free_in tags.now values.now t.0) }
     ensures { result ≡ name_of (first_of (is_missing tags.now values.now n t.0 (bindings_of other.now)) (bindings_of list.now)) }
 {
-    let mut i: usize = 0;
-    while 2 <= list.len() - i {
-        if may_be_missing(names, other, list[i], SortPlace(list[i + 1])) {
-            let rest = &list[i..];
+    let mut rest = list;
+    // Kept: a turn passes one pair or a whole group of them, so no iterator over pairs fits.
+    while let [name, sort, others @ ..] = rest {
+        let pair = Variable {
+            name: *name,
+            sort: SortPlace(*sort),
+        };
+        if may_be_missing(names, other, pair) {
             let found = first_in_group(tags, values, n, t, rest, other);
-            if let FirstName::Name(name) = found {
-                return FirstName::Name(name);
+            if found.is_some() {
+                return found;
             }
-            i += group(rest).len();
+            rest = rest.split_at(group(rest).len()).1;
         } else {
-            i += 2;
+            rest = others;
         }
     }
-    FirstName::Nothing
+    None
 }
 
 // The first pair of a list that another lacks and whose variable is free in the term at t.
@@ -101,7 +105,7 @@ pub fn first_missing(
     t: TermPlace,
     list: &[u32],
     other: &[u32],
-) -> FirstName
+) -> Option<u32>
     ensures { result ≡ name_of (first_of (λ a. not (has (bindings_of other.now) a) && binding_free tags.now values.now n t.0 a) (bindings_of list.now)) }
 {
     let mut names = [0u8; CELLS];
@@ -110,7 +114,7 @@ pub fn first_missing(
 }
 
 // The first pair of a list whose variable is free in the term at t.
-pub fn first_free(tags: &[u8], values: &[u32], n: usize, t: TermPlace, list: &[u32]) -> FirstName
+pub fn first_free(tags: &[u8], values: &[u32], n: usize, t: TermPlace, list: &[u32]) -> Option<u32>
     ensures { result ≡ name_of (first_of (binding_free tags.now values.now n t.0) (bindings_of list.now)) }
 {
     first_missing(tags, values, n, t, list, &list[..0])

@@ -4,33 +4,37 @@
 ghost use Rattle.std.specs.Prelude.{◌≡◌, ◌≤◌, ◌<◌, length, get_or, take};
 ghost use Rattle.bindings.specs.Binding.{bindings_of, same};
 ghost use Rattle.free_pairs.specs.BindingFree.{binding_free};
-ghost use Rattle.bindings.specs.BindingAnswer.{pair};
+ghost use Rattle.bindings.specs.BindingAnswer.{binding};
 ghost use Rattle.free_variables.specs.Free.{let_values};
 ghost use Rattle.free_pairs.specs.Mask.{mask_of, without, bound_in};
 ghost use Rattle.free_pairs.specs.MaskWalk.{mask_among, MaskMemo, MaskWalked, MaskNoted};
 
-use bindings::binding::same_pair;
 use cells::limits::CELLS;
-use cells::run::{cell, operands, sort_of};
+use cells::run::{cell, operands};
 use cells::tags::{LET, VARIABLE, tag_at};
-use cells::{Found, SortPlace, TermPlace};
+use cells::variable::Variable;
+use cells::{SortPlace, TermPlace};
 use descriptions::description::find;
-use free_variables::free_vars::has_pair;
+use free_variables::free_vars::{has_pair, variable_at};
 use free_variables::term_names::{FreeFrom, free_from};
 
 // The cells of 31 pairs: a mask plus 1 fits u32.
 const GROUP: usize = 62;
 
-// The pairs of a list that are this name with this sort.
-fn equal_pairs(list: &[u32], name: u32, sort: SortPlace) -> u32
+// The pairs of a list that are this variable.
+fn equal_pairs(list: &[u32], v: Variable) -> u32
     requires { length list.now ≤ 62 }
-    ensures { result ≡ mask_of (same (pair name sort.0)) (bindings_of list.now) }
+    ensures { result ≡ mask_of (same (binding v)) (bindings_of list.now) }
 {
-    if list.len() < 2 {
+    let [name, sort, others @ ..] = list else {
         return 0;
-    }
-    let rest = equal_pairs(&list[2..], name, sort);
-    if same_pair(name, sort, list[0], SortPlace(list[1])) {
+    };
+    let pair = Variable {
+        name: *name,
+        sort: SortPlace(*sort),
+    };
+    let rest = equal_pairs(others, v);
+    if v == pair {
         return rest * 2 + 1;
     }
     rest * 2
@@ -42,18 +46,16 @@ fn variable_mask(tags: &[u8], values: &[u32], n: usize, list: &[u32], t: TermPla
     requires t_value { get_or tags.now t.0 0 ≡ 21 }
     ensures { result ≡ mask_of (binding_free tags.now values.now n t.0) (bindings_of list.now) }
 {
-    let at = t.0 as usize;
-    let name = cell(values, at + 2);
-    let sort = sort_of(values, t);
-    let mask = equal_pairs(list, name, sort);
+    let variable = variable_at(values, t);
+    let mask = equal_pairs(list, variable);
     if mask == 0 {
         return 0;
     }
-    let cells = [sort.0, name];
-    let Found::At(v) = find(tags, values, n, VARIABLE, &cells) else {
+    let cells = [variable.sort.0, variable.name];
+    let Some(v) = find(tags, values, n, VARIABLE, &cells) else {
         return 0;
     };
-    if v == at {
+    if v == t.0 as usize {
         return mask;
     }
     0
@@ -63,14 +65,18 @@ fn variable_mask(tags: &[u8], values: &[u32], n: usize, list: &[u32], t: TermPla
 fn unbound_pairs(values: &[u32], lets: bool, run: &[u32], list: &[u32], mask: u32) -> u32
     ensures { result ≡ without (bound_in values.now lets run.now) (bindings_of list.now) mask }
 {
-    if list.len() < 2 {
+    let [name, sort, others @ ..] = list else {
         return 0;
-    }
-    let rest = unbound_pairs(values, lets, run, &list[2..], mask / 2);
+    };
+    let pair = Variable {
+        name: *name,
+        sort: SortPlace(*sort),
+    };
+    let rest = unbound_pairs(values, lets, run, others, mask / 2);
     if mask % 2 == 0 {
         return rest * 2;
     }
-    if has_pair(values, lets, list[0], SortPlace(list[1]), run) {
+    if has_pair(values, lets, pair, run) {
         return rest * 2;
     }
     rest * 2 + 1

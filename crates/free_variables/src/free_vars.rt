@@ -1,6 +1,7 @@
 // Free variables, after `compute_free_vars`, but that a let's values count. A memo, a byte for each place, keeps the answers for
 // one variable, so that its walk takes time linear in the pool however terms are shared. A place past the memo's end is walked anew.
-ghost use Rattle.std.specs.Prelude.{◌≡◌, length, drop};
+ghost use Rattle.std.specs.Prelude.{◌≡◌, ◌+◌, length, drop, get_or};
+ghost use Rattle.cells.specs.Cell.{sort_of};
 ghost use Rattle.free_variables.specs.Free.{pair_in, any_of, let_values, is_free, mark_of, Marked};
 ghost use Rattle.free_variables.specs.FreeMemo.{pair_sort, is_pair, pairs_bind, free_below, FreeMeans, NotFreeMemo, FreeAnswered};
 
@@ -8,34 +9,45 @@ use cells::limits::CELLS;
 use cells::marks::{mark_at, note_no};
 use cells::run::{cell, operands, sort_of};
 use cells::tags::{APPLICATION, BINDERS_END, FORALL, LET, VARIABLE, tag_at};
+use cells::variable::Variable;
 use cells::{SortPlace, TermPlace};
 
-// Whether the pair a, b is this name with this sort. A let's pair (`lets`) holds a value of that sort, a binder's the sort.
-fn is_pair(values: &[u32], lets: bool, name: u32, sort: SortPlace, a: u32, b: u32) -> bool
-    ensures { result ≡ is_pair values.now lets name sort.0 a b }
+// The variable whose header stands at v.
+pub fn variable_at(values: &[u32], v: TermPlace) -> Variable
+    ensures name { result.name ≡ get_or values.now (v.0 + 2) 0 }
+    ensures sort { result.sort.0 ≡ sort_of values.now v.0 }
 {
-    if a != name {
+    let at = v.0 as usize;
+    Variable {
+        name: cell(values, at + 2),
+        sort: sort_of(values, v),
+    }
+}
+
+// Whether the pair a, b is this variable. A let's pair (`lets`) holds a value of its sort, a binder's the sort.
+fn is_pair(values: &[u32], lets: bool, v: Variable, a: u32, b: u32) -> bool
+    ensures { result ≡ is_pair values.now lets v.name v.sort.0 a b }
+{
+    if a != v.name {
         return false;
     }
     if lets {
-        return sort_of(values, TermPlace(b)).0 == sort.0;
+        return sort_of(values, TermPlace(b)) == v.sort;
     }
-    b == sort.0
+    SortPlace(b) == v.sort
 }
 
-// Whether the pairs of a run, after its body, have this name with this sort.
-pub fn has_pair(values: &[u32], lets: bool, name: u32, sort: SortPlace, run: &[u32]) -> bool
-    ensures { result ≡ pair_in (pair_sort values.now lets) name sort.0 (drop 1 run.now) }
+// Whether the pairs of a run, after its body, have this variable.
+pub fn has_pair(values: &[u32], lets: bool, v: Variable, run: &[u32]) -> bool
+    ensures { result ≡ pair_in (pair_sort values.now lets) v.name v.sort.0 (drop 1 run.now) }
 {
-    let mut i: usize = 1;
-    while i < run.len() {
-        if run.len() - i < 2 {
-            return false;
-        }
-        if is_pair(values, lets, name, sort, run[i], run[i + 1]) {
+    let mut pairs = run.get(1..).unwrap_or(&[]);
+    // Kept: the pattern takes a pair at a time and leaves out a last cell alone; an iterator over chunks says no more.
+    while let [a, b, others @ ..] = pairs {
+        if is_pair(values, lets, v, *a, *b) {
             return true;
         }
-        i += 2;
+        pairs = others;
     }
     false
 }
@@ -44,13 +56,12 @@ pub fn has_pair(values: &[u32], lets: bool, name: u32, sort: SortPlace, run: &[u
 fn pairs_bind(values: &[u32], lets: bool, v: TermPlace, run: &[u32]) -> bool
     ensures { result ≡ pairs_bind values.now lets v.0 run.now }
 {
-    let at = v.0 as usize;
-    has_pair(values, lets, cell(values, at + 2), sort_of(values, v), run)
+    has_pair(values, lets, variable_at(values, v), run)
 }
 
 // What the walk finds at a term: the answer, or that it is the body's, or that of a term of the operand run, or that of a
 // let's values, or that of a let's values and its body.
-#[derive(Clone, Copy)]
+#[derive(Clone, Copy, PartialEq, Eq)]
 pub enum Step {
     Yes,
     No,
@@ -227,9 +238,7 @@ fn mark_of(tags: &[u8], values: &[u32], n: usize, t: TermPlace, v: usize) -> u8
 pub fn mark_free_vars(tags: &[u8], values: &[u32], n: usize, t: TermPlace, marks: &mut [u8])
     ensures { Marked tags.now values.now n t.0 (length marks.old) marks.new }
 {
-    let mut v: usize = 0;
-    while v < marks.len() {
-        marks[v] = mark_of(tags, values, n, t, v);
-        v += 1;
+    for (v, mark) in marks.iter_mut().enumerate() {
+        *mark = mark_of(tags, values, n, t, v);
     }
 }

@@ -8,27 +8,29 @@ ghost use Rattle.free_variables.specs.Names.{bucket_of, may_be_free, free_in, Na
 ghost use Rattle.free_variables.specs.Occurs.{OccursFrom};
 ghost use Rattle.free_variables.specs.NamesWalk.{free_among, FreeFromMeans, NamesMemo, NamesWalked};
 
+use crate::free_vars::variable_at;
+use cells::TermPlace;
 use cells::limits::CELLS;
 use cells::marks::{mark_at, set_mark};
-use cells::run::{cell, operands, sort_of, wide};
+use cells::run::{cell, operands};
 use cells::tags::{APPLICATION, BINDERS_END, FORALL, LET, VARIABLE, tag_at};
-use cells::{SortPlace, TermPlace};
+use cells::variable::Variable;
 
 // The buckets of a table of names, a prime below 8,192.
 const BUCKETS: usize = 8191;
 
-// The bucket of a name with a sort.
-fn bucket(name: u32, sort: SortPlace) -> usize
-    ensures { result ≡ bucket_of name sort.0 }
+// The bucket of a variable.
+fn bucket(v: Variable) -> usize
+    ensures { result ≡ bucket_of v.name v.sort.0 }
 {
-    (wide(name) % BUCKETS * 31 + wide(sort.0) % BUCKETS) % BUCKETS
+    (v.name as usize % BUCKETS * 31 + v.sort.0 as usize % BUCKETS) % BUCKETS
 }
 
-// Whether a variable with this name and sort may be free: its bucket is set, or stands past the table's end.
-pub fn may_be_free(names: &[u8], name: u32, sort: SortPlace) -> bool
-    ensures { result ≡ may_be_free names.now name sort.0 }
+// Whether a variable may be free: its bucket is set, or stands past the table's end.
+pub fn may_be_free(names: &[u8], v: Variable) -> bool
+    ensures { result ≡ may_be_free names.now v.name v.sort.0 }
 {
-    let at = bucket(name, sort);
+    let at = bucket(v);
     if names.len() <= at {
         return true;
     }
@@ -39,8 +41,7 @@ pub fn may_be_free(names: &[u8], name: u32, sort: SortPlace) -> bool
 fn mark_name(values: &[u32], names: &mut [u8], v: TermPlace)
     ensures { names.new ≡ set names.old (bucket_of (get_or values.now (v.0 + 2) 0) (sort_of values.now v.0)) 1 }
 {
-    let place = v.0 as usize;
-    let at = bucket(cell(values, place + 2), sort_of(values, v));
+    let at = bucket(variable_at(values, v));
     if at < names.len() {
         names[at] = 1;
     }

@@ -1,10 +1,10 @@
 -- Check 14: a pool whose headers and cells are well formed, and the first header that is not.
 -- 01, "Pool, from src/ast/term.rs": the tags of sorts and terms, their cells, and what a cell that names a sort or term holds.
--- Rests on cells' Bounded, Headers, TermTag and enum `Found`, and on the enums `Shape` and `CellKind`.
+-- Rests on cells' Bounded, Headers and TermTag, and on the enums `Shape` and `CellKind`.
+use Rattle.std.specs.Prelude.{Option}
 use Rattle.std.specs.Prelude.{ℕ, ◌+◌, ◌-◌, ◌%◌, Bool, true, false, not, ◌&&◌, ◌||◌, cond, List, get_or, leb, ltb, eqb}
 use Rattle.cells.specs.Bounded.{every}
 use Rattle.cells.specs.Headers.{first_header}
-use Rattle.cells.specs.declared.Found.{Found}
 unfoldable pub use Rattle.cells.specs.TermTag.{is_term_tag, is_term}
 use Rattle.headers.specs.declared.well_formed.Shape.{Shape}
 use Rattle.headers.specs.declared.well_formed.Shape.TheVariants.{Unknown, Nullary, Numbered, Named, Sorts, TwoSorts, OneSort, Constant, BitVector, Application, Binder, Let, Operator}
@@ -96,5 +96,5 @@ header_fits tags values n p =
     && every (cell_fits tags values p (shape_of (get_or tags p 0))) 0 (get_or values p 0)))
 
 -- "14 pool ill-formed (place of the first bad header, 0 if N is 0)"
-unfoldable pub first_bad : List ℕ → List ℕ → ℕ → Found
+unfoldable pub first_bad : List ℕ → List ℕ → ℕ → Option ℕ
 first_bad tags values n = first_header values n (λ p. not (header_fits tags values n p))

@@ -5,7 +5,7 @@ ghost use Rattle.std.proofs.Common.{Fits};
 ghost use Rattle.cells.specs.Bounded.{every};
 ghost use Rattle.headers.specs.WellFormed.{shape_of, count_fits, pair_kind, kind_at, is_sort_tag, value_fits, cell_fits, bool_first, header_fits, first_bad};
 
-use cells::Found;
+use cells::header_places::header_places;
 use cells::run::cell;
 use cells::tags::{
     APPLICATION, ARRAY, ATOM, BIT_VEC, BIT_VECTOR, BOOL, FORALL, FUNCTION, INTEGER, LAMBDA, LET,
@@ -186,14 +186,7 @@ fn cells_fit(tags: &[u8], values: &[u32], p: usize, shape: Shape, k: usize) -> b
     requires { Fits w64 (p + 1 + k) }
     ensures { result ≡ every (cell_fits tags.now values.now p shape) 0 k }
 {
-    let mut j: usize = 0;
-    while j < k {
-        if !cell_fits(tags, values, p, shape, j) {
-            return false;
-        }
-        j += 1;
-    }
-    true
+    (0..k).all(|j| cell_fits(tags, values, p, shape, j))
 }
 
 // Whether cell 0, where p is 0, is the sort Bool.
@@ -223,15 +216,13 @@ fn header_fits(tags: &[u8], values: &[u32], n: usize, p: usize) -> bool
 }
 
 // The first header of the first n cells that is not well formed.
-pub fn first_bad(tags: &[u8], values: &[u32], n: usize) -> Found
+pub fn first_bad(tags: &[u8], values: &[u32], n: usize) -> Option<usize>
     ensures { result ≡ first_bad tags.now values.now n }
 {
-    let mut p: usize = 0;
-    while p < n {
+    for p in header_places(values, n) {
         if !header_fits(tags, values, n, p) {
-            return Found::At(p);
+            return Some(p);
         }
-        p += 1 + cell(values, p) as usize;
     }
-    Found::Nothing
+    None
 }

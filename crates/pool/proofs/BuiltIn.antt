@@ -1,4 +1,5 @@
--- Under the built-in table, which loads, the pool check is 30 and then 14, 15 and 16, as document 01 has it; so is every call that begins with it.
+-- Under the built-in table, which loads, the pool check is 30 and then 14, 15 and 16, as document 01 has it; so is every call that begins
+-- with it.
 --     built-in-check     the pool check
 -- Assumes nothing.
 use Prim.Native.Nat.{ℕ}

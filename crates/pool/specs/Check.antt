@@ -34,8 +34,8 @@ unfoldable pub check_pool : List ℕ → List ℕ → List ℕ → ℕ → Answe
 check_pool tags values rules n =
     cond (arrays_fit tags values n) (and_then (table_answer rules) (check_cells tags values rules n)) bad_arrays
 
--- an answer to the pool check, and an index that has the pool's descriptions if it passes. What a refused pool leaves in the index is open: the
--- papers know of none, and nothing reads it then
+-- an answer to the pool check, and an index that has the pool's descriptions if it passes. What a refused pool leaves in the index is open:
+-- the papers know of none, and nothing reads it then
 pub record Indexed (tags values : List ℕ) (n : ℕ) (a : Answer) (index : List ℕ) : Type 0 where
   pub passed : a.code ≡ 0 → Index tags values n index
 

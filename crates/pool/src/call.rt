@@ -1,24 +1,32 @@
 // The public calls on a pool under the table of sort rules in use: the pool check, the sort of a term, the free variables of a term.
 ghost use Rattle.std.specs.Prelude.{◌≡◌};
+ghost use Rattle.pool.specs.Check.{check_pool};
 ghost use Rattle.pool.specs.Calls.{sort_answer, FreeVars};
 
-pub use crate::checks::{check_pool, check_term};
+use crate::checks;
+use crate::checks::check_term;
 use answers::Answer;
+use answers::refusal::Refusal;
 use cells::TermPlace;
 use cells::marks::clear_marks;
 use cells::run::sort_of;
 use free_variables::free_vars::mark_free_vars;
 
+// The pool check: 30, 40, 41, 14, 15, 16.
+pub fn check_pool(tags: &[u8], values: &[u32], table: &[u32], n: usize) -> Answer
+    ensures { result ≡ check_pool tags.now values.now table.now n }
+{
+    Answer::from(checks::check_pool(tags, values, table, n))
+}
+
 // The sort of the term at t: accepted, the sort's place.
 pub fn sort_of_term(tags: &[u8], values: &[u32], table: &[u32], n: usize, t: TermPlace) -> Answer
     ensures { result ≡ sort_answer tags.now values.now table.now n t.0 }
 {
-    let checked = check_term(tags, values, table, n, t);
-    if checked.code != 0 {
-        return checked;
+    match check_term(tags, values, table, n, t) {
+        Ok(()) => Answer::accepted(sort_of(values, t).0, 0),
+        Err(refusal) => Answer::from(refusal),
     }
-    let sort = sort_of(values, t);
-    Answer::accepted(sort.0, 0)
 }
 
 // The free variables of the term at t: 1 at their places in the lent marks, and 0 elsewhere.
@@ -33,16 +41,19 @@ pub fn free_vars(
     ensures { FreeVars tags.now values.now table.now n t.0 marks.old result marks.new }
 {
     if marks.len() < n {
-        return Answer::refused(30, 0, 0);
+        return Answer::from(Refusal::BadArrays);
     }
-    let checked = check_term(tags, values, table, n, t);
-    if checked.code == 30 {
-        return checked;
+    match check_term(tags, values, table, n, t) {
+        Ok(()) => {
+            mark_free_vars(tags, values, n, t, marks);
+            Answer::accepted(0, 0)
+        }
+        Err(refusal) => {
+            if refusal.is_bad_arrays() {
+                return Answer::from(refusal);
+            }
+            clear_marks(marks);
+            Answer::from(refusal)
+        }
     }
-    if checked.code != 0 {
-        clear_marks(marks);
-        return checked;
-    }
-    mark_free_vars(tags, values, n, t, marks);
-    checked
 }

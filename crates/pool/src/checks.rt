@@ -1,11 +1,12 @@
 // The checks of a pool under the table of sort rules in use, and of a place in it.
 ghost use Rattle.cells.specs.Limits.{cell_limit};
 ghost use Rattle.std.specs.Prelude.{◌≡◌, ◌≤◌};
+ghost use Rattle.answers.specs.Refusal.{answer_of_check};
 ghost use Rattle.pool.specs.Check.{arrays_fit, check_cells, check_pool, Indexed, check_term};
 
-use answers::Answer;
+use answers::refusal::Refusal;
+use cells::TermPlace;
 use cells::limits::CELLS;
-use cells::{Found, TermPlace};
 use descriptions::index::INDEX;
 use descriptions::repeats::first_repeat;
 use headers::well_formed::{first_bad, is_term};
@@ -32,24 +33,24 @@ fn check_cells(
     table: &[u32],
     n: usize,
     index: &mut [u32; INDEX],
-) -> Answer
+) -> Result<(), Refusal>
     requires { n ≤ cell_limit }
-    ensures value { result ≡ check_cells tags.now values.now table.now n }
-    ensures indexed { Indexed tags.now values.now n result index.new }
+    ensures value { answer_of_check result ≡ check_cells tags.now values.now table.now n }
+    ensures indexed { Indexed tags.now values.now n (answer_of_check result) index.new }
 {
     if n == 0 {
-        return Answer::refused(14, 0, 0);
+        return Err(Refusal::IllFormed(0));
     }
-    if let Found::At(p) = first_bad(tags, values, n) {
-        return Answer::refused(14, p as u32, 0);
+    if let Some(p) = first_bad(tags, values, n) {
+        return Err(Refusal::IllFormed(p as u32));
     }
-    if let Found::At(p) = first_repeat(tags, values, n, index) {
-        return Answer::refused(15, p as u32, 0);
+    if let Some(p) = first_repeat(tags, values, n, index) {
+        return Err(Refusal::Repeated(p as u32));
     }
-    if let Found::At(p) = first_wrong_sort(tags, values, table, n) {
-        return Answer::refused(16, p as u32, 0);
+    if let Some(p) = first_wrong_sort(tags, values, table, n) {
+        return Err(Refusal::WrongSort(p as u32));
     }
-    Answer::accepted(0, 0)
+    Ok(())
 }
 
 // The pool check, 30, 40 and 41 of the table in use, 14, 15, 16, and the index of a pool that passes.
@@ -59,23 +60,20 @@ pub fn index_pool(
     table: &[u32],
     n: usize,
     index: &mut [u32; INDEX],
-) -> Answer
-    ensures value { result ≡ check_pool tags.now values.now table.now n }
-    ensures indexed { Indexed tags.now values.now n result index.new }
+) -> Result<(), Refusal>
+    ensures value { answer_of_check result ≡ check_pool tags.now values.now table.now n }
+    ensures indexed { Indexed tags.now values.now n (answer_of_check result) index.new }
 {
     if !arrays_fit(tags, values, n) {
-        return Answer::refused(30, 0, 0);
+        return Err(Refusal::BadArrays);
     }
-    let loads = check_table(table);
-    if loads.code != 0 {
-        return loads;
-    }
+    check_table(table)?;
     check_cells(tags, values, table, n, index)
 }
 
 // The pool check: 30, 40, 41, 14, 15, 16.
-pub fn check_pool(tags: &[u8], values: &[u32], table: &[u32], n: usize) -> Answer
-    ensures { result ≡ check_pool tags.now values.now table.now n }
+pub fn check_pool(tags: &[u8], values: &[u32], table: &[u32], n: usize) -> Result<(), Refusal>
+    ensures { answer_of_check result ≡ check_pool tags.now values.now table.now n }
 {
     let mut index = [0u32; INDEX];
     index_pool(tags, values, table, n, &mut index)
@@ -89,23 +87,26 @@ pub fn index_term(
     n: usize,
     t: TermPlace,
     index: &mut [u32; INDEX],
-) -> Answer
-    ensures value { result ≡ check_term tags.now values.now table.now n t.0 }
-    ensures indexed { Indexed tags.now values.now n result index.new }
+) -> Result<(), Refusal>
+    ensures value { answer_of_check result ≡ check_term tags.now values.now table.now n t.0 }
+    ensures indexed { Indexed tags.now values.now n (answer_of_check result) index.new }
 {
-    let checked = index_pool(tags, values, table, n, index);
-    if checked.code != 0 {
-        return checked;
-    }
+    index_pool(tags, values, table, n, index)?;
     if !is_term(tags, n, t) {
-        return Answer::refused(17, t.0, 0);
+        return Err(Refusal::NotATerm(t));
     }
-    Answer::accepted(0, 0)
+    Ok(())
 }
 
 // The pool check and then 17.
-pub fn check_term(tags: &[u8], values: &[u32], table: &[u32], n: usize, t: TermPlace) -> Answer
-    ensures { result ≡ check_term tags.now values.now table.now n t.0 }
+pub fn check_term(
+    tags: &[u8],
+    values: &[u32],
+    table: &[u32],
+    n: usize,
+    t: TermPlace,
+) -> Result<(), Refusal>
+    ensures { answer_of_check result ≡ check_term tags.now values.now table.now n t.0 }
 {
     let mut index = [0u32; INDEX];
     index_term(tags, values, table, n, t, &mut index)

@@ -5,9 +5,11 @@
 pub mod call;
 pub mod checks;
 
-pub use answers::{Answer, checked};
-pub use bindings::{binding, list_comparison, used_pairs};
-pub use cells::{Found, SortPlace, TermPlace, cell_comparison, limits, marks, run, tags};
+pub use answers::Answer;
+pub use answers::refusal::Refusal;
+pub use bindings::{binding, list_comparison, pairs, used_pairs};
+pub use cells::variable::Variable;
+pub use cells::{SortPlace, TermPlace, cell_comparison, header_places, limits, marks, run, tags};
 pub use descriptions::{description, index};
 pub use free_pairs::free_lists;
 pub use free_variables::{free_vars, term_names};

@@ -2,14 +2,13 @@
 --     table_answer entries     the answer of the loading call to these entries
 --     Loaded                  its outcome: the answer, and the table in use
 -- S-2: "the fixed table may be replaced by one of 135 entries, one rule number each .. Rule 7 is allowed only where the built-in table has
--- it. .. A refused table leaves the old one in use .. Errors of the loading call, 40 first, each for its first entry: 40 wrong length (135) or
--- a rule number not allowed (entry), 41 an entry for one of the operators `Not`, `Implies`, `And`, `Or`, `Equals` that isn't Bool (entry)."
--- Rests on Table, on answers' Answer and struct `Answer`, and on cells' enum `Found`.
-use Rattle.std.specs.Prelude.{ℕ, zero, suc, ◌≡◌, Bool, not, ◌&&◌, ◌||◌, cond, List, length, get_or, ltb, eqb}
+-- it. .. A refused table leaves the old one in use .. Errors of the loading call, 40 first, each for its first entry: 40 wrong length (135)
+-- or a rule number not allowed (entry), 41 an entry for one of the operators `Not`, `Implies`, `And`, `Or`, `Equals` that isn't Bool
+-- (entry)."
+-- Rests on Table, and on answers' Answer and struct `Answer`.
+use Rattle.std.specs.Prelude.{ℕ, zero, suc, ◌≡◌, Bool, not, ◌&&◌, ◌||◌, cond, List, length, get_or, ltb, eqb, Option, Some, None}
 use Rattle.answers.specs.Answer.{accepted, bad_table, not_bool, refuse_at}
 use Rattle.answers.specs.declared.Answer.{Answer}
-use Rattle.cells.specs.declared.Found.{Found}
-use Rattle.cells.specs.declared.Found.TheVariants.{At, Nothing}
 use Rattle.sort_table.specs.Table.{built_in, among}
 
 -- "one of 135 entries"
@@ -17,9 +16,9 @@ abbrev pub entry_count : ℕ
 entry_count = 135
 
 -- the first of f entries from i on at which the test holds
-unfoldable pub first_entry : (ℕ → Bool) → ℕ → ℕ → Found
-first_entry test zero i = Nothing
-first_entry test (suc f) i = cond (test i) (At i) (first_entry test f (suc i))
+unfoldable pub first_entry : (ℕ → Bool) → ℕ → ℕ → Option ℕ
+first_entry test zero i = None
+first_entry test (suc f) i = cond (test i) (Some i) (first_entry test f (suc i))
 
 -- "a rule number not allowed": over 7, or 7 where the built-in table has none
 unfoldable pub forbids : List ℕ → ℕ → Bool

@@ -1,10 +1,11 @@
 // S-2: the table of sort rules in use. Which entries may be loaded, and the call that loads them.
 ghost use Rattle.std.specs.Prelude.{◌<◌, ◌≡◌, not, ◌&&◌, ◌||◌, length, ltb, eqb};
+ghost use Rattle.answers.specs.Refusal.{answer_of_check};
 ghost use Rattle.sort_table.specs.TableAnswer.{entry_count, first_entry, forbids, is_connective, loses_bool, table_answer, Loaded};
 
 use crate::table::built_in;
 use answers::Answer;
-use cells::Found;
+use answers::refusal::Refusal;
 
 // "one of 135 entries, one rule number each"
 pub const ENTRIES: usize = 135;
@@ -33,23 +34,16 @@ fn is_allowed(rule: u32, own: u32) -> bool
 }
 
 // The first entry whose rule number is not allowed.
-fn first_forbidden(entries: &[u32]) -> Found
+fn first_forbidden(entries: &[u32]) -> Option<usize>
     requires { length entries.now ≡ entry_count }
     ensures { result ≡ first_entry (forbids entries.now) entry_count 0 }
 {
     let own = built_in();
-    let mut i = 0;
-    while i < ENTRIES {
-        if !is_allowed(entries[i], own[i]) {
-            return Found::At(i);
-        }
-        i += 1;
-    }
-    Found::Nothing
+    (0..ENTRIES).find(|i| !is_allowed(entries[*i], own[*i]))
 }
 
-// Whether a connective's entry (Not to Or, Equals) has another rule than Bool. Normal forms state Bool in what they build, which would fail 16 at
-// the next call; Xor, 6, is never built.
+// Whether a connective's entry (Not to Or, Equals) has another rule than Bool. Normal forms state Bool in what they build, which would fail
+// 16 at the next call; Xor, 6, is never built.
 fn loses_bool(i: usize, rule: u32) -> bool
     ensures { result ≡ (is_connective i && not (eqb rule 0)) }
 {
@@ -66,55 +60,36 @@ fn loses_bool(i: usize, rule: u32) -> bool
 }
 
 // The first entry of a connective that isn't Bool.
-fn first_not_bool(entries: &[u32]) -> Found
+fn first_not_bool(entries: &[u32]) -> Option<usize>
     requires { length entries.now ≡ entry_count }
     ensures { result ≡ first_entry (loses_bool entries.now) entry_count 0 }
 {
-    let mut i = 0;
-    while i < ENTRIES {
-        if loses_bool(i, entries[i]) {
-            return Found::At(i);
-        }
-        i += 1;
-    }
-    Found::Nothing
+    (0..ENTRIES).find(|i| loses_bool(*i, entries[*i]))
 }
 
-// What loading answers to these entries.
-pub fn check_table(entries: &[u32]) -> Answer
-    ensures { result ≡ table_answer entries.now }
+// Whether these entries load, or why not.
+pub fn check_table(entries: &[u32]) -> Result<(), Refusal>
+    ensures { answer_of_check result ≡ table_answer entries.now }
 {
     if entries.len() != ENTRIES {
-        return Answer::refused(40, ENTRIES as u32, 0);
+        return Err(Refusal::BadTable(ENTRIES as u32));
     }
-    if let Found::At(i) = first_forbidden(entries) {
-        return Answer::refused(40, i as u32, 0);
+    if let Some(i) = first_forbidden(entries) {
+        return Err(Refusal::BadTable(i as u32));
     }
-    if let Found::At(i) = first_not_bool(entries) {
-        return Answer::refused(41, i as u32, 0);
+    if let Some(i) = first_not_bool(entries) {
+        return Err(Refusal::NotBool(i as u32));
     }
-    Answer::accepted(0, 0)
-}
-
-fn copy(entries: &[u32], table: &mut [u32])
-    requires { length entries.now ≡ length table.old }
-    ensures { table.new ≡ entries.now }
-{
-    let mut i = 0;
-    while i < entries.len() {
-        table[i] = entries[i];
-        i += 1;
-    }
+    Ok(())
 }
 
 // Replaces the table in use by these entries if they load.
 pub fn load(entries: &[u32], table: &mut [u32; ENTRIES]) -> Answer
     ensures { Loaded entries.now table.old result table.new }
 {
-    let answer = check_table(entries);
-    if answer.code != 0 {
-        return answer;
+    let checked = check_table(entries);
+    if checked.is_ok() {
+        table.copy_from_slice(entries);
     }
-    copy(entries, table);
-    answer
+    Answer::from(checked)
 }

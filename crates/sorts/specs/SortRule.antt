@@ -2,13 +2,13 @@
 -- 01, "Sorts and free variables": "`compute_sort` is the reference. A stated sort must equal it." The operands' sorts are those that they
 -- state: before the first wrong place they are the computed ones. No two headers of the pool describe the same thing, so that a sort is
 -- its place. The table of rules is a parameter.
--- Rests on cells' Cell, Headers and enum `Found`, on headers' WellFormed, and on the enum `Special`.
+-- Rests on cells' Cell and Headers, on headers' WellFormed, and on the enum `Special`.
+use Rattle.std.specs.Prelude.{Option}
 use Rattle.std.specs.Prelude.{ℕ, ◌+◌, ◌-◌, Bool, true, false, not, ◌&&◌, ◌||◌, cond, length, get_or, drop, leb, ltb, eqb}
 use mathlib.Core.List.{List, [], ◌∷◌, ◌++◌, map, reverse, drop_last}
 use Rattle.cells.specs.Cell.{cells_of, sort_of, operands_of, is_at}
 use Rattle.cells.specs.Headers.{first_header}
 use Rattle.headers.specs.WellFormed.{is_term_tag}
-use Rattle.cells.specs.declared.Found.{Found}
 use Rattle.sorts.specs.declared.special.Special.{Special}
 use Rattle.sorts.specs.declared.special.Special.TheVariants.{Arithmetic, Select, BitVectors, Concat, OneBit, BitCount, BvConst, RareList, Singleton, Insert, TupleOf, TupleUnit, Transpose, Join, Product, NoRule}
 
@@ -208,5 +208,5 @@ unfoldable pub states_sort : List ℕ → List ℕ → List ℕ → ℕ → Bool
 states_sort tags values rules t = is_sort tags values (sort_of values t) (compute_sort tags values rules t)
 
 -- "16 wrong sort (the first place)"
-unfoldable pub first_wrong_sort : List ℕ → List ℕ → List ℕ → ℕ → Found
+unfoldable pub first_wrong_sort : List ℕ → List ℕ → List ℕ → ℕ → Option ℕ
 first_wrong_sort tags values rules n = first_header values n (λ t. is_term_tag (get_or tags t 0) && not (states_sort tags values rules t))

@@ -7,11 +7,12 @@ use crate::list_sorts::{ListRule, by_list};
 use crate::plain::{is_plain, is_single};
 use crate::special::Special;
 use crate::special_sorts::by_special;
+use cells::header_places::header_places;
 use cells::tags::{
     APPLICATION, BINDERS_END, BIT_VEC, BIT_VECTOR, BOOL, CHOICE, FORALL, INTEGER, LAMBDA, LET,
     TRUE, VARIABLE, tag_at,
 };
-use cells::{Found, SortPlace, TermPlace, run};
+use cells::{SortPlace, TermPlace, run};
 
 // The special rule of an operator code. 01: "special sort rules are decided by operator code".
 fn special_of(op: u8) -> Special
@@ -45,7 +46,7 @@ fn first_sort(tags: &[u8], values: &[u32], s: SortPlace, os: &[u32]) -> bool
         return false;
     }
     let sort = run::sort_of(values, TermPlace(os[0]));
-    s.0 == sort.0
+    s == sort
 }
 
 // The tag of the sort that rules 0 to 4 give.
@@ -105,8 +106,8 @@ fn after(tag: u8, first: u8) -> u8
     if tag < first { 0 } else { tag - first }
 }
 
-// Whether the term at t states the sort that `compute_sort` gives by this table of rules. A constant's tag is `TO_CONSTANT` above its sort's, a
-// variable's sort is the one it states, a quantifier's is Bool, and a let's its body's.
+// Whether the term at t states the sort that `compute_sort` gives by this table of rules. A constant's tag is `TO_CONSTANT` above its
+// sort's, a variable's sort is the one it states, a quantifier's is Bool, and a let's its body's.
 pub fn states_sort(tags: &[u8], values: &[u32], rules: &[u32], t: TermPlace) -> bool
     ensures { result ≡ states_sort tags.now values.now rules.now t.0 }
 {
@@ -154,21 +155,14 @@ fn states_wrong(tags: &[u8], values: &[u32], rules: &[u32], t: TermPlace) -> boo
 }
 
 // 01, "16 wrong sort (the first place)". A place is a u32, so the count must fit one.
-pub fn first_wrong_sort(tags: &[u8], values: &[u32], rules: &[u32], n: usize) -> Found
+pub fn first_wrong_sort(tags: &[u8], values: &[u32], rules: &[u32], n: usize) -> Option<usize>
     requires { n ≤ 4294967295 }
     ensures { result ≡ first_wrong_sort tags.now values.now rules.now n }
 {
-    let mut p: usize = 0;
-    while p < n {
+    for p in header_places(values, n) {
         if states_wrong(tags, values, rules, TermPlace(p as u32)) {
-            return Found::At(p);
+            return Some(p);
         }
-        let k = run::cell(values, p) as usize;
-        // its cells reach the count, so no header follows
-        if n - p <= k {
-            return Found::Nothing;
-        }
-        p += 1 + k;
     }
-    Found::Nothing
+    None
 }

@@ -6,7 +6,7 @@ ghost use Rattle.cells.specs.Cell.{cells_of, sort_of, same_cells, is_at};
 ghost use Rattle.sorts.specs.SortRule.{made, relation, is_sort, pair_sorts, apply, is_relation, relation_sorts, transpose, join, product, application, lambda};
 ghost use Rattle.sorts.specs.ListRule.{by_list};
 
-use cells::cell_comparison::{is_at, same_cells};
+use cells::cell_comparison::is_at;
 use cells::tags::{FUNCTION, SET, TUPLE, tag_at};
 use cells::{SortPlace, TermPlace, run};
 
@@ -26,90 +26,46 @@ pub enum ListRule {
 fn past(a: &[u32], m: usize) -> &[u32]
     ensures { result.now ≡ drop m a.now }
 {
-    if a.len() < m {
-        return &a[0..0];
-    }
-    &a[m..]
+    a.get(m..).unwrap_or(&[])
 }
 
 // A run without its last cell.
 fn but_last(a: &[u32]) -> &[u32]
     ensures { result.now ≡ drop_last a.now }
 {
-    let n = a.len();
-    if n == 0 {
-        return a;
+    match a {
+        [front @ .., _] => front,
+        [] => a,
     }
-    let last = n - 1;
-    &a[0..last]
 }
 
 // Whether the cells are the sorts of the terms at os.
 fn same_sorts(values: &[u32], cells: &[u32], os: &[u32]) -> bool
     ensures { result ≡ same_cells cells.now (map (sort_of values.now) os.now) }
 {
-    if cells.len() != os.len() {
-        return false;
-    }
-    let mut i: usize = 0;
-    while i < cells.len() {
-        let sort = run::sort_of(values, TermPlace(os[i]));
-        if cells[i] != sort.0 {
-            return false;
-        }
-        i += 1;
-    }
-    true
+    let sorts = os.iter().map(|o| run::sort_of(values, TermPlace(*o)).0);
+    cells.iter().copied().eq(sorts)
 }
 
 // Whether the cells are the second cells of the pairs. A first cell alone at the end is no pair.
 fn same_pair_sorts(cells: &[u32], pairs: &[u32]) -> bool
     ensures { result ≡ same_cells cells.now (pair_sorts pairs.now) }
 {
-    let mut i: usize = 0;
-    let mut j: usize = 0;
-    while 1 < pairs.len() - j {
-        if cells.len() <= i {
-            return false;
-        }
-        if cells[i] != pairs[j + 1] {
-            return false;
-        }
-        i += 1;
-        j += 2;
-    }
-    cells.len() <= i
+    cells.iter().eq(pairs.iter().skip(1).step_by(2))
 }
 
 // Whether the cells of a are those of b in reverse.
 fn same_reversed(a: &[u32], b: &[u32]) -> bool
     ensures { result ≡ same_cells a.now (reverse b.now) }
 {
-    if a.len() != b.len() {
-        return false;
-    }
-    let mut i: usize = 0;
-    while i < a.len() {
-        if a[i] != b[b.len() - 1 - i] {
-            return false;
-        }
-        i += 1;
-    }
-    true
+    a.iter().eq(b.iter().rev())
 }
 
 // Whether the cells of a are those of left and then those of right.
 fn same_joined(a: &[u32], left: &[u32], right: &[u32]) -> bool
     ensures { result ≡ same_cells a.now (left.now ++ right.now) }
 {
-    let n = left.len();
-    if a.len() < n {
-        return false;
-    }
-    if !same_cells(&a[0..n], left) {
-        return false;
-    }
-    same_cells(&a[n..], right)
+    a.iter().eq(left.iter().chain(right))
 }
 
 // ---- tuples and functions
@@ -132,13 +88,11 @@ fn lambda(tags: &[u8], values: &[u32], s: SortPlace, os: &[u32]) -> bool
     if tag_at(tags, at) != FUNCTION {
         return false;
     }
-    let entries = run::cells(values, at);
-    if entries.len() == 0 {
+    let [front @ .., last] = run::cells(values, at) else {
         return false;
-    }
-    let front = but_last(entries);
+    };
     let body = TermPlace(run::cell(os, 0));
-    if run::cell(entries, front.len()) != run::sort_of(values, body).0 {
+    if *last != run::sort_of(values, body).0 {
         return false;
     }
     same_pair_sorts(front, past(os, 1))

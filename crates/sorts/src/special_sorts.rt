@@ -23,25 +23,19 @@ fn sort_tag(tags: &[u8], values: &[u32], o: TermPlace) -> u8
 fn last_sort(tags: &[u8], values: &[u32], s: SortPlace, os: &[u32]) -> bool
     ensures { result ≡ is_sort tags.now values.now s.0 (last_sort values.now os.now) }
 {
-    if os.len() == 0 {
+    let [.., o] = os else {
         return false;
-    }
-    let sort = run::sort_of(values, TermPlace(os[os.len() - 1]));
-    s.0 == sort.0
+    };
+    let sort = run::sort_of(values, TermPlace(*o));
+    s == sort
 }
 
 // Whether an operand is Real.
 fn any_real(tags: &[u8], values: &[u32], os: &[u32]) -> bool
     ensures { result ≡ any_real tags.now values.now os.now }
 {
-    let mut i: usize = 0;
-    while i < os.len() {
-        if sort_tag(tags, values, TermPlace(os[i])) == REAL {
-            return true;
-        }
-        i += 1;
-    }
-    false
+    os.iter()
+        .any(|o| sort_tag(tags, values, TermPlace(*o)) == REAL)
 }
 
 // Add, Sub, Mult: Real if an operand is Real, else Int.
@@ -76,20 +70,13 @@ fn bit_vector(tags: &[u8], values: &[u32], s: SortPlace, os: &[u32]) -> bool
     ensures { result ≡ is_sort tags.now values.now s.0
         (bit_vector tags.now values.now os.now) }
 {
-    let mut i: usize = 0;
-    while i < os.len() {
-        let o = TermPlace(os[i]);
-        let tag = sort_tag(tags, values, o);
-        if tag == BIT_VEC {
-            let sort = run::sort_of(values, o);
-            return s.0 == sort.0;
+    match os.iter().find(|o| sort_tag(tags, values, TermPlace(**o)) != PARAM_BIT_VEC) {
+        None => is_plain(tags, values, s, PARAM_BIT_VEC),
+        Some(o) => {
+            let o = TermPlace(*o);
+            sort_tag(tags, values, o) == BIT_VEC && s.0 == run::sort_of(values, o).0
         }
-        if tag != PARAM_BIT_VEC {
-            return false;
-        }
-        i += 1;
     }
-    is_plain(tags, values, s, PARAM_BIT_VEC)
 }
 
 // The first part of the sort that the term at o states, a bit vector's width.
@@ -118,19 +105,13 @@ fn concat(tags: &[u8], values: &[u32], s: SortPlace, os: &[u32]) -> bool
 {
     let mut width: u64 = 0;
     let mut param = false;
-    let mut i: usize = 0;
-    while i < os.len() {
-        let o = TermPlace(os[i]);
-        let tag = sort_tag(tags, values, o);
-        i += 1;
-        if tag == BIT_VEC {
-            width = add_width(width, first_part(values, o));
-            continue;
+    for o in os {
+        let o = TermPlace(*o);
+        match sort_tag(tags, values, o) {
+            BIT_VEC => width = add_width(width, first_part(values, o)),
+            PARAM_BIT_VEC => param = true,
+            _ => return false,
         }
-        if tag != PARAM_BIT_VEC {
-            return false;
-        }
-        param = true;
     }
     if param {
         return is_plain(tags, values, s, PARAM_BIT_VEC);
@@ -164,7 +145,7 @@ fn rare_list(tags: &[u8], values: &[u32], s: SortPlace, os: &[u32]) -> bool
         return is_single(tags, values, s, 8, 0);
     }
     let sort = run::sort_of(values, TermPlace(os[0]));
-    s.0 == sort.0
+    s == sort
 }
 
 // SetSingleton: the Set of the first operand's sort.
@@ -191,7 +172,7 @@ fn bit_count(tags: &[u8], values: &[u32], s: SortPlace, os: &[u32]) -> bool
     if parts.len() != 1 {
         return false;
     }
-    run::wide(parts[0]) == os.len()
+    parts[0] as usize == os.len()
 }
 
 // Whether the sort at s is the one that a special rule gives.

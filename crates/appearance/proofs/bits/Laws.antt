@@ -1,4 +1,4 @@
--- Laws of `Bits`: bits of words, then bits of rows, then one law for each way through the code.
+-- Laws of `Bits`: bits of words, then bits of rows, then ways through the code.
 --     test-or, test-xor, test-and, test-power, test-every    a bit of a word
 --     with-bit, with-keeps, without-keeps                    what setting and clearing a bit makes of a row
 --     with-long, with-other, without-long, without_other     what they leave of the list
@@ -240,36 +240,28 @@ pub record Meeting (a : List ℕ) (from : ℕ) (b : List ℕ) (start words j : �
   pub within : j ≤ words
   pub left : meets a from b start words ≡ meets a (from + j) b (start + j) (words - j)
 
-module _ (a : List ℕ) (from : ℕ) (b : List ℕ) (start words : ℕ) where
-  pub meet-start : Meeting a from b start words 0
-  meet-start =
-      let x : from + 0 ≡ from = omega arith in
-      let y : start + 0 ≡ start = omega arith in
-      let z : words - 0 ≡ words = omega arith in
-      record { within = omega arith; left = rw (x, y, z) }
+module _ (a : List ℕ) (from : ℕ) (b : List ℕ) (start words : ℕ) (j : ℕ) (s : Meeting a from b start words j) where
+  module _ (h : j < words) (f g k l : ℕ) (p : f ≡ from) (q : g ≡ j) (r : k ≡ start) (o : l ≡ j)
+      (x y : ℕ) (at_x : x ≡ get_or a (f + g) 0) (at_y : y ≡ get_or b (k + l) 0) where
+    word-x : get_or a (from + j) 0 ≡ x
+    word-x = rw (at_x, p, q)
 
-  module _ (j : ℕ) (s : Meeting a from b start words j) where
-    module _ (h : j < words) (f g k l : ℕ) (p : f ≡ from) (q : g ≡ j) (r : k ≡ start) (o : l ≡ j)
-        (x y : ℕ) (at_x : x ≡ get_or a (f + g) 0) (at_y : y ≡ get_or b (k + l) 0) where
-      word-x : get_or a (from + j) 0 ≡ x
-      word-x = rw (at_x, p, q)
+    word-y : get_or b (start + j) 0 ≡ y
+    word-y = rw (at_y, r, o)
 
-      word-y : get_or b (start + j) 0 ≡ y
-      word-y = rw (at_y, r, o)
+    pub meet-here : (bit_and x y ≡ 0 → ⊥) → true ≡ meets a from b start words
+    unfolding meets common
+    meet-here n = rw (s.left, one_more words j h, word-x, word-y, ne_eqb _ 0 n)
 
-      pub meet-here : (bit_and x y ≡ 0 → ⊥) → true ≡ meets a from b start words
-      unfolding meets common
-      meet-here n = rw (s.left, one_more words j h, word-x, word-y, ne_eqb _ 0 n)
+    pub meet-more : bit_and x y ≡ 0 → Meeting a from b start words (j + 1)
+    unfolding meets common
+    meet-more z =
+        let u : from + j + 1 ≡ from + (j + 1) = omega arith in
+        let v : start + j + 1 ≡ start + (j + 1) = omega arith in
+        record { within = omega arith; left = s.left ∙ rw (one_more words j h, word-x, word-y, eq-eqb _ 0 z, u, v) }
 
-      pub meet-more : bit_and x y ≡ 0 → Meeting a from b start words (j + 1)
-      unfolding meets common
-      meet-more z =
-          let u : from + j + 1 ≡ from + (j + 1) = omega arith in
-          let v : start + j + 1 ≡ start + (j + 1) = omega arith in
-          record { within = omega arith; left = s.left ∙ rw (one_more words j h, word-x, word-y, eq-eqb _ 0 z, u, v) }
+  pub meet-end : words ≤ j → false ≡ meets a from b start words
+  unfolding meets
+  meet-end h = rw (s.left, no_more words j h)
 
-    pub meet-end : words ≤ j → false ≡ meets a from b start words
-    unfolding meets
-    meet-end h = rw (s.left, no_more words j h)
-
-pub ruleset meetings = (meet-start, meet-here, meet-more, meet-end)
+pub ruleset meetings = (meet-here, meet-more, meet-end)

@@ -1,5 +1,6 @@
 -- Laws of hiding and showing variables: what one does to the counts and to the row of what is wanted, and what the pairs of a run do.
 -- Assumes nothing.
+use Rattle.std.specs.Prelude.{Option, Some, None}
 use Prim.Native.Nat.{ℕ, ◌+◌, ◌-◌, ◌/◌, ◌≤◌, ◌<◌}
 use mathlib.Core.Path.{◌≡◌, refl, sym, ap, ◌∙◌}
 use mathlib.Core.Bool.{Bool, true, false, not, cond, ◌||◌, ◌&&◌}
@@ -13,8 +14,6 @@ use borrow.Author.Tests.{eqb-true, eqb-false, eq-eqb, ne_eqb}
 use Rattle.cells.specs.ByPlace.{by-test}
 use Rattle.cells.specs.Limits.{cell_limit}
 use Rattle.cells.specs.Cell.{sort_of}
-use Rattle.cells.specs.declared.Found.{Found}
-use Rattle.cells.specs.declared.Found.TheVariants.{At, Nothing}
 use Rattle.free_variables.specs.Free.{pair_in}
 use Rattle.free_variables.specs.FreeMemo.{pair_sort}
 use Rattle.appearance.specs.Bits.{in_row, with_bit}
@@ -29,7 +28,7 @@ pub below : (tags values index table : List ℕ) → PairTable tags values index
 below tags values index table pairs v k = (pairs.found _ _ v k.place).0
 
 -- what is found is known
-pub found-known : (tags values index table : List ℕ) → PairTable tags values index table → (name sort v : ℕ) → place_of tags values index name sort ≡ At v
+pub found-known : (tags values index table : List ℕ) → PairTable tags values index table → (name sort v : ℕ) → place_of tags values index name sort ≡ Some v
     → Known tags values index v
 found-known tags values index table pairs name sort v e =
     let (l, (tag, (names, sorts))) = pairs.found name sort v e in
@@ -129,7 +128,7 @@ module _ (tags values index table : List ℕ) (pairs : PairTable tags values ind
   unfolding variable_of
   pair_place v k a b = by-found (place_of tags values index a (pair_sort values lets b)) refl
     where
-      by-found : (f : Found) → place_of tags values index a (pair_sort values lets b) ≡ f
+      by-found : (f : Option ℕ) → place_of tags values index a (pair_sort values lets b) ≡ f
           → (eqb a (get_or values (v + 2) 0) && eqb (pair_sort values lets b) (sort_of values v)) ≡ is_place f v
       by-found f e = by-test (eqb a (get_or values (v + 2) 0))
           (λ p. by-test (eqb (pair_sort values lets b) (sort_of values v))
@@ -137,15 +136,15 @@ module _ (tags values index table : List ℕ) (pairs : PairTable tags values ind
           (λ q. rw (p, q) (not_there f e (λ g. eqb-false (pair_sort values lets b) (sort_of values v) q (sym g.1)))))
           (λ p. rw p (not_there f e (λ g. eqb-false a (get_or values (v + 2) 0) p (sym g.0))))
         where
-          is-there : (f : Found) → f ≡ At v → true ≡ is_place f v
+          is-there : (f : Option ℕ) → f ≡ Some v → true ≡ is_place f v
           is-there f e = rw e (sym (eq-eqb v v refl))
 
-          not_there : (f : Found) → place_of tags values index a (pair_sort values lets b) ≡ f
+          not_there : (f : Option ℕ) → place_of tags values index a (pair_sort values lets b) ≡ f
               → ((get_or values (v + 2) 0 ≡ a) × (sort_of values v ≡ pair_sort values lets b) → ⊥) → false ≡ is_place f v
-          not_there (At u) e n = by-test (eqb u v)
+          not_there (Some u) e n = by-test (eqb u v)
               (λ q. absurd (n (rw (eqb-true u v q) at (pairs.found a (pair_sort values lets b) u e).1.1)))
               (λ q. sym q)
-          not_there Nothing e n = refl
+          not_there None e n = refl
 
   -- the pairs bind a known variable exactly if one of them is found at its place
   pub binds-some : (v : ℕ) → Known tags values index v → (list : List ℕ)

@@ -1,4 +1,4 @@
--- Laws of the walk, one for each way through the code.
+-- Laws of ways through the walk.
 -- Assumes nothing.
 use Prim.Native.Nat.{ℕ, ◌+◌, ◌-◌, ◌≤◌, ◌<◌}
 use mathlib.Core.Path.{◌≡◌, refl, sym, ap, ◌∙◌}
@@ -22,14 +22,14 @@ use Rattle.free_variables.specs.NamesWalk.{FreeFromMeans}
 use Rattle.free_variables.specs.Occurs.{occurs_among, occurs_under, OccursFrom}
 use Rattle.cells.specs.declared.TermPlace.{TermPlace}
 use Rattle.free_variables.specs.declared.term_names.FreeFrom.{FreeFrom}
-use Rattle.free_variables.specs.declared.term_names.FreeFrom.TheVariants.{Nothing, Variable, Body, Run, Values, Let}
+use Rattle.free_variables.specs.declared.term_names.FreeFrom.TheVariants.{Nothing, Variable, Let}
 use Rattle.free_variables.proofs.appearing.Booleans.{not-both, and_split}
 use Rattle.free_variables.proofs.appearing.Once.{leave_out-twice, among-leave_out}
 use Rattle.free_variables.proofs.appearing.Listed.{eqb_is, eqb_refl, occurs-at, occurs-var}
 use Rattle.appearance.specs.Bits.{with_bit, without_bit, meets}
 use Rattle.appearance.specs.Pairs.{binders_of}
 use Rattle.appearance.specs.Rows.{number_of}
-use Rattle.appearance.specs.Walk.{Known, PairTable, Prepared, hide_at, show_at, Wanted, AtMost, limit_at, Hid, Bound, Shown, is_hidden, new_in, Noted, has_none, Walked, Ask}
+use Rattle.appearance.specs.Walk.{Known, Prepared, hide_at, show_at, limit_at, Hid, Shown, is_hidden, new_in, Noted, has_none, Walked, Ask}
 use Rattle.appearance.proofs.bits.Laws.{meets-not, with-long, without-long}
 use Rattle.appearance.proofs.compute_free_vars.Gathering.{leave_out-on, Below, new_none, gather_none, gather-then, gather-few}
 use Rattle.appearance.proofs.compute_free_vars.Hiding.{hide-counts, hide-wanted, binds-some, binders-few}
@@ -225,13 +225,6 @@ module _ (tags values index table : List ℕ) (words : ℕ) (state found : List 
         or_no false = refl
 
   -- ---- the body at u under the pairs of the term at t
-  pub hide-asks : (run : List ℕ) → run ≡ operands_of tags values t
-      → PairTable tags values index table × (Wanted tags values index state × (AtMost state 67108864 × (length run ≤ cell_limit)))
-  hide-asks run o = (
-    ask.prepared.pairs,
-    (ask.wanted, (record { at = λ v h. omega (arith, ask.few.at v h) }, rw o (ask.prepared.short t (omega arith)))),
-  )
-
   module _ (u : ℕ) (l : u < t) (run : List ℕ) (o : run ≡ operands_of tags values t) (state₁ : List ℕ) (lets : Bool)
       (hid : Hid tags values index lets (drop 1 run) state state₁) where
     few-pairs : (v : ℕ) → binders_of tags values index lets (drop 1 run) v ≤ cell_limit
@@ -246,9 +239,6 @@ module _ (tags values index table : List ℕ) (words : ℕ) (state found : List 
     }
 
     module _ (state₂ found' : List ℕ) (len' : ℕ) (walked : Walked tags values index state₁ found len (occurrences_at tags values u) state₂ found' len') where
-      pub body-bound : Bound tags values index lets (drop 1 run) state₂
-      body-bound = record { at = λ v h. omega (arith, hid.counts v h, walked.gathered.counts v h) }
-
       module _ (q : lets ≡ eqb (get_or tags t 0) 27) (state₃ : List ℕ) (shown : Shown tags values index lets (drop 1 run) state₂ state₃) where
         same_new : new_in state₁ (occurrences_at tags values u) ≡ new_in state (occurs_under tags values t u)
         unfolding new_in occurs_under pairs_bind is_hidden
@@ -290,24 +280,7 @@ module _ (tags values index table : List ℕ) (words : ℕ) (state found : List 
       → Walked tags values index state found len (occurrences_at tags values t) state' found' len'
   from-variable e = walk-variable tags values index table words state found len t ask (rw e at means).0 (rw e at occurs)
 
-  pub from-run : r ≡ Run → (state' found' : List ℕ) (len' : ℕ)
-      → Walked tags values index state found len (occurs_among tags values t (operands_of tags values t)) state' found' len'
-      → Walked tags values index state found len (occurrences_at tags values t) state' found' len'
-  from-run e state' found' len' w = rw (rw e at occurs) w
-
-  pub from-values : r ≡ Values → (state' found' : List ℕ) (len' : ℕ)
-      → Walked tags values index state found len (occurs_among tags values t (let_values (operands_of tags values t))) state' found' len'
-      → Walked tags values index state found len (occurrences_at tags values t) state' found' len'
-  from-values e state' found' len' w = rw (rw e at occurs) w
-
   module _ (u : TermPlace) where
-    pub body_below : r ≡ Body u → u.0 < t
-    body_below e = (rw e at occurs).0
-
-    pub from-body : r ≡ Body u → (state' found' : List ℕ) (len' : ℕ) → Walked tags values index state found len (occurs_under tags values t u.0) state' found' len'
-        → Walked tags values index state found len (occurrences_at tags values t) state' found' len'
-    from-body e state' found' len' w = rw (rw e at occurs).1 w
-
     module _ (e : r ≡ Let u) where
       pub let-below : u.0 < t
       let-below = (rw e at occurs).0

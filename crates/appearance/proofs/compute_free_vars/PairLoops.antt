@@ -1,5 +1,6 @@
--- Laws of the loops that hide and show the pairs of a run, one for each way through the code.
+-- Laws of the loops that hide and show the pairs of a run.
 -- Assumes nothing.
+use Rattle.std.specs.Prelude.{Option, Some, None}
 use Prim.Native.Nat.{ℕ, suc, ◌+◌, ◌-◌, ◌≤◌, ◌<◌}
 use mathlib.Core.Path.{◌≡◌, refl, sym, ap, ◌∙◌}
 use mathlib.Core.Bool.{Bool, true, false, cond}
@@ -11,11 +12,9 @@ use native.Mathlib.Omega.{arith}
 use borrow.Author.Tests.{eq-eqb, ltb-true, ltb-false}
 use Rattle.cells.specs.ByPlace.{by-test}
 use Rattle.cells.specs.Limits.{cell_limit}
-use Rattle.cells.specs.declared.Found.{Found}
-use Rattle.cells.specs.declared.Found.TheVariants.{At, Nothing}
 use Rattle.free_variables.specs.FreeMemo.{pair_sort}
 use Rattle.appearance.specs.Pairs.{place_of, variable_of, is_place, binders_of}
-use Rattle.appearance.specs.Walk.{Known, PairTable, hide_at, show_at, Wanted, AtMost, Hid, Bound, Shown}
+use Rattle.appearance.specs.Walk.{Known, PairTable, hide_at, show_at, Wanted, Hid, Bound, Shown}
 use Rattle.appearance.proofs.compute_free_vars.Hiding.{below, found-known, hide-counts, hide-wanted, show-counts, show-wanted}
 
 -- ---- hiding the pairs of a run, which the loop reads from i on
@@ -45,95 +44,87 @@ pub record Showing (tags values index : List ℕ) (lets : Bool) (run state₀ st
       ≡ get_or state₀ v 0 + binders_of tags values index lets (drop (i - 1) run) v
   pub wanted : Wanted tags values index state
 
-module _ (tags values index : List ℕ) (lets : Bool) (run : List ℕ) where
-  module _ (state : List ℕ) (wanted : Wanted tags values index state) where
-    pub hiding-start : AtMost state 67108864 → Hiding tags values index lets run state state 2
-    hiding-start few = record { from = omega arith; counts = λ v l. refl; wanted = wanted; few = λ v l. omega (arith, few.at v l) }
+module _ (tags values index : List ℕ) (lets : Bool) (run : List ℕ) (state₀ state : List ℕ) (i : ℕ) where
+  pub hiding-end : Hiding tags values index lets run state₀ state i → length run ≤ i → Hid tags values index lets (drop 1 run) state₀ state
+  hiding-end s h = record {
+    counts = λ v l. omega (arith, s.counts v l, none_left tags values index lets run i v h);
+    wanted = s.wanted;
+  }
 
-    pub showing-start : Showing tags values index lets run state state 2
-    showing-start = record { from = omega arith; counts = λ v l. refl; wanted = wanted }
+  pub showing-end : Showing tags values index lets run state₀ state i → length run ≤ i → Shown tags values index lets (drop 1 run) state₀ state
+  showing-end s h = record {
+    counts = λ v l. omega (arith, s.counts v l, none_left tags values index lets run i v h);
+    wanted = s.wanted;
+  }
 
-  module _ (state₀ state : List ℕ) (i : ℕ) where
-    pub hiding-end : Hiding tags values index lets run state₀ state i → length run ≤ i → Hid tags values index lets (drop 1 run) state₀ state
-    hiding-end s h = record {
-      counts = λ v l. omega (arith, s.counts v l, none_left tags values index lets run i v h);
-      wanted = s.wanted;
-    }
+  module _ (h : i < length run) (f : Option ℕ) (is : f ≡ variable_of tags values index lets (get_or run (i - 1) 0) (get_or run i 0)) (from : 2 ≤ i) where
+    -- the pairs from i on: the one there, and the rest
+    one-pair : (v : ℕ) → binders_of tags values index lets (drop (i - 1) run) v ≡ cond (is_place f v) 1 0 + binders_of tags values index lets (drop (i + 2 - 1) run) v
+    unfolding binders_of
+    one-pair v = rw (two run i from h, is)
 
-    pub showing-end : Showing tags values index lets run state₀ state i → length run ≤ i → Shown tags values index lets (drop 1 run) state₀ state
-    showing-end s h = record {
-      counts = λ v l. omega (arith, s.counts v l, none_left tags values index lets run i v h);
-      wanted = s.wanted;
-    }
+    module _ (e : f ≡ None) where
+      pub hiding-none : Hiding tags values index lets run state₀ state i → Hiding tags values index lets run state₀ state (i + 2)
+      hiding-none s = record {
+        from = omega arith;
+        counts = λ v l. omega (arith, s.counts v l, rw e at (one-pair v));
+        wanted = s.wanted;
+        few = λ v l. omega (arith, s.few v l);
+      }
 
-    module _ (h : i < length run) (f : Found) (is : f ≡ variable_of tags values index lets (get_or run (i - 1) 0) (get_or run i 0)) (from : 2 ≤ i) where
-      -- the pairs from i on: the one there, and the rest
-      one-pair : (v : ℕ) → binders_of tags values index lets (drop (i - 1) run) v ≡ cond (is_place f v) 1 0 + binders_of tags values index lets (drop (i + 2 - 1) run) v
-      unfolding binders_of
-      one-pair v = rw (two run i from h, is)
+      pub showing-none : Showing tags values index lets run state₀ state i → Showing tags values index lets run state₀ state (i + 2)
+      showing-none s = record { from = omega arith; counts = λ v l. omega (arith, s.counts v l, rw e at (one-pair v)); wanted = s.wanted }
 
-      module _ (e : f ≡ Nothing) where
-        pub hiding-none : Hiding tags values index lets run state₀ state i → Hiding tags values index lets run state₀ state (i + 2)
-        hiding-none s = record {
+    module _ (w : ℕ) (e : f ≡ Some w) (table : List ℕ) (pairs : PairTable tags values index table) where
+      there : place_of tags values index (get_or run (i - 1) 0) (pair_sort values lets (get_or run i 0)) ≡ Some w
+      unfolding variable_of
+      there = sym is ∙ e
+
+      known : Known tags values index w
+      known = found-known tags values index table pairs _ _ w there
+
+      pub pair-below : w < cell_limit
+      pair-below = below tags values index table pairs w known
+
+      module _ (s : Hiding tags values index lets run state₀ state i) where
+        pub hiding-within : w < length state
+        hiding-within = omega (arith, pair-below, s.wanted.size)
+
+        pub hiding-small : length run ≤ cell_limit → get_or state w 0 < 4294967295
+        hiding-small l = omega (arith, s.few w pair-below)
+
+        pub hiding-next : (after : List ℕ) → after ≡ hide_at table state w → Hiding tags values index lets run state₀ after (i + 2)
+        hiding-next after a = record {
           from = omega arith;
-          counts = λ v l. omega (arith, s.counts v l, rw e at (one-pair v));
-          wanted = s.wanted;
-          few = λ v l. omega (arith, s.few v l);
+          counts = λ v l. omega (arith, s.counts v l, one v l, rw e at (one-pair v));
+          wanted = rw a (hide-wanted table state w pair-below s.wanted.size tags values index pairs known s.wanted);
+          few = λ v l. omega (arith, s.few v l, one v l, one-most (eqb w v));
         }
+          where
+            one : (v : ℕ) → v < cell_limit → get_or after v 0 ≡ get_or state v 0 + cond (eqb w v) 1 0
+            one v l = rw a (hide-counts table state w pair-below s.wanted.size v l)
 
-        pub showing-none : Showing tags values index lets run state₀ state i → Showing tags values index lets run state₀ state (i + 2)
-        showing-none s = record { from = omega arith; counts = λ v l. omega (arith, s.counts v l, rw e at (one-pair v)); wanted = s.wanted }
+            one-most : (c : Bool) → cond c 1 0 ≤ 1
+            one-most true = omega arith
+            one-most false = omega arith
 
-      module _ (w : ℕ) (e : f ≡ At w) (table : List ℕ) (pairs : PairTable tags values index table) where
-        there : place_of tags values index (get_or run (i - 1) 0) (pair_sort values lets (get_or run i 0)) ≡ At w
-        unfolding variable_of
-        there = sym is ∙ e
+      module _ (s : Showing tags values index lets run state₀ state i) (bound : Bound tags values index lets (drop 1 run) state₀) where
+        pub showing-within : w < length state
+        showing-within = omega (arith, pair-below, s.wanted.size)
 
-        known : Known tags values index w
-        known = found-known tags values index table pairs _ _ w there
+        pub showing-some : 0 < get_or state w 0
+        showing-some = omega (arith, s.counts w pair-below, bound.at w pair-below, rw (e, eq-eqb w w refl) at (one-pair w))
 
-        pub pair-below : w < cell_limit
-        pair-below = below tags values index table pairs w known
+        pub showing-next : (after : List ℕ) → after ≡ show_at table state w → Showing tags values index lets run state₀ after (i + 2)
+        showing-next after a = record {
+          from = omega arith;
+          counts = λ v l. omega (arith, s.counts v l, one v l, rw e at (one-pair v));
+          wanted = rw a (show-wanted table state w pair-below s.wanted.size tags values index pairs known s.wanted showing-some);
+        }
+          where
+            one : (v : ℕ) → v < cell_limit → get_or after v 0 + cond (eqb w v) 1 0 ≡ get_or state v 0
+            one v l = rw a (show-counts table state w pair-below s.wanted.size showing-some v l)
 
-        module _ (s : Hiding tags values index lets run state₀ state i) where
-          pub hiding-within : w < length state
-          hiding-within = omega (arith, pair-below, s.wanted.size)
+pub ruleset hides = (hiding-end, hiding-none, hiding-next)
 
-          pub hiding-small : length run ≤ cell_limit → get_or state w 0 < 4294967295
-          hiding-small l = omega (arith, s.few w pair-below)
-
-          pub hiding-next : (after : List ℕ) → after ≡ hide_at table state w → Hiding tags values index lets run state₀ after (i + 2)
-          hiding-next after a = record {
-            from = omega arith;
-            counts = λ v l. omega (arith, s.counts v l, one v l, rw e at (one-pair v));
-            wanted = rw a (hide-wanted table state w pair-below s.wanted.size tags values index pairs known s.wanted);
-            few = λ v l. omega (arith, s.few v l, one v l, one-most (eqb w v));
-          }
-            where
-              one : (v : ℕ) → v < cell_limit → get_or after v 0 ≡ get_or state v 0 + cond (eqb w v) 1 0
-              one v l = rw a (hide-counts table state w pair-below s.wanted.size v l)
-
-              one-most : (c : Bool) → cond c 1 0 ≤ 1
-              one-most true = omega arith
-              one-most false = omega arith
-
-        module _ (s : Showing tags values index lets run state₀ state i) (bound : Bound tags values index lets (drop 1 run) state₀) where
-          pub showing-within : w < length state
-          showing-within = omega (arith, pair-below, s.wanted.size)
-
-          pub showing-some : 0 < get_or state w 0
-          showing-some = omega (arith, s.counts w pair-below, bound.at w pair-below, rw (e, eq-eqb w w refl) at (one-pair w))
-
-          pub showing-next : (after : List ℕ) → after ≡ show_at table state w → Showing tags values index lets run state₀ after (i + 2)
-          showing-next after a = record {
-            from = omega arith;
-            counts = λ v l. omega (arith, s.counts v l, one v l, rw e at (one-pair v));
-            wanted = rw a (show-wanted table state w pair-below s.wanted.size tags values index pairs known s.wanted showing-some);
-          }
-            where
-              one : (v : ℕ) → v < cell_limit → get_or after v 0 + cond (eqb w v) 1 0 ≡ get_or state v 0
-              one v l = rw a (show-counts table state w pair-below s.wanted.size showing-some v l)
-
-pub ruleset hides = (hiding-start, hiding-end, hiding-none, hiding-next)
-
-pub ruleset shows = (showing-start, showing-end, showing-none, showing-next)
+pub ruleset shows = (showing-end, showing-none, showing-next)

@@ -1,4 +1,4 @@
--- Laws of the walks along a run and along a let's values, one for each way through the code. The loop has `rest` of the run before it.
+-- Laws of the walks along a run and along a let's values. The loop has `rest` of the run before it.
 -- Assumes nothing.
 use Prim.Native.Nat.{ℕ, suc, ◌+◌, ◌-◌, ◌≤◌, ◌<◌}
 use mathlib.Core.Path.{◌≡◌, refl, sym, ◌∙◌}
@@ -15,9 +15,9 @@ use Rattle.free_variables.specs.Free.{values_in, let_values}
 use Rattle.free_variables.specs.Appearing.{joined, occurrences_at}
 use Rattle.free_variables.specs.Occurs.{occurs_among}
 use Rattle.free_variables.proofs.appearing.Steps.{occurs-below, occurs-not-below}
-use Rattle.appearance.specs.Walk.{limit_at, Walked, Going, Ask}
-use Rattle.appearance.proofs.compute_free_vars.Gathering.{new_none, gather_none, gather-then, gather-few}
-use Rattle.appearance.proofs.compute_free_vars.Laws.{prepared-below, below-limit}
+use Rattle.appearance.specs.Walk.{Walked, Going, Ask}
+use Rattle.appearance.proofs.compute_free_vars.Gathering.{new_none, gather_none, gather-then}
+use Rattle.appearance.proofs.compute_free_vars.Laws.{below-limit}
 
 -- what is left of a let's values, where the loop is at i
 unfoldable pub values_from : List ℕ → ℕ → List ℕ
@@ -57,21 +57,6 @@ module _ (tags values index table : List ℕ) (words : ℕ) (state found : List 
       skip l = record { done = g.done; split = g.split ∙ rw (e, among-skip tags values t u after l); long = g.long; walked = g.walked }
 
       module _ (l : u < t) where
-        inner : Ask tags values index table words state' found' len' u
-        inner = record {
-          prepared = prepared-below tags values index table words t ask.prepared u l;
-          wanted = g.walked.wanted;
-          few = record {
-            at = λ v h. omega (
-              arith,
-              ask.prepared.small,
-              gather-few state found len g.done state' found' len' g.walked.gathered (limit_at t)
-                  (omega (arith, ask.prepared.small)) v h (ask.few.at v h),
-            );
-          };
-          room = g.walked.gathered.within;
-        }
-
         step : (state'' found'' : List ℕ) (len'' : ℕ) → length found'' ≡ length found' → Walked tags values index state' found' len' (occurrences_at tags values u) state'' found'' len''
             → Going tags values index state found len t total after state'' found'' len''
         step state'' found'' len'' same w = record {
@@ -102,9 +87,6 @@ module _ (tags values index table : List ℕ) (words : ℕ) (state found : List 
         run-skip l = skip total (drop i run) state' found' len' g (get_or run i 0) (drop (i + 1) run) next l
 
         module _ (l : get_or run i 0 < t) where
-          pub run-ask : Ask tags values index table words state' found' len' (get_or run i 0)
-          run-ask = inner total (drop i run) state' found' len' g (get_or run i 0) (drop (i + 1) run) next l
-
           pub run-next : (state'' found'' : List ℕ) (len'' : ℕ) → length found'' ≡ length found'
               → Walked tags values index state' found' len' (occurrences_at tags values (get_or run i 0)) state'' found'' len''
               → Going tags values index state found len t total (drop (i + 1) run) state'' found'' len''
@@ -137,9 +119,6 @@ module _ (tags values index table : List ℕ) (words : ℕ) (state found : List 
         values-skip l = skip total (values_from run i) state' found' len' g (get_or run i 0) (values_from run (i + 2)) next-value l
 
         module _ (l : get_or run i 0 < t) where
-          pub values-ask : Ask tags values index table words state' found' len' (get_or run i 0)
-          values-ask = inner total (values_from run i) state' found' len' g (get_or run i 0) (values_from run (i + 2)) next-value l
-
           pub values-next : (state'' found'' : List ℕ) (len'' : ℕ) → length found'' ≡ length found'
               → Walked tags values index state' found' len' (occurrences_at tags values (get_or run i 0)) state'' found'' len''
               → Going tags values index state found len t total (values_from run (i + 2)) state'' found'' len''
@@ -179,9 +158,6 @@ module _ (tags values index table : List ℕ) (words : ℕ) (state₀ found₀ :
       }
 
       module _ (l : get_or run i 0 < t) where
-        pub run-at-ask : Ask tags values index table words state found len (get_or run i 0)
-        run-at-ask = run-ask tags values index table words state₀ found₀ len₀ t s.ask run (occurs_among tags values t run) i state found len s.going h l
-
         pub run-at-next : (state' found' : List ℕ) (len' : ℕ) → length found' ≡ length found
             → Walked tags values index state found len (occurrences_at tags values (get_or run i 0)) state' found' len'
             → RunAt tags values index table words state₀ found₀ len₀ t run state' found' len' (i + 1)
@@ -206,9 +182,6 @@ module _ (tags values index table : List ℕ) (words : ℕ) (state₀ found₀ :
       }
 
       module _ (l : get_or run i 0 < t) where
-        pub values-at-ask : Ask tags values index table words state found len (get_or run i 0)
-        values-at-ask = values-ask tags values index table words state₀ found₀ len₀ t s.ask run (occurs_among tags values t (let_values run)) i s.from state found len s.going h l
-
         pub values-at-next : (state' found' : List ℕ) (len' : ℕ) → length found' ≡ length found
             → Walked tags values index state found len (occurrences_at tags values (get_or run i 0)) state' found' len'
             → ValuesAt tags values index table words state₀ found₀ len₀ t run state' found' len' (i + 2)

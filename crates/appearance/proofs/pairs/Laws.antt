@@ -1,7 +1,8 @@
--- Laws of `Pairs`: one for each way through `variable_of`, and what of a pool whose variables are indexed its pairs say.
+-- Laws of `Pairs`: what `variable_of` looks up, and what of a pool whose variables are indexed its pairs say.
 --     pair_place     the place that a pair's variable has, where there is one, is that of a variable with the pair's name and sort
 --     not-bound      a variable that the pairs of a run do not bind is at the place of none of them
 -- Assumes nothing.
+use Rattle.std.specs.Prelude.{Option, Some}
 use Prim.Native.Nat.{ℕ, zero, suc, ◌+◌, ◌-◌, ◌*◌, ◌/◌, ◌%◌, ◌≤◌, ◌<◌}
 use mathlib.Core.Path.{◌≡◌, sym, ◌∙◌}
 use mathlib.Core.Bool.{Bool, true, false, or-true}
@@ -11,25 +12,17 @@ use lib.Seq.{get_or-drop}
 use native.Mathlib.Omega.{arith}
 use borrow.Author.Tests.{eq-eqb}
 use Rattle.cells.specs.Cell.{sort_of}
-use Rattle.cells.specs.declared.Found.{Found}
-use Rattle.cells.specs.declared.Found.TheVariants.{At}
 use Rattle.descriptions.specs.Index.{look_up}
 use Rattle.free_variables.specs.Free.{pair_in}
 use Rattle.free_variables.specs.FreeMemo.{pair_sort, pairs_bind}
 use Rattle.appearance.specs.Pairs.{place_of, variable_of, IndexedVariables}
 use Rattle.appearance.proofs.bits.Laws.{clash}
 
--- ---- the code: f is what the index has
-module _ (tags values index : List ℕ) (lets : Bool) (a b : ℕ) (f : Found) where
-  pub variable-let : lets ≡ true → (s : ℕ) → s ≡ sort_of values b → f ≡ look_up tags values index 21 (s ∷ a ∷ []) → f ≡ variable_of tags values index lets a b
-  unfolding variable_of place_of pair_sort
-  variable-let y s e q = q ∙ rw (y, e)
-
-  pub variable-binder : lets ≡ false → f ≡ look_up tags values index 21 (b ∷ a ∷ []) → f ≡ variable_of tags values index lets a b
-  unfolding variable_of place_of pair_sort
-  variable-binder y q = q ∙ rw y
-
-pub ruleset variables = (variable-let, variable-binder)
+-- ---- the code: s is the pair's sort, f what the index has
+module _ (tags values index : List ℕ) (lets : Bool) (a b s : ℕ) (f : Option ℕ) where
+  pub variable-place : s ≡ pair_sort values lets b → f ≡ look_up tags values index 21 (s ∷ a ∷ []) → f ≡ variable_of tags values index lets a b
+  unfolding variable_of place_of
+  variable-place e q = q ∙ rw e
 
 -- ---- a list of pairs has the pair at j
 pair-at : (sort-at : ℕ → ℕ) (name sort : ℕ) (list : List ℕ) (j : ℕ) → 2 * j + 1 < length list
@@ -44,14 +37,14 @@ pair-at sort-at name sort (a ∷ (b ∷ rest)) (suc j) h p q =
     rw (pair-at sort-at name sort rest j (omega arith) (rw x at p) (rw y at q), or-true)
 
 module _ (tags values : List ℕ) (n : ℕ) (index : List ℕ) (x : IndexedVariables tags values n index) where
-  pub pair_place : (lets : Bool) (a b v : ℕ) → variable_of tags values index lets a b ≡ At v
+  pub pair_place : (lets : Bool) (a b v : ℕ) → variable_of tags values index lets a b ≡ Some v
       → (v < n) × ((get_or tags v 0 ≡ 21) × ((get_or values (v + 2) 0 ≡ a) × (sort_of values v ≡ pair_sort values lets b)))
   unfolding variable_of
   pair_place lets a b v e = x.found a (pair_sort values lets b) v e
 
   -- the pair that ends at i
   pub not-bound : (lets : Bool) (run : List ℕ) (v i : ℕ) → pairs_bind values lets v run ≡ false → i % 2 ≡ 0 → 2 ≤ i → i < length run
-      → variable_of tags values index lets (get_or run (i - 1) 0) (get_or run i 0) ≡ At v → ⊥
+      → variable_of tags values index lets (get_or run (i - 1) 0) (get_or run i 0) ≡ Some v → ⊥
   unfolding pairs_bind
   not-bound lets run v i e o l h q =
       let (b, (t, (p, s))) = pair_place lets (get_or run (i - 1) 0) (get_or run i 0) v q in

@@ -1,4 +1,4 @@
--- Adding to a row: one law for each way through `add_term`, `add_run` and `add_values`.
+-- Adding to a row: laws of ways through `add_term`, `add_run` and `add_values`.
 -- Assumes nothing.
 use Prim.Native.Nat.{ℕ, suc, ◌+◌, ◌%◌, ◌≤◌, ◌<◌}
 use mathlib.Core.Path.{◌≡◌, sym, ap, ◌∙◌}
@@ -97,41 +97,37 @@ pub record RunAdding (tags : List ℕ) (words : ℕ) (a₀ : List ℕ) (to t : �
   pub grown : Grown a₀ to a
   pub passed : (values : List ℕ) (n : ℕ) → Ready tags values n words a₀ t to → (j : ℕ) → j < i → get_or run j 0 < t → Holds tags n a to (free_in tags values (get_or run j 0))
 
-module _ (tags : List ℕ) (words : ℕ) (a₀ : List ℕ) (to t : ℕ) (run : List ℕ) where
-  pub run-start : RunAdding tags words a₀ to t run a₀ 0
-  run-start = record { grown = grown-same a₀ to; passed = λ values n r j h. absurd (omega arith) }
+module _ (tags : List ℕ) (words : ℕ) (a₀ : List ℕ) (to t : ℕ) (run : List ℕ) (a : List ℕ) (i : ℕ) (s : RunAdding tags words a₀ to t run a i) where
+  pub run-late : t ≤ get_or run i 0 → RunAdding tags words a₀ to t run a (i + 1)
+  run-late l = record {
+    grown = s.grown;
+    passed = λ values n r j h k. by-test (eqb j i)
+        (λ o. absurd (let q : j ≡ i = eqb-true j i o in omega (arith, ap (λ (x : ℕ). get_or run x 0) q)))
+        (λ o. s.passed values n r j (let q = eqb-false j i o in omega arith) k);
+  }
 
-  module _ (a : List ℕ) (i : ℕ) (s : RunAdding tags words a₀ to t run a i) where
-    pub run-late : t ≤ get_or run i 0 → RunAdding tags words a₀ to t run a (i + 1)
-    run-late l = record {
-      grown = s.grown;
-      passed = λ values n r j h k. by-test (eqb j i)
-          (λ o. absurd (let q : j ≡ i = eqb-true j i o in omega (arith, ap (λ (x : ℕ). get_or run x 0) q)))
-          (λ o. s.passed values n r j (let q = eqb-false j i o in omega arith) k);
-    }
+  pub run_more : get_or run i 0 < t → (a' : List ℕ) → Adds tags words a (get_or run i 0 + 1) to a' (λ values. free_in tags values (get_or run i 0))
+      → RunAdding tags words a₀ to t run a' (i + 1)
+  run_more l a' d = record {
+    grown = grown-both a₀ a a' to s.grown d.grown;
+    passed = λ values n r j h k. by-test (eqb j i)
+        (λ o. rw (eqb-true j i o) (one-held tags words a₀ to t a a' (get_or run i 0) d l s.grown values n r))
+        (λ o. holds-grown tags n a to a' _ d.grown (s.passed values n r j (let q = eqb-false j i o in omega arith) k));
+  }
 
-    pub run_more : get_or run i 0 < t → (a' : List ℕ) → Adds tags words a (get_or run i 0 + 1) to a' (λ values. free_in tags values (get_or run i 0))
-        → RunAdding tags words a₀ to t run a' (i + 1)
-    run_more l a' d = record {
-      grown = grown-both a₀ a a' to s.grown d.grown;
-      passed = λ values n r j h k. by-test (eqb j i)
-          (λ o. rw (eqb-true j i o) (one-held tags words a₀ to t a a' (get_or run i 0) d l s.grown values n r))
-          (λ o. holds-grown tags n a to a' _ d.grown (s.passed values n r j (let q = eqb-false j i o in omega arith) k));
-    }
+  pub run_end : length run ≤ i → Adds tags words a₀ t to a (λ values. free_among tags values t run)
+  unfolding free_among
+  run_end l = record {
+    grown = s.grown;
+    holds = λ values n r. record {
+      at = λ v b e f.
+          let (j, (h, k)) = any-in (free_below tags values v t) run f in
+          let (x, y) = below_free tags values v t (get_or run j 0) k in
+          (s.passed values n r j (omega arith) x).at v b e y;
+    };
+  }
 
-    pub run_end : length run ≤ i → Adds tags words a₀ t to a (λ values. free_among tags values t run)
-    unfolding free_among
-    run_end l = record {
-      grown = s.grown;
-      holds = λ values n r. record {
-        at = λ v b e f.
-            let (j, (h, k)) = any-in (free_below tags values v t) run f in
-            let (x, y) = below_free tags values v t (get_or run j 0) k in
-            (s.passed values n r j (omega arith) x).at v b e y;
-      };
-    }
-
-pub ruleset run-additions = (run-start, run-late, run_more, run_end)
+pub ruleset run-additions = (run-late, run_more, run_end)
 
 -- ---- a let's values: the loop at i, which is even
 any_value : (test : ℕ → Bool) (list : List ℕ) → any_of test (values_in list) ≡ true
@@ -157,40 +153,36 @@ pub record ValuesAdding (tags : List ℕ) (words : ℕ) (a₀ : List ℕ) (to t 
   pub passed : (values : List ℕ) (n : ℕ) → Ready tags values n words a₀ t to → (j : ℕ) → j % 2 ≡ 0 → 2 ≤ j → j < i → get_or run j 0 < t
       → Holds tags n a to (free_in tags values (get_or run j 0))
 
-module _ (tags : List ℕ) (words : ℕ) (a₀ : List ℕ) (to t : ℕ) (run : List ℕ) where
-  pub values-start : ValuesAdding tags words a₀ to t run a₀ 2
-  values-start = record { even = omega arith; grown = grown-same a₀ to; passed = λ values n r j p q h. absurd (omega arith) }
+module _ (tags : List ℕ) (words : ℕ) (a₀ : List ℕ) (to t : ℕ) (run : List ℕ) (a : List ℕ) (i : ℕ) (s : ValuesAdding tags words a₀ to t run a i) where
+  pub values-late : t ≤ get_or run i 0 → ValuesAdding tags words a₀ to t run a (i + 2)
+  values-late l = record {
+    even = omega (arith, s.even);
+    grown = s.grown;
+    passed = λ values n r j p b h k. by-test (eqb j i)
+        (λ o. absurd (let q : j ≡ i = eqb-true j i o in omega (arith, ap (λ (x : ℕ). get_or run x 0) q)))
+        (λ o. s.passed values n r j p b (let q = eqb-false j i o in omega (arith, s.even)) k);
+  }
 
-  module _ (a : List ℕ) (i : ℕ) (s : ValuesAdding tags words a₀ to t run a i) where
-    pub values-late : t ≤ get_or run i 0 → ValuesAdding tags words a₀ to t run a (i + 2)
-    values-late l = record {
-      even = omega (arith, s.even);
-      grown = s.grown;
-      passed = λ values n r j p b h k. by-test (eqb j i)
-          (λ o. absurd (let q : j ≡ i = eqb-true j i o in omega (arith, ap (λ (x : ℕ). get_or run x 0) q)))
-          (λ o. s.passed values n r j p b (let q = eqb-false j i o in omega (arith, s.even)) k);
-    }
+  pub values-more : get_or run i 0 < t → (a' : List ℕ) → Adds tags words a (get_or run i 0 + 1) to a' (λ values. free_in tags values (get_or run i 0))
+      → ValuesAdding tags words a₀ to t run a' (i + 2)
+  values-more l a' d = record {
+    even = omega (arith, s.even);
+    grown = grown-both a₀ a a' to s.grown d.grown;
+    passed = λ values n r j p b h k. by-test (eqb j i)
+        (λ o. rw (eqb-true j i o) (one-held tags words a₀ to t a a' (get_or run i 0) d l s.grown values n r))
+        (λ o. holds-grown tags n a to a' _ d.grown (s.passed values n r j p b (let q = eqb-false j i o in omega (arith, s.even)) k));
+  }
 
-    pub values-more : get_or run i 0 < t → (a' : List ℕ) → Adds tags words a (get_or run i 0 + 1) to a' (λ values. free_in tags values (get_or run i 0))
-        → ValuesAdding tags words a₀ to t run a' (i + 2)
-    values-more l a' d = record {
-      even = omega (arith, s.even);
-      grown = grown-both a₀ a a' to s.grown d.grown;
-      passed = λ values n r j p b h k. by-test (eqb j i)
-          (λ o. rw (eqb-true j i o) (one-held tags words a₀ to t a a' (get_or run i 0) d l s.grown values n r))
-          (λ o. holds-grown tags n a to a' _ d.grown (s.passed values n r j p b (let q = eqb-false j i o in omega (arith, s.even)) k));
-    }
+  pub values-end : length run ≤ i → Adds tags words a₀ t to a (λ values. free_among tags values t (let_values run))
+  unfolding free_among
+  values-end l = record {
+    grown = s.grown;
+    holds = λ values n r. record {
+      at = λ v b e f.
+          let (j, (p, (c, (h, k)))) = any-let (free_below tags values v t) run f in
+          let (x, y) = below_free tags values v t (get_or run j 0) k in
+          (s.passed values n r j p c (omega arith) x).at v b e y;
+    };
+  }
 
-    pub values-end : length run ≤ i → Adds tags words a₀ t to a (λ values. free_among tags values t (let_values run))
-    unfolding free_among
-    values-end l = record {
-      grown = s.grown;
-      holds = λ values n r. record {
-        at = λ v b e f.
-            let (j, (p, (c, (h, k)))) = any-let (free_below tags values v t) run f in
-            let (x, y) = below_free tags values v t (get_or run j 0) k in
-            (s.passed values n r j p c (omega arith) x).at v b e y;
-      };
-    }
-
-pub ruleset value-additions = (values-start, values-late, values-more, values-end)
+pub ruleset value-additions = (values-late, values-more, values-end)

@@ -109,14 +109,4 @@ module _ (tags : List ℕ) (n : ℕ) (table₀ : List ℕ) where
         };
       }
 
-    module _ (h : n ≤ p) where
-      end : p ≡ n
-      end = omega (arith, s.within)
-
-      pub number-count : count ≡ number_of tags n
-      number-count = rw end at s.count-is
-
-      pub number-all : Numbered tags n table
-      number-all = rw end at s.numbered
-
-pub ruleset numbers = (number-start, number-skip, number-next, number-count, number-all)
+pub ruleset numbers = (number-start, number-skip, number-next)

@@ -1,4 +1,4 @@
--- The table of all rows: one law for each way through the loop of `make_all`.
+-- The table of all rows: laws of the loop of `make_all`.
 -- Assumes nothing.
 use Prim.Native.Nat.{ℕ, ◌+◌, ◌≤◌, ◌<◌}
 use mathlib.Core.Path.{◌≡◌, ap, ◌∙◌}
@@ -11,7 +11,7 @@ use borrow.Author.Tests.{eqb-true, eqb-false}
 use Rattle.cells.specs.ByPlace.{by-test}
 use Rattle.free_variables.specs.Names.{free_in}
 use Rattle.appearance.specs.Pairs.{IndexedVariables}
-use Rattle.appearance.specs.Rows.{words_of, Numbered, Holds, RowsBelow, Makes, Rows}
+use Rattle.appearance.specs.Rows.{words_of, Numbered, Holds, RowsBelow, Makes}
 use Rattle.appearance.proofs.rows.Kept.{holds_kept, rows-kept}
 use Rattle.appearance.proofs.rows.Numbers.{words_small}
 
@@ -87,65 +87,45 @@ module _ (tags values : List ℕ) (n : ℕ) (index : List ℕ) (x : IndexedVaria
     };
   }
 
-  module _ (a : List ℕ) (p next : ℕ) (s : Making tags values n words a p next) where
-    module _ (w : ℕ) (h : w < n) (o : w ≡ p) (at : ℕ) (q : at ≡ p) (tag : ℕ) (is : tag ≡ get_or tags at 0) where
-      pub making-other : tag < 22 → Making tags values n words a (p + 1) next
-      making-other l = record {
-        long = s.long;
-        low = s.low;
-        high = s.high;
-        small = s.small;
-        words_small = s.words_small;
-        rows = rows_more tags values n words a p next s.rows (omega arith) next (omega arith) (λ t. no-parts t) (λ t. no-parts t) (λ t. no-parts t);
-      }
-        where
-          no-parts : {C : Type 0} → 21 < get_or tags p 0 → C
-          no-parts t = absurd (omega (arith, is, ap (λ (i : ℕ). get_or tags i 0) q))
+  module _ (a : List ℕ) (p next : ℕ) (s : Making tags values n words a p next) (h : p < n) (tag : ℕ) (is : tag ≡ get_or tags p 0) (l : 22 ≤ tag) where
+    parts : 21 < get_or tags p 0
+    parts = omega arith
 
-      module _ (l : 22 ≤ tag) where
-        parts : 21 < get_or tags p 0
-        parts = omega (arith, is, ap (λ (i : ℕ). get_or tags i 0) q)
+    pub making-none : Making tags values n words (set a p 0) (p + 1) next
+    making-none = record {
+      long = length-set a p 0 ∙ s.long;
+      low = s.low;
+      high = s.high;
+      small = s.small;
+      words_small = s.words_small;
+      rows = rows_more tags values n words (set a p 0) p next (rows-set tags values n words a p next s.rows (omega arith) parts 0) (omega arith)
+          next (omega arith) (λ t z. absurd (z here)) (λ t. rw here (omega (arith, s.low, s.words_small))) (λ t z. absurd (z here));
+    }
+      where
+        here : get_or (set a p 0) p 0 ≡ 0
+        here = get_or-set_same a p 0 0 (omega (arith, s.long, s.small))
 
-        pub making-none : Making tags values n words (set a at 0) (p + 1) next
-        making-none = rw q (record {
-          long = length-set a p 0 ∙ s.long;
-          low = s.low;
-          high = s.high;
-          small = s.small;
-          words_small = s.words_small;
-          rows = rows_more tags values n words (set a p 0) p next (rows-set tags values n words a p next s.rows (omega arith) parts 0) (omega arith)
-              next (omega arith) (λ t z. absurd (z here)) (λ t. rw here (omega (arith, s.low, s.words_small))) (λ t z. absurd (z here));
-        })
-          where
-            here : get_or (set a p 0) p 0 ≡ 0
-            here = get_or-set_same a p 0 0 (omega (arith, s.long, s.small))
+    pub making-more : next + words ≤ 73728 → (b : List ℕ) → Makes tags values index words a next p b
+        → Making tags values n words (set b p next) (p + 1) (next + words)
+    making-more r b m = record {
+      long = length-set b p next ∙ m.long ∙ s.long;
+      low = omega (arith, s.low);
+      high = r;
+      small = s.small;
+      words_small = s.words_small;
+      rows = rows_more tags values n words (set b p next) p next (rows-set tags values n words b p next kept (omega arith) parts next) (omega arith)
+          (next + words) (omega arith) (λ t z. rw here s.rows.above) (λ t. rw here (omega arith)) (λ t z. rw here row);
+    }
+      where
+        kept : RowsBelow tags values n words b p next
+        kept = rows-kept tags values n words a p next s.rows b m.below
 
-        pub making-more : next + words ≤ 73728 → (b : List ℕ) → Makes tags values index words a next p b
-            → Making tags values n words (set b at next) (p + 1) (next + words)
-        making-more r b m = rw q (record {
-          long = length-set b p next ∙ m.long ∙ s.long;
-          low = omega (arith, s.low);
-          high = r;
-          small = s.small;
-          words_small = s.words_small;
-          rows = rows_more tags values n words (set b p next) p next (rows-set tags values n words b p next kept (omega arith) parts next) (omega arith)
-              (next + words) (omega arith) (λ t z. rw here s.rows.above) (λ t. rw here (omega arith)) (λ t z. rw here row);
-        })
-          where
-            kept : RowsBelow tags values n words b p next
-            kept = rows-kept tags values n words a p next s.rows b m.below
+        here : get_or (set b p next) p 0 ≡ next
+        here = get_or-set_same b p next 0 (omega (arith, m.long, s.long, s.small))
 
-            here : get_or (set b p next) p 0 ≡ next
-            here = get_or-set_same b p next 0 (omega (arith, m.long, s.long, s.small))
+        row : Holds tags n (set b p next) next (free_in tags values p)
+        row = holds_kept tags n words b (set b p next) next (free_in tags values p) s.rows.words_are
+            (λ i f g. get_or-set_other b p i next 0 (λ e. omega (arith, s.rows.above)))
+            (m.holds n x (record { rows = s.rows; room = omega (arith, s.long) }) parts)
 
-            row : Holds tags n (set b p next) next (free_in tags values p)
-            row = holds_kept tags n words b (set b p next) next (free_in tags values p) s.rows.words_are
-                (λ i f g. get_or-set_other b p i next 0 (λ e. omega (arith, s.rows.above)))
-                (m.holds n x (record { rows = s.rows; room = omega (arith, s.long) }) parts)
-
-    pub making-end : (w : ℕ) → w ≡ p → n ≤ w → Rows tags values n words a
-    making-end w o h =
-        let e : p ≡ n = omega (arith, s.rows.within) in
-        record { words_are = s.rows.words_are; numbered = s.rows.numbered; free = λ u l. s.rows.free u (omega arith) }
-
-pub ruleset makings = (making-start, making-other, making-none, making-more, making-end)
+pub ruleset makings = (making-start, making-none)

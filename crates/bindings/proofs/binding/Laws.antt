@@ -1,32 +1,26 @@
 -- Laws of `Binding` and `BindingAnswer`, one for each way through the code.
 -- Assumes nothing.
+use Rattle.std.specs.Prelude.{Option, Some, None}
 use Prim.Native.Nat.{ℕ, suc, ◌+◌, ◌-◌, ◌≤◌, ◌<◌}
-use mathlib.Core.Path.{◌≡◌, ap}
-use mathlib.Core.Bool.{Bool, true, false, not}
+use mathlib.Core.Path.{◌≡◌, refl}
+use mathlib.Core.Bool.{Bool, true, false, ◌&&◌}
 use mathlib.Core.List.{List, [], ◌∷◌}
-use lib.ListN.{length, get_or, drop, drop_of_length-le}
-use lib.Seq.{drop-cons}
+use lib.ListN.{length, get_or, take, drop, drop_of_length-le}
+use lib.Seq.{drop-cons, take_all}
 use lib.Dec.{eqb, ltb}
 use native.Mathlib.Omega.{arith}
 use native.Mathlib.Numerals.{add-one}
-use borrow.Author.Tests.{eq-eqb, ne_eqb, eqb-true, ltb-true, ltb-false}
+use borrow.Author.Tests.{eqb-true, ltb-true, ltb-false}
 use Rattle.cells.specs.ByPlace.{by-test}
 use Rattle.bindings.specs.Binding.{Binding, bindings_of, same, has, first_of}
-use Rattle.bindings.specs.BindingAnswer.{pair, pair_at, name_of}
-use Rattle.bindings.specs.declared.binding.FirstName.{FirstName}
-use Rattle.bindings.specs.declared.binding.FirstName.TheVariants.{Name, Nothing}
+use Rattle.bindings.specs.BindingAnswer.{pair, binding, pair_at, name_of}
+use Rattle.cells.specs.declared.variable.Variable.{Variable}
 
 -- ---- two pairs
-module _ (a s b u : ℕ) where
-  pub pair-name : (a ≡ b → ⊥) → false ≡ same (pair a s) (pair b u)
-  unfolding same
-  pair-name n = rw (ne_eqb _ _ n)
-
-  pub pair-sort : a ≡ b → eqb s u ≡ same (pair a s) (pair b u)
-  unfolding same
-  pair-sort e = rw (eq-eqb _ _ e)
-
-pub ruleset one-pair = (pair-name, pair-sort)
+-- the code's `==` of two variables
+pub same-variables : (v w : Variable) (r : Bool) → r ≡ (eqb v.name w.name && eqb v.sort.0 w.sort.0) → r ≡ same (binding v) (binding w)
+unfolding same
+same-variables v w r e = e
 
 same-pairs : (n s m t : ℕ) → n ≡ m → s ≡ t → pair n s ≡ pair m t
 same-pairs n s m t p q = rw (p, q)
@@ -52,39 +46,49 @@ pairs_next l i h =
     let after : suc (i + 1) ≡ i + 2 = omega arith in
     rw (drop-cons l i 0 (omega arith), drop-cons l (suc i) 0 (omega arith), ← add-one i, after)
 
--- ---- a pair in a list: w says whether it stands there from i on
-module _ (w : Bool) (l : List ℕ) (a : Binding) (i : ℕ) (inv : w ≡ has (bindings_of (drop i l)) a) where
-  pub has_end : length l - i < 2 → false ≡ w
-  unfolding has
-  has_end h = rw (inv, pairs_end l i h)
+-- ---- what an iterator over a run has left
+pub pairs_none : (l : List ℕ) → length l < 2 → bindings_of l ≡ []
+unfolding bindings_of
+pairs_none [] h = refl
+pairs_none (a ∷ []) h = refl
+pairs_none (a ∷ (s ∷ l)) h = absurd (omega arith)
 
-  module _ (h : 2 ≤ length l - i) (r : Bool) (is : r ≡ same (pair_at l i) a) where
+pub pairs_one : (l : List ℕ) → 2 ≤ length l → bindings_of l ≡ pair (get_or l 0 0) (get_or l 1 0) ∷ bindings_of (take (length l - 2) (drop 2 l))
+unfolding bindings_of
+pairs_one [] h = absurd (omega arith)
+pairs_one (a ∷ []) h = absurd (omega arith)
+pairs_one (a ∷ (s ∷ l)) h =
+    let e : suc (suc (length l)) - 2 ≡ length l = omega arith in
+    rw (e, take_all (length l) l (omega arith))
+
+-- ---- a pair in a list: w says whether it is among those that are left
+module _ (w : Bool) (left : List Binding) (a : Binding) (inv : w ≡ has left a) where
+  pub has_end : left ≡ [] → false ≡ w
+  unfolding has
+  has_end e = rw (inv, e)
+
+  module _ (b : Binding) (rest : List Binding) (is : left ≡ b ∷ rest) (r : Bool) (says : r ≡ same b a) where
     pub has_here : r ≡ true → true ≡ w
     unfolding has
-    has_here e = rw (inv, pairs_next l i h, ← is, e)
+    has_here e = rw (inv, is, ← says, e)
 
-    pub has-next : r ≡ false → w ≡ has (bindings_of (drop (i + 2) l)) a
+    pub has-next : r ≡ false → w ≡ has rest a
     unfolding has
-    has-next e = rw (inv, pairs_next l i h, ← is, e)
+    has-next e = rw (inv, is, ← says, e)
 
-pub ruleset in_List = (has_end, has_here, has-next)
-
-pub lacks-is : (r h : Bool) → r ≡ h → not r ≡ not h
-lacks-is r h e = ap not e
-
--- ---- the first pair that passes a test: w is the first from i on, and r says whether the pair at i passes
-module _ (w : FirstName) (test : Binding → Bool) (l : List ℕ) (i : ℕ) (inv : w ≡ name_of (first_of test (bindings_of (drop i l)))) where
-  pub first-end : length l - i < 2 → Nothing ≡ w
+-- ---- the first pair that passes a test: w is the first of those that are left
+module _ (w : Option ℕ) (test : Binding → Bool) (left : List Binding) (inv : w ≡ name_of (first_of test left)) where
+  pub first-end : left ≡ [] → None ≡ w
   unfolding first_of name_of
-  first-end h = rw (inv, pairs_end l i h)
+  first-end e = rw (inv, e)
 
-  module _ (h : 2 ≤ length l - i) (r : Bool) (is : r ≡ test (pair_at l i)) where
-    pub first-here : r ≡ true → Name (get_or l i 0) ≡ w
+  module _ (b : Binding) (rest : List Binding) (is : left ≡ b ∷ rest) (r : Bool) (says : r ≡ test b) where
+    pub first-here : r ≡ true → Some b.name ≡ w
     unfolding first_of name_of
-    first-here e = rw (inv, pairs_next l i h, ← is, e)
+    first-here e = rw (inv, is, ← says, e)
 
-    pub first_next : r ≡ false → w ≡ name_of (first_of test (bindings_of (drop (i + 2) l)))
+    pub first_next : r ≡ false → w ≡ name_of (first_of test rest)
     unfolding first_of name_of
-    first_next e = rw (inv, pairs_next l i h, ← is, e)
+    first_next e = rw (inv, is, ← says, e)
 
 pub ruleset first = (first-end, first-here, first_next)

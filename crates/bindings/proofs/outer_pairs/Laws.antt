@@ -1,24 +1,25 @@
 -- Laws of `OuterPairs`, one for each way through the code.
 -- Assumes nothing.
-use Prim.Native.Nat.{ℕ, zero, suc, ◌+◌, ◌-◌, ◌*◌, ◌/◌, ◌%◌, ◌≤◌, ◌<◌}
+use Prim.Native.Nat.{ℕ, suc, ◌+◌, ◌-◌, ◌*◌, ◌/◌, ◌%◌, ◌≤◌, ◌<◌}
 use mathlib.Core.Path.{◌≡◌, refl, sym, ◌∙◌}
-use mathlib.Core.Bool.{Bool, true, false, not}
-use mathlib.Core.List.{List, []}
-use lib.ListN.{length, get_or, drop, set, replicate, length-set, length-replicate}
+use mathlib.Core.Bool.{Bool, true, false}
+use mathlib.Core.List.{List, [], ◌∷◌}
+use lib.ListN.{length, get_or, set, length-set}
 use lib.Seq.{get_or-set_same, get_or-set_other}
 use lib.Dec.{eqb}
 use native.Mathlib.Omega.{arith}
 use native.Mathlib.Nat.{mod-lt}
-use borrow.Author.Tests.{eq-eqb, ne_eqb, eqb-true, eqb-false, not-true, not-false}
+use borrow.Author.Tests.{eq-eqb, ne_eqb, eqb-true, eqb-false}
 use Rattle.cells.specs.ByPlace.{by-test}
 use Rattle.answers.specs.Outcome.{Outcome, ◌>>◌, guard}
-use Rattle.answers.specs.declared.checked.Checked.TheVariants.{Passes, Refuses}
+use Rattle.std.specs.Prelude.{Ok, Err}
+use Rattle.answers.specs.declared.refusal.Refusal.TheVariants.{NewVariable}
 use Rattle.bindings.specs.Binding.{Binding, bindings_of, same, has}
-use Rattle.bindings.specs.BindingAnswer.{pair, pair_at}
+use Rattle.bindings.specs.BindingAnswer.{pair}
 use Rattle.bindings.specs.Used.{use_all}
 use Rattle.bindings.specs.Distinct.{added, added_all, distinct}
 use Rattle.bindings.specs.OuterPairs.{pair_in, link_of, head_of, still_left, is_pair, left_below, left_in, bucket_of, scan, OnChain, Prepared, Bucket, entered, Room, Filled, Puts, Blank, PreparedFor, UsesPrepared, Leaves}
-use Rattle.bindings.proofs.binding.Laws.{same-is, pairs_end, pairs_next}
+use Rattle.bindings.proofs.binding.Laws.{same-is}
 use Rattle.bindings.proofs.Distinct.{clash}
 use Rattle.bindings.proofs.outer_pairs.Left.{left-inside, pair_left, pair_same, left-none, left-some, scan-none, scan-one, scan-found, scan-lacks, below_more, below-without, chain-end, chain_next, chain-kept}
 use Rattle.bindings.proofs.outer_pairs.Entering.{filled⁺, pairs⁺}
@@ -110,28 +111,20 @@ module _ (cells : List ℕ) (a : Binding) (n : ℕ) (f : Filled cells n) (c : �
 
 pub ruleset puts = (put-there, put-new)
 
--- ---- the outer list prepared: n pairs are entered, and the list is to be read from i on
-pub record Preparing (outer cells : List ℕ) (n i : ℕ) : Type 0 where
+-- ---- the outer list prepared: n pairs are entered, and these are left to read
+pub record Preparing (outer cells : List ℕ) (n : ℕ) (left : List Binding) : Type 0 where
   pub filled : Filled cells n
-  pub few : 2 * n ≤ i
-  pub within : i ≤ length outer
+  pub few : 2 * (n + length left) ≤ length outer
   pub enough : 5 * length outer ≤ 2 * length cells
   pub small : length outer ≤ 8192
-  pub pairs : distinct (bindings_of outer) ≡ added_all (left_in cells) (bindings_of (drop i outer))
+  pub pairs : distinct (bindings_of outer) ≡ added_all (left_in cells) left
 
-zeroes-at : (n i : ℕ) → get_or {A = ℕ} (replicate n 0) i 0 ≡ 0
-zeroes-at zero i = refl
-zeroes-at (suc n) zero = refl
-zeroes-at (suc n) (suc i) = zeroes-at n i
-
--- an array of n zeroes
-pub blank : (n size : ℕ) → 5 * size ≤ 2 * n → 5 ≤ n → size ≤ 8192 → Blank (replicate n 0) size
-blank n size e r s = record {
-  zeroes = zeroes-at n;
-  enough = rw (length-replicate {A = ℕ} n 0) e;
-  room = rw (length-replicate {A = ℕ} n 0) r;
-  small = s;
-}
+-- a pair has two cells
+pub two_cells : (l : List ℕ) → 2 * length (bindings_of l) ≤ length l
+unfolding bindings_of
+two_cells [] = omega arith
+two_cells (a ∷ []) = omega arith
+two_cells (a ∷ (s ∷ l)) = omega (arith, two_cells l)
 
 module _ (cells : List ℕ) (zeroes : (i : ℕ) → get_or cells i 0 ≡ 0) where
   none_left : (k : ℕ) → still_left cells k ≡ false
@@ -155,38 +148,37 @@ module _ (cells : List ℕ) (zeroes : (i : ℕ) → get_or cells i 0 ≡ 0) wher
   }
 
 module _ (outer cells : List ℕ) where
-  pub prepare-start : Blank cells (length outer) → Preparing outer cells 0 0
+  pub prepare-start : Blank cells (length outer) → Preparing outer cells 0 (bindings_of outer)
   unfolding distinct
   prepare-start b = record {
     filled = filled_none cells b.zeroes b.room;
-    few = omega arith;
-    within = omega arith;
+    few = omega (arith, two_cells outer);
     enough = b.enough;
     small = b.small;
     pairs = rw (all-zero cells b.zeroes);
   }
 
-  module _ (n i : ℕ) (p : Preparing outer cells n i) where
-    pub prepare-end : length outer - i < 2 → PreparedFor (bindings_of outer) cells
+  module _ (n : ℕ) (left : List Binding) (p : Preparing outer cells n left) where
+    pub prepare-end : left ≡ [] → PreparedFor (bindings_of outer) cells
     unfolding added_all
-    prepare-end h = record { ready = p.filled.ready; pairs = sym (rw (pairs_end outer i h) at p.pairs) }
+    prepare-end e = record { ready = p.filled.ready; pairs = sym (rw e at p.pairs) }
 
-    module _ (h : 2 ≤ length outer - i) where
+    module _ (a : Binding) (rest : List Binding) (one : left ≡ a ∷ rest) where
+      fewer : 2 * (n + suc (length rest)) ≤ length outer
+      fewer = rw one at p.few
+
       pub prepare-room : Room cells n
-      prepare-room = record { inside = omega (arith, p.few, p.enough); small = omega (arith, p.few, p.small) }
+      prepare-room = record { inside = omega (arith, fewer, p.enough); small = omega (arith, fewer, p.small) }
 
-      pub prepare-next : (after : List ℕ) (m : ℕ) → length after ≡ length cells → Puts (pair_at outer i) cells n after m → Preparing outer after m (i + 2)
+      pub prepare-next : (after : List ℕ) (m : ℕ) → length after ≡ length cells → Puts a cells n after m → Preparing outer after m rest
       unfolding added_all
       prepare-next after m e q = record {
         filled = q.filled;
-        few = omega (arith, q.more, p.few);
-        within = omega arith;
+        few = omega (arith, q.more, fewer);
         enough = omega (arith, p.enough);
         small = p.small;
-        pairs = p.pairs ∙ rw (pairs_next outer i h, q.pairs);
+        pairs = p.pairs ∙ rw (one, q.pairs);
       }
-
-pub ruleset prepares = (prepare-start, prepare-end, prepare-room, prepare-next)
 
 -- ---- one pair used
 module _ (cells : List ℕ) (p : Prepared cells) (q : ℕ) where
@@ -251,27 +243,21 @@ module _ (cells : List ℕ) (p : Prepared cells) (a : Binding) (c : ℕ) (found 
 
 pub ruleset uses = (use-not, use-inside, use-left)
 
--- ---- an inner list used: w is what its pairs from the cell i on do to what is left
-pub record Using (w : Outcome (List Binding)) (inner : List ℕ) (i : ℕ) (cells : List ℕ) : Type 0 where
-  pub within : i ≤ length inner
+-- ---- an inner list used: w is what its pairs that are left do to the outer ones that are left
+pub record Using (w : Outcome (List Binding)) (inner : List Binding) (cells : List ℕ) : Type 0 where
   pub ready : Prepared cells
-  pub rest : w ≡ use_all (bindings_of (drop i inner)) (left_in cells)
+  pub rest : w ≡ use_all inner (left_in cells)
 
-pub all_start : (inner cells : List ℕ) → Prepared cells → Using (use_all (bindings_of inner) (left_in cells)) inner 0 cells
-all_start inner cells p = record { within = omega arith; ready = p; rest = refl }
-
-module _ (w : Outcome (List Binding)) (inner : List ℕ) (i : ℕ) (cells : List ℕ) (s : Using w inner i cells) where
-  pub all_end : length inner - i < 2 → Leaves w Passes cells
+module _ (w : Outcome (List Binding)) (inner : List Binding) (cells : List ℕ) (s : Using w inner cells) where
+  pub all_end : inner ≡ [] → Leaves w (Ok tt) cells
   unfolding use_all
-  all_end h = record { outcome = rw (s.rest, pairs_end inner i h); kept = s.ready }
+  all_end e = record { outcome = rw (s.rest, e); kept = s.ready }
 
-  module _ (h : 2 ≤ length inner - i) (r : Bool) (after : List ℕ) (u : UsesPrepared (pair_at inner i) cells r after) where
-    pub all_new : not r ≡ true → Leaves w (Refuses 8 (get_or inner i 0) 0) after
+  module _ (a : Binding) (rest : List Binding) (one : inner ≡ a ∷ rest) (r : Bool) (after : List ℕ) (u : UsesPrepared a cells r after) where
+    pub all_new : r ≡ false → Leaves w (Err (NewVariable a.name)) after
     unfolding use_all ◌>>◌ guard
-    all_new e = record { outcome = rw (s.rest, pairs_next inner i h, ← u.was, not-true r e); kept = u.kept }
+    all_new e = record { outcome = rw (s.rest, one, ← u.was, e); kept = u.kept }
 
-    pub all-next : not r ≡ false → Using w inner (i + 2) after
+    pub all-next : r ≡ true → Using w rest after
     unfolding use_all ◌>>◌ guard
-    all-next e = record { within = omega arith; ready = u.kept; rest = rw (s.rest, pairs_next inner i h, ← u.was, u.rest, not-false r e) }
-
-pub ruleset all = (all_start, all_end, all_new, all-next)
+    all-next e = record { ready = u.kept; rest = rw (s.rest, one, ← u.was, u.rest, e) }

@@ -1,6 +1,7 @@
 -- Headers that fill a pool, and what a walk over them finds once the pool has grown.
 -- 01, "Pool": "Headers and their cells fill 0 to N-1 exactly."
 -- Assumes nothing.
+use Rattle.std.specs.Prelude.{Option, Some, None}
 use Prim.Native.Nat.{ℕ, zero, suc, ◌+◌, ◌-◌, ◌≤◌, ◌<◌}
 use mathlib.Core.Path.{◌≡◌, refl, sym, ◌∙◌}
 use mathlib.Core.Bool.{Bool, true, false, not, ◌&&◌}
@@ -12,8 +13,6 @@ use borrow.Author.Tests.{leb-true, leb-false, ltb-true, not-false}
 use Rattle.cells.specs.ByPlace.{by-test}
 use Rattle.cells.specs.Headers.{first_from, first_header}
 use Rattle.headers.specs.WellFormed.{bool_first, header_fits, first_bad}
-use Rattle.cells.specs.declared.Found.{Found}
-use Rattle.cells.specs.declared.Found.TheVariants.{At, Nothing}
 use Rattle.cells.proofs.Walks.{first-end, first-here, first_next}
 
 -- headers with their cells fill the places from p up to n
@@ -23,20 +22,20 @@ pub data Fills (values : List ℕ) (n : ℕ) : ℕ → Type 0 where
 
 -- a walk that finds nothing has passed headers that fill the pool, where its test holds at each whose cells run past n
 module _ (values : List ℕ) (n : ℕ) (test : ℕ → Bool) (within : (p : ℕ) → test p ≡ false → get_or values p 0 < n - p) where
-  fills-in : (f p : ℕ) → n - p ≤ f → p ≤ n → first_from values n test p ≡ Nothing → Fills values n p
+  fills-in : (f p : ℕ) → n - p ≤ f → p ≤ n → first_from values n test p ≡ None → Fills values n p
   fills-in zero p hf le e = let z : p ≡ n = omega arith in rw z filled
   fills-in (suc f) p hf le e =
       by-test (leb n p) (λ a. let z : p ≡ n = omega (arith, leb-true n p a) in rw z filled)
       (λ a.
       let h : p < n = leb-false n p a in
       by-test (test p)
-      (λ o. let z : At p ≡ Nothing = first-here values n test _ p refl h true (sym o) refl ∙ e in let y : ◌≡◌ {A = ℕ} 0 1 = cc in absurd (omega arith))
+      (λ o. let z : Some p ≡ None = first-here values n test _ p refl h true (sym o) refl ∙ e in let y : ◌≡◌ {A = ℕ} 0 1 = cc in absurd (omega arith))
       (λ o.
       let k : get_or values p 0 < n - p = within p o in
       more h k (fills-in f (p + (1 + get_or values p 0)) (omega arith) (omega arith)
       (sym (first_next values n test _ p refl h false (sym o) refl (get_or values p 0) refl) ∙ e))))
 
-  pub nothing-fills : first_header values n test ≡ Nothing → Fills values n 0
+  pub nothing-fills : first_header values n test ≡ None → Fills values n 0
   unfolding first_header
   nothing-fills e = fills-in (n - 0) 0 (omega arith) (omega arith) e
 
@@ -54,19 +53,19 @@ unfolding header_fits
 header-within tags values n p e =
     ltb-true _ _ (and_left (ltb (get_or values p 0) (n - p)) _ (and_right (bool_first tags p) _ e))
 
-pub well-formed-fills : (tags values : List ℕ) (n : ℕ) → first_bad tags values n ≡ Nothing → Fills values n 0
+pub well-formed-fills : (tags values : List ℕ) (n : ℕ) → first_bad tags values n ≡ None → Fills values n 0
 unfolding first_bad
 well-formed-fills tags values n e =
     nothing-fills values n (λ p. not (header_fits tags values n p)) (λ p o. header-within tags values n p (not-false _ o)) e
 
 -- what is found, else what is found after it
-abbrev pub or_else : Found → Found → Found
-or_else (At p) after = At p
-or_else Nothing after = after
+abbrev pub or_else : Option ℕ → Option ℕ → Option ℕ
+or_else (Some p) after = Some p
+or_else None after = after
 
-pub or_nothing : (f : Found) → or_else f Nothing ≡ f
-or_nothing (At p) = refl
-or_nothing Nothing = refl
+pub or_nothing : (f : Option ℕ) → or_else f None ≡ f
+or_nothing (Some p) = refl
+or_nothing None = refl
 
 -- a pool of n cells has grown to n' cells, and those below n are the same
 module _ (values : List ℕ) (n : ℕ) (values' : List ℕ) (n' : ℕ) (grows : n ≤ n') (same : (p : ℕ) → p < n → get_or values' p 0 ≡ get_or values p 0) where

@@ -1,5 +1,6 @@
 -- What adding a description keeps: the cells below the count, the headers that fill the pool, and where each description stands.
 -- Assumes nothing.
+use Rattle.std.specs.Prelude.{Option, Some, None}
 use Prim.Native.Nat.{ℕ, suc, ◌+◌, ◌-◌, ◌≤◌, ◌<◌}
 use mathlib.Core.Path.{◌≡◌, refl, sym, ◌∙◌}
 use mathlib.Core.Bool.{true}
@@ -14,8 +15,6 @@ use Rattle.cells.specs.ByPlace.{by-test}
 use Rattle.cells.specs.Cell.{cells_of, is_at}
 use Rattle.cells.specs.Headers.{first_from}
 use Rattle.descriptions.specs.Description.{find, is_full, append, found_or, adding, Added-is, Room}
-use Rattle.cells.specs.declared.Found.{Found}
-use Rattle.cells.specs.declared.Found.TheVariants.{At, Nothing}
 use Rattle.descriptions.specs.declared.description.Added.{Added}
 use Rattle.descriptions.specs.declared.description.Added.TheVariants.{There, New, Full}
 use Rattle.cells.proofs.Cells.{same_refl}
@@ -115,13 +114,13 @@ module _ (tags values : List ℕ) (n tag : ℕ) (cells : List ℕ) (room : Room 
       fills-grown values n values⁺ (n + 1 + length cells) (omega arith) put_same.values_same f
       (more {p = n} (omega arith) (rw put_count (omega arith)) (rw e filled))
 
-  put-found : Fills values n 0 → find tags values n tag cells ≡ Nothing → find tags⁺ values⁺ (n + 1 + length cells) tag cells ≡ At n
+  put-found : Fills values n 0 → find tags values n tag cells ≡ None → find tags⁺ values⁺ (n + 1 + length cells) tag cells ≡ Some n
   put-found f e =
       rw (find-grown n tags values tags⁺ values⁺ put_same (n + 1 + length cells) tag cells (omega arith) f, e)
       (sym (first-here values⁺ (n + 1 + length cells) (λ q. is_at tags⁺ values⁺ q tag cells) _ n refl (omega arith) true (sym put-at) refl))
 
-  put-still : Fills values n 0 → (other : ℕ) (others : List ℕ) (q : ℕ) → find tags values n other others ≡ At q
-      → find tags⁺ values⁺ (n + 1 + length cells) other others ≡ At q
+  put-still : Fills values n 0 → (other : ℕ) (others : List ℕ) (q : ℕ) → find tags values n other others ≡ Some q
+      → find tags⁺ values⁺ (n + 1 + length cells) other others ≡ Some q
   put-still f other others q e =
       rw (find-grown n tags values tags⁺ values⁺ put_same (n + 1 + length cells) other others (omega arith) f, e)
 
@@ -131,18 +130,18 @@ pub record Grown (tags values : List ℕ) (n tag : ℕ) (cells : List ℕ) (p m 
   pub place : p ≡ n
   pub count : m ≡ n + 1 + length cells
   pub fills : Fills values' m 0
-  pub found : find tags' values' m tag cells ≡ At p
-  pub still : (other : ℕ) (others : List ℕ) (q : ℕ) → find tags values n other others ≡ At q → find tags' values' m other others ≡ At q
+  pub found : find tags' values' m tag cells ≡ Some p
+  pub still : (other : ℕ) (others : List ℕ) (q : ℕ) → find tags values n other others ≡ Some q → find tags' values' m other others ≡ Some q
 
 data Outcome (tags values : List ℕ) (n tag : ℕ) (cells : List ℕ) : Added → List ℕ → List ℕ → Type 0 where
-  stood : {p : ℕ} → find tags values n tag cells ≡ At p → Outcome tags values n tag cells (There p) tags values
+  stood : {p : ℕ} → find tags values n tag cells ≡ Some p → Outcome tags values n tag cells (There p) tags values
   refused : Outcome tags values n tag cells Full tags values
-  put : find tags values n tag cells ≡ Nothing → Room tags values n (length cells)
+  put : find tags values n tag cells ≡ None → Room tags values n (length cells)
       → Outcome tags values n tag cells (New n (n + 1 + length cells)) (sets tags n (tag ∷ replicate (length cells) 0)) (sets values n (length cells ∷ cells))
 
-by-found : {P : Type 0} (f : Found) → ((p : ℕ) → f ≡ At p → P) → (f ≡ Nothing → P) → P
-by-found (At p) at nothing = at p refl
-by-found Nothing at nothing = nothing refl
+by-found : {P : Type 0} (f : Option ℕ) → ((p : ℕ) → f ≡ Some p → P) → (f ≡ None → P) → P
+by-found (Some p) at nothing = at p refl
+by-found None at nothing = nothing refl
 
 module _ (tags values : List ℕ) (limit n tag : ℕ) (cells : List ℕ) (r : Added) (tags' values' : List ℕ) (s : Added-is tags values limit n tag cells r tags' values') where
   outcome : Outcome tags values n tag cells r tags' values'
@@ -171,10 +170,10 @@ module _ (tags values : List ℕ) (limit n tag : ℕ) (cells : List ℕ) (r : Ad
       kept (put e room) = sets-before (length cells ∷ cells) values n i h
 
   -- an old place is where the description is found
-  pub there-found : (p : ℕ) → r ≡ There p → find tags' values' n tag cells ≡ At p
+  pub there-found : (p : ℕ) → r ≡ There p → find tags' values' n tag cells ≡ Some p
   there-found p q = found (rw q at outcome)
     where
-      found : {t v : List ℕ} → Outcome tags values n tag cells (There p) t v → find t v n tag cells ≡ At p
+      found : {t v : List ℕ} → Outcome tags values n tag cells (There p) t v → find t v n tag cells ≡ Some p
       found (stood e) = e
 
   -- a new place, in a pool that headers fill

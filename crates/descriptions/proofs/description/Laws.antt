@@ -1,36 +1,32 @@
 -- Laws of `Description`, one for each way out of the code.
 -- Assumes nothing.
-use Prim.Native.Nat.{ℕ, suc, ◌+◌, ◌-◌, ◌≤◌, ◌<◌}
-use mathlib.Core.Path.{◌≡◌, refl, sym, ◌∙◌}
+use Rattle.std.specs.Prelude.{Option, Some, None, is_some}
+use Prim.Native.Nat.{ℕ, ◌+◌, ◌-◌, ◌≤◌, ◌<◌, min}
+use mathlib.Core.Path.{◌≡◌, refl, sym, ap, ◌∙◌}
 use mathlib.Core.Bool.{Bool, true, false, ◌||◌}
 use mathlib.Core.List.{List, ◌∷◌, append-nil}
-use lib.ListN.{length, get_or, drop, set, replicate, drop_of_length-le, length-set}
-use lib.Seq.{drop-cons, sets, length-sets, take_all, take-suc-set, append_snoc}
-use lib.Dec.{ltb}
+use Rattle.std.proofs.Common.{append_assoc}
+use Rattle.cells.specs.ByPlace.{by-test}
+use lib.ListN.{length, get_or, drop, set, replicate, drop_of_length-le, length-drop, length-set, length-replicate}
+use lib.Seq.{sets, sets-eq, length-sets, length-take-le, drop-drop, take_all}
+use lib.Dec.{leb, ltb}
 use native.Mathlib.Omega.{arith}
 use native.Mathlib.Numerals.{add-one}
-use borrow.Author.Tests.{lt-ltb, le-ltb, ltb-false}
+use borrow.Author.Tests.{lt-ltb, le-ltb, ltb-false, leb-true, leb-false}
 use Rattle.cells.specs.Cell.{cells_of}
-use Rattle.descriptions.specs.Description.{find, repeats, is_full, append, found_or, adding, Added-is, Room, Put, zero_from}
-use Rattle.cells.specs.declared.Found.{Found}
-use Rattle.cells.specs.declared.Found.TheVariants.{At, Nothing}
+use Rattle.descriptions.specs.Description.{find, is_found, repeats, is_full, append, found_or, adding, Added-is, Room, Put, zero_from}
 use Rattle.descriptions.specs.declared.description.Added.TheVariants.{There, New, Full}
-use Rattle.cells.proofs.Bounds.{no_more, one_more}
-use Rattle.cells.proofs.Walks.{first-end, first-here, first_next, first-last}
-
-pub ruleset walk = (first-end, first-here, first_next, first-last)
+use borrow.Rule.Slice.PartMut.{mid_of, put_mid}
 
 -- ---- check 15: f is what is found below p
-module _ (tags values : List ℕ) (p tag : ℕ) (cells : List ℕ) (t : tag ≡ get_or tags p 0) (c : cells ≡ cells_of values p) (f : Found) (is : f ≡ find tags values p tag cells) where
-  pub repeats-found : (q : ℕ) → f ≡ At q → true ≡ repeats tags values p
-  unfolding repeats
-  repeats-found q e = rw (← t, ← c, ← is, e)
-
-  pub repeats-nothing : f ≡ Nothing → false ≡ repeats tags values p
-  unfolding repeats
-  repeats-nothing e = rw (← t, ← c, ← is, e)
-
-pub ruleset repetition = (repeats-found, repeats-nothing)
+pub repeats-is : (tags values : List ℕ) (p tag : ℕ) (cells : List ℕ) → tag ≡ get_or tags p 0 → cells ≡ cells_of values p → (f : Option ℕ) → f ≡ find tags values p tag cells
+    → (r : Bool) → r ≡ is_some f → r ≡ repeats tags values p
+unfolding repeats
+repeats-is tags values p tag cells t c f is r e = rw (e, ← t, ← c, ← is) (some f)
+  where
+    some : (f : Option ℕ) → is_some f ≡ is_found f
+    some (Some q) = refl
+    some None = refl
 
 -- ---- no room
 or-false : (a b : Bool) → (a || b) ≡ false → (a ≡ false) × (b ≡ false)
@@ -80,41 +76,20 @@ module _ (tags values : List ℕ) (limit n k : ℕ) (full : Bool) (is : full ≡
       let (d, r) = or-false (ltb (length values) (n + 1 + k)) _ r in
       ltb-false limit (n + 1 + k) r
 
--- ---- writing a description
--- the loop of `put_cells` at j: what is left to write makes of the arrays what all of it makes of those at the start
-pub record Putting (at : ℕ) (cells tags₀ values₀ tags values : List ℕ) (j : ℕ) : Type 0 where
-  pub within : j ≤ length cells
-  pub tags-long : length tags ≡ length tags₀
-  pub values-long : length values ≡ length values₀
-  pub tags-left : sets tags₀ at (replicate (length cells) 0) ≡ sets tags (at + j) (replicate (length cells - j) 0)
-  pub values-left : sets values₀ at cells ≡ sets values (at + j) (drop j cells)
+-- ---- writing a description: a part of an array is replaced, from `at` on
+pub part-sets : (at k : ℕ) (a part new : List ℕ) → at + k ≤ length a → part ≡ new → length new ≡ k → put_mid at k a part ≡ sets a at new
+part-sets at k a part new h e l = rw (e, sets-eq new a at (omega arith), drop-drop k at a, ← l) (simp append_assoc)
 
-module _ (at : ℕ) (cells tags₀ values₀ : List ℕ) where
-  pub put-start : Putting at cells tags₀ values₀ tags₀ values₀ 0
-  put-start =
-      let e : at + 0 ≡ at = omega arith in
-      let k : length cells - 0 ≡ length cells = omega arith in
-      record { within = omega arith; tags-long = refl; values-long = refl; tags-left = rw (e, k); values-left = rw e }
+-- a part that is filled with zeroes
+pub filled : (at k : ℕ) (a part : List ℕ) → at + k ≤ length a → part ≡ replicate (length (mid_of at k a)) 0 → part ≡ replicate k 0
+filled at k a part h e = e ∙ ap (λ n. replicate n 0) (length-take-le k (drop at a) (rw length-drop (omega arith)))
 
-  module _ (tags values : List ℕ) (j : ℕ) (s : Putting at cells tags₀ values₀ tags values j) where
-    pub put-more : j < length cells → Putting at cells tags₀ values₀ (set tags (at + j) 0) (set values (at + j) (get_or cells j 0)) (j + 1)
-    put-more h =
-        let e : at + (j + 1) ≡ suc (at + j) = omega arith in
-        record {
-          within = omega arith;
-          tags-long = length-set tags (at + j) 0 ∙ s.tags-long;
-          values-long = length-set values (at + j) (get_or cells j 0) ∙ s.values-long;
-          tags-left = s.tags-left ∙ rw (one_more (length cells) j h, e);
-          values-left = s.values-left ∙ rw (drop-cons cells j 0 h, e, add-one j);
-        }
-
-    pub put-end : length cells ≤ j → Put tags₀ values₀ at (replicate (length cells) 0) cells tags values
-    put-end h = record {
-      tags-are = rw (s.tags-left, no_more (length cells) j h);
-      values-are = rw (s.values-left, drop_of_length-le cells h);
-    }
-
-pub ruleset puts = (put-start, put-more, put-end)
+pub cells-put : (at k : ℕ) (tags values cells tag-part value-part : List ℕ) → at + k ≤ length tags → at + k ≤ length values → k ≡ length cells
+    → tag-part ≡ replicate k 0 → value-part ≡ cells → Put tags values at (replicate (length cells) 0) cells (put_mid at k tags tag-part) (put_mid at k values value-part)
+cells-put at k tags values cells tag-part value-part t v n e c = record {
+  tags-are = rw (← n) (part-sets at k tags tag-part (replicate k 0) t e (length-replicate k 0));
+  values-are = part-sets at k values value-part cells v c (sym n);
+}
 
 -- a header and then its cells
 module _ (tags values : List ℕ) (n tag : ℕ) (cells tags' values' : List ℕ)
@@ -131,12 +106,12 @@ module _ (tags values : List ℕ) (n tag : ℕ) (cells tags' values' : List ℕ)
 pub ruleset headers = (put-tags-long, put-values-long, put-header)
 
 -- ---- adding: f is what is found below n, and full says whether there is no room
-module _ (tags values : List ℕ) (limit n tag : ℕ) (cells : List ℕ) (f : Found) (is : f ≡ find tags values n tag cells) where
-  pub add-there : (p : ℕ) → f ≡ At p → Added-is tags values limit n tag cells (There p) tags values
+module _ (tags values : List ℕ) (limit n tag : ℕ) (cells : List ℕ) (f : Option ℕ) (is : f ≡ find tags values n tag cells) where
+  pub add-there : (p : ℕ) → f ≡ Some p → Added-is tags values limit n tag cells (There p) tags values
   unfolding adding found_or
   add-there p e = record { answer = rw (← is, e); tags-are = rw (← is, e); values-are = rw (← is, e) }
 
-  module _ (e : f ≡ Nothing) (full : Bool) (room : full ≡ is_full tags values limit n (length cells)) where
+  module _ (e : f ≡ None) (full : Bool) (room : full ≡ is_full tags values limit n (length cells)) where
     pub add-full : full ≡ true → Added-is tags values limit n tag cells Full tags values
     unfolding adding found_or append
     add-full y = record { answer = rw (← is, e, ← room, y); tags-are = rw (← is, e, ← room, y); values-are = rw (← is, e, ← room, y) }
@@ -152,24 +127,16 @@ module _ (tags values : List ℕ) (limit n tag : ℕ) (cells : List ℕ) (f : Fo
     }
 
 -- ---- cutting back
--- the loop of `zero_from` at i: what is left to do makes of the array what all of it makes of that at the start
-pub record Zeroing (n : ℕ) (a₀ a : List ℕ) (i : ℕ) : Type 0 where
-  pub long : length a ≡ length a₀
-  pub left : zero_from n a₀ ≡ zero_from i a
-
-pub zero-start : (n : ℕ) (a : List ℕ) → Zeroing n a a n
-zero-start n a = record { long = refl; left = refl }
-
-module _ (n : ℕ) (a₀ a : List ℕ) (i : ℕ) (s : Zeroing n a₀ a i) where
-  pub zero_more : i < length a → Zeroing n a₀ (set a i 0) (i + 1)
-  unfolding zero_from
-  zero_more h = record {
-    long = length-set a i 0 ∙ s.long;
-    left = s.left ∙ rw (length-set, one_more (length a) i h, add-one i, take-suc-set a i 0 h, append_snoc);
-  }
-
-  pub zero-end : length a ≤ i → a ≡ zero_from n a₀
-  unfolding zero_from
-  zero-end h = rw (s.left, no_more (length a) i h, take_all i a h, append-nil)
-
-pub ruleset zeros = (zero-start, zero_more, zero-end)
+-- the cells from the lesser of n and the length on are zeroes
+pub zeroed : (n k : ℕ) (a part : List ℕ) → k ≡ min n (length a) → part ≡ replicate (length a - k) 0 → put_mid k (length a - k) a part ≡ zero_from n a
+unfolding zero_from
+zeroed n k a part is e =
+    by-test (leb n (length a))
+    (λ l. let h : n ≤ length a = leb-true n (length a) l in
+    let q : k ≡ n = omega arith in
+    rw (e, q, drop-drop (length a - n) n a, drop_of_length-le a {i = n + (length a - n)} (omega arith), append-nil))
+    (λ l. let h : length a < n = leb-false n (length a) l in
+    let q : k ≡ length a = omega arith in
+    let z : length a - length a ≡ 0 = omega arith in
+    let y : length a - n ≡ 0 = omega arith in
+    rw (e, q, z, y, take_all (length a) a (omega arith), take_all n a (omega arith), drop_of_length-le a {i = length a} (omega arith)))

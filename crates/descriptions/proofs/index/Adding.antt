@@ -1,5 +1,6 @@
 -- Adding with the index: the answers, and the index of the grown pool.
 -- Assumes nothing.
+use Rattle.std.specs.Prelude.{Option, Some, None}
 use Prim.Native.Nat.{ℕ, ◌+◌, ◌<◌}
 use mathlib.Core.Path.{◌≡◌, ◌∙◌}
 use mathlib.Core.Bool.{Bool, true, false}
@@ -10,8 +11,6 @@ use native.Mathlib.Omega.{arith}
 use Rattle.cells.specs.Cell.{is_at}
 use Rattle.descriptions.specs.Description.{find, is_full, Added-is, Room, Put}
 use Rattle.descriptions.specs.Index.{bucket_of, head_of, on_chain, as_found, look_up, Index, entered}
-use Rattle.cells.specs.declared.Found.{Found}
-use Rattle.cells.specs.declared.Found.TheVariants.{At, Nothing}
 use Rattle.descriptions.specs.declared.description.Added.TheVariants.{There, New, Full}
 use Rattle.descriptions.proofs.description.Laws.{has_room, in-limit, add-there, add-full, add-new}
 use Rattle.descriptions.proofs.description.Growth.{at_same, put_same, put_count, put-tag, put-cells}
@@ -22,15 +21,15 @@ below-limit tags values n k full is e = omega (arith, in-limit tags values 8192 
 
 -- f is what the bucket b of the description has
 module _ (tags values : List ℕ) (n : ℕ) (index : List ℕ) (s : Index tags values n index) (tag : ℕ) (cells : List ℕ) (b : ℕ) (is : b ≡ bucket_of tag cells)
-    (f : Found) (looked : f ≡ as_found (on_chain index (λ q. is_at tags values q tag cells) (head_of index b) 0)) where
+    (f : Option ℕ) (looked : f ≡ as_found (on_chain index (λ q. is_at tags values q tag cells) (head_of index b) 0)) where
   pub found : f ≡ find tags values n tag cells
   unfolding look_up
   found = looked ∙ rw is (s.holds tag cells)
 
-  pub index-there : (p : ℕ) → f ≡ At p → Added-is tags values 8192 n tag cells (There p) tags values
+  pub index-there : (p : ℕ) → f ≡ Some p → Added-is tags values 8192 n tag cells (There p) tags values
   index-there p e = add-there tags values 8192 n tag cells f found p e
 
-  module _ (e : f ≡ Nothing) (full : Bool) (room : full ≡ is_full tags values 8192 n (length cells)) where
+  module _ (e : f ≡ None) (full : Bool) (room : full ≡ is_full tags values 8192 n (length cells)) where
     pub index-full : full ≡ true → Added-is tags values 8192 n tag cells Full tags values
     index-full y = add-full tags values 8192 n tag cells f found e full room y
 

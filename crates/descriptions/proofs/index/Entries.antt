@@ -1,9 +1,10 @@
 -- The index with one header more: after check 15 has passed it, and after it was added.
 -- Assumes nothing.
+use Rattle.std.specs.Prelude.{Option, Some, None, is_some}
 use Prim.Native.Nat.{ℕ, zero, suc, ◌+◌, ◌-◌, ◌≤◌, ◌<◌}
 use mathlib.Core.Path.{◌≡◌, refl, sym, ap, ◌∙◌}
 use mathlib.Core.Bool.{Bool, true, false, cond}
-use mathlib.Core.List.{List}
+use mathlib.Core.List.{List, [], ◌∷◌}
 use lib.ListN.{length, get_or, set, replicate, length-set}
 use lib.Seq.{get_or-set_same, get_or-set_other}
 use lib.Dec.{eqb}
@@ -12,13 +13,12 @@ use native.Mathlib.Numerals.{add-one}
 use borrow.Author.Tests.{eq-eqb, eqb-true, eqb-false}
 use Rattle.cells.specs.ByPlace.{by-test}
 use Rattle.cells.specs.Cell.{cells_of, is_at}
-use Rattle.cells.specs.Headers.{first_in, first_from, first_header}
+use Rattle.cells.specs.Headers.{first_in, first_from, first_header, headers_from}
 use Rattle.descriptions.specs.Description.{find, is_found, repeats, first_repeat, zero_from}
 use Rattle.descriptions.specs.Index.{bucket_of, head_of, chain_in, on_chain, as_found, look_up, PointsBack, Reached, start, next, Within, bucket_at, Linked, Index, entered, Indexes}
-use Rattle.cells.specs.declared.Found.{Found}
-use Rattle.cells.specs.declared.Found.TheVariants.{At, Nothing}
 use Rattle.cells.proofs.Cells.{same-eq, same_refl}
-use Rattle.cells.proofs.Walks.{first-end, first-here, first_next, first-last}
+use Rattle.cells.proofs.HeaderLists.{left_end, left_before, left_place, left_rest}
+use Rattle.cells.proofs.Walks.{first-end, first-here, first_next}
 use Rattle.descriptions.proofs.description.Fills.{Fills, filled, more, or_else, or_nothing, fills-grown, header-grown, well-formed-fills}
 use Rattle.descriptions.proofs.index.Laws.{chain-suc, on_or, on_same}
 
@@ -104,7 +104,7 @@ module _ (tags values : List ℕ) (p : ℕ) (index : List ℕ) (s : Index tags v
 
   -- what is found below p, and at p
   found-next : (tag : ℕ) (cells : List ℕ)
-      → find tags' values' p' tag cells ≡ or_else (find tags values p tag cells) (cond (is_at tags' values' p tag cells) (At p) Nothing)
+      → find tags' values' p' tag cells ≡ or_else (find tags values p tag cells) (cond (is_at tags' values' p tag cells) (Some p) None)
   unfolding find
   found-next tag cells =
       let test : ℕ → Bool = λ q. is_at tags values q tag cells in
@@ -203,7 +203,7 @@ module _ (tags values : List ℕ) (p : ℕ) (index : List ℕ) (s : Index tags v
           ∙ s.holds tag cells
 
       -- in the bucket of p the chain starts at p
-      in-bucket : b ≡ d → look_up tags' values' index⁺ tag cells ≡ or_else (find tags values p tag cells) (cond (test' p) (At p) Nothing)
+      in-bucket : b ≡ d → look_up tags' values' index⁺ tag cells ≡ or_else (find tags values p tag cells) (cond (test' p) (Some p) None)
       unfolding look_up
       in-bucket e =
           ap (λ x. as_found (on_chain index⁺ test' x 0)) (ap (head_of index⁺) (sym e) ∙ head-here ∙ add-one p)
@@ -212,7 +212,7 @@ module _ (tags values : List ℕ) (p : ℕ) (index : List ℕ) (s : Index tags v
           ∙ rw kept (by-test (test' p) (λ o. rw o) (λ o. rw o))
 
       -- in another bucket nothing changes, and the description at p is another
-      in-other : (b ≡ d → ⊥) → look_up tags' values' index⁺ tag cells ≡ or_else (find tags values p tag cells) (cond (test' p) (At p) Nothing)
+      in-other : (b ≡ d → ⊥) → look_up tags' values' index⁺ tag cells ≡ or_else (find tags values p tag cells) (cond (test' p) (Some p) None)
       unfolding look_up
       in-other n =
           by-test (test' p)
@@ -242,20 +242,21 @@ module _ (tags values : List ℕ) (p : ℕ) (index : List ℕ) (s : Index tags v
   index_back = s.links-back
 
   module _ (tag : ℕ) (t : tag ≡ get_or tags p 0) (cells : List ℕ) (c : cells ≡ cells_of values p) (b : ℕ) (is : b ≡ bucket_of tag cells) where
-    repeat-is : (f : Found) → f ≡ as_found (on_chain index (λ q. is_at tags values q tag cells) (head_of index b) 0) → is_found f ≡ repeats tags values p
+    repeat-is : (f : Option ℕ) → f ≡ as_found (on_chain index (λ q. is_at tags values q tag cells) (head_of index b) 0) → is_found f ≡ repeats tags values p
     unfolding repeats look_up
     repeat-is f e = ap is_found e ∙ rw (← t, ← c, is) (ap is_found (s.holds tag cells))
 
-    pub repeats-at : (f : Found) (q : ℕ) → f ≡ as_found (on_chain index (λ q. is_at tags values q tag cells) (head_of index b) 0) → f ≡ At q → true ≡ repeats tags values p
-    repeats-at f q e a = sym (ap is_found a) ∙ repeat-is f e
-
-    pub repeats-not : (f : Found) → f ≡ as_found (on_chain index (λ q. is_at tags values q tag cells) (head_of index b) 0) → f ≡ Nothing → false ≡ repeats tags values p
-    repeats-not f e a = sym (ap is_found a) ∙ repeat-is f e
+    pub repeats-by : (f : Option ℕ) → f ≡ as_found (on_chain index (λ q. is_at tags values q tag cells) (head_of index b) 0) → (r : Bool) → r ≡ is_some f → r ≡ repeats tags values p
+    repeats-by f e r q = q ∙ some f ∙ repeat-is f e
+      where
+        some : (f : Option ℕ) → is_some f ≡ is_found f
+        some (Some q) = refl
+        some None = refl
 
     pub entered-header : p < 8192 → b < 4093 → (index' : List ℕ) → index' ≡ entered index p b → Index tags values (p + (1 + get_or values p 0)) index'
     entered-header h small index' e = rw e (enter-index tags values p index s h tags values (λ q l. refl) (λ q l k tag cells. refl) b small (rw (is, t, c)))
 
-pub ruleset headers = (index_back, repeats-at, repeats-not, entered-header)
+pub ruleset headers = (index_back, repeats-by, entered-header)
 
 pub not-indexed : (tags values : List ℕ) (n : ℕ) (index : List ℕ) → 8192 < n → Indexes tags values n index
 not-indexed tags values n index h = record { whole = λ small fits none. absurd (omega arith) }
@@ -272,10 +273,7 @@ module _ (tags values : List ℕ) (n : ℕ) where
   entering-start index s = record { left = refl; has = s; filled-from = λ f. f }
 
   module _ (index : List ℕ) (p : ℕ) (s : Entering tags values n index p) where
-    pub entering-has : Index tags values p index
-    entering-has = s.has
-
-    pub entering-end : n ≤ p → Nothing ≡ first_repeat tags values n
+    pub entering-end : n ≤ p → None ≡ first_repeat tags values n
     entering-end h = first-end values n (repeats tags values) _ p s.left h
 
     pub entering-whole : n ≤ p → Indexes tags values n index
@@ -286,26 +284,16 @@ module _ (tags values : List ℕ) (n : ℕ) where
         at-end u (more b k f) i l = absurd (omega arith)
 
     module _ (h : p < n) (r : Bool) (is : r ≡ repeats tags values p) where
-      pub entering-here : r ≡ true → At p ≡ first_repeat tags values n
+      pub entering-here : r ≡ true → Some p ≡ first_repeat tags values n
       entering-here e = first-here values n (repeats tags values) _ p s.left h r is e
 
       pub entering-none : r ≡ true → (index' : List ℕ) → Indexes tags values n index'
       entering-none e index' = record { whole = λ small fits none. absurd (not-both (entering-here e ∙ none)) }
         where
-          not-both : At p ≡ Nothing → ⊥
+          not-both : Some p ≡ None → ⊥
           not-both z = let y : ◌≡◌ {A = ℕ} 0 1 = cc in omega arith
 
       module _ (e : r ≡ false) (k : ℕ) (cells : k ≡ get_or values p 0) where
-        pub entering-last : n - p ≤ k → Nothing ≡ first_repeat tags values n
-        entering-last l = first-last values n (repeats tags values) _ p s.left h r is e k cells l
-
-        pub entering-past : n - p ≤ k → (index' : List ℕ) → Indexes tags values n index'
-        entering-past l index' = record { whole = λ small fits none. absurd (past p (s.filled-from (well-formed-fills tags values n fits)) h (omega arith)) }
-          where
-            past : (u : ℕ) → Fills values n u → u < n → n - u ≤ get_or values u 0 → ⊥
-            past u filled m j = omega arith
-            past u (more b a f) m j = omega arith
-
         pub entering-next : (index' : List ℕ) → Index tags values (p + (1 + get_or values p 0)) index' → Entering tags values n index' (p + (1 + k))
         entering-next index' i = record {
           left = first_next values n (repeats tags values) _ p s.left h r is e k cells;
@@ -317,4 +305,49 @@ module _ (tags values : List ℕ) (n : ℕ) where
             one_more u filled l = absurd (omega arith)
             one_more u (more b j f) l = f
 
-pub ruleset entering = (entering-start, entering-has, entering-end, entering-whole, entering-here, entering-none, entering-last, entering-past, entering-next)
+-- the same, as the iterator over the headers has it: these are left
+pub record Walking (tags values : List ℕ) (n : ℕ) (index left : List ℕ) : Type 0 where
+  pub at : ℕ
+  pub is : left ≡ headers_from values n at
+  pub entering : Entering tags values n index at
+
+module _ (tags values : List ℕ) (n : ℕ) where
+  pub walking-start : (index left : List ℕ) → Index tags values 0 index → left ≡ headers_from values n 0 → Walking tags values n index left
+  walking-start index left s e = record { at = 0; is = e; entering = entering-start tags values n index s }
+
+  module _ (index left : List ℕ) (s : Walking tags values n index left) where
+    pub walking-end : left ≡ [] → None ≡ first_repeat tags values n
+    walking-end e = entering-end tags values n index s.at s.entering (left_end values n s.at (sym s.is ∙ e))
+
+    pub walking-whole : left ≡ [] → Indexes tags values n index
+    walking-whole e = entering-whole tags values n index s.at s.entering (left_end values n s.at (sym s.is ∙ e))
+
+    module _ (p : ℕ) (rest : List ℕ) (e : left ≡ p ∷ rest) where
+      here : headers_from values n s.at ≡ p ∷ rest
+      here = sym s.is ∙ e
+
+      there : s.at ≡ p
+      there = sym (left_place values n s.at p rest here)
+
+      state : Entering tags values n index p
+      state = rw (← there) s.entering
+
+      pub walking-below : p < n
+      walking-below = rw (← there) (left_before values n s.at p rest here)
+
+      pub walking-has : Index tags values p index
+      walking-has = state.has
+
+      module _ (r : Bool) (is : r ≡ repeats tags values p) where
+        pub walking-here : r ≡ true → Some p ≡ first_repeat tags values n
+        walking-here = entering-here tags values n index p state walking-below r is
+
+        pub walking-none : r ≡ true → (index' : List ℕ) → Indexes tags values n index'
+        walking-none = entering-none tags values n index p state walking-below r is
+
+        pub walking-next : r ≡ false → (index' : List ℕ) → Index tags values (p + (1 + get_or values p 0)) index' → Walking tags values n index' rest
+        walking-next o index' i = record {
+          at = p + (1 + get_or values p 0);
+          is = rw there at (left_rest values n s.at p rest here);
+          entering = entering-next tags values n index p state walking-below r is o (get_or values p 0) refl index' i;
+        }

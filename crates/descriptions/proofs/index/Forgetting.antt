@@ -1,5 +1,6 @@
 -- The index with one header less, the last one.
 -- Assumes nothing.
+use Rattle.std.specs.Prelude.{Option, Some, None}
 use Prim.Native.Nat.{ℕ, zero, suc, ◌+◌, ◌-◌, ◌≤◌, ◌<◌}
 use mathlib.Core.Path.{◌≡◌, refl, sym, ap, ◌∙◌}
 use mathlib.Core.Bool.{Bool, true, false, cond}
@@ -16,8 +17,6 @@ use Rattle.cells.specs.Cell.{cells_of, is_at}
 use Rattle.cells.specs.Headers.{first_header}
 use Rattle.descriptions.specs.Description.{find}
 use Rattle.descriptions.specs.Index.{bucket_of, head_of, chain_in, on_chain, as_found, look_up, PointsBack, Reached, next, Within, bucket_at, Linked, Index, unlinked, without, Earlier}
-use Rattle.cells.specs.declared.Found.{Found}
-use Rattle.cells.specs.declared.Found.TheVariants.{At, Nothing}
 use Rattle.cells.proofs.Walks.{first-end, first-here, first_next, first_below}
 use Rattle.descriptions.proofs.description.Fills.{or_else, header-grown}
 use Rattle.descriptions.proofs.index.Laws.{chain-suc, on_or}
@@ -25,20 +24,20 @@ use Rattle.descriptions.proofs.index.Entries.{reached-fills}
 use Rattle.descriptions.proofs.index.Walked.{order, within}
 
 -- ---- what is found below p
-abbrev Below : ℕ → Found → Type 0
-Below p f = (q : ℕ) → f ≡ At q → q < p
+abbrev Below : ℕ → Option ℕ → Type 0
+Below p f = (q : ℕ) → f ≡ Some q → q < p
 
 -- x and f are found below p, and what is found at p is the same
-same-below : (p : ℕ) (x f z : Found) → Below p x → Below p f → ((q : ℕ) → z ≡ At q → q ≡ p) → or_else x z ≡ or_else f z → x ≡ f
-same-below p (At a) (At c) z hx hf hz e = e
-same-below p (At a) Nothing z hx hf hz e = absurd (omega (arith, hx a refl, hz a (sym e)))
-same-below p Nothing (At c) z hx hf hz e = absurd (omega (arith, hf c refl, hz c e))
-same-below p Nothing Nothing z hx hf hz e = refl
+same-below : (p : ℕ) (x f z : Option ℕ) → Below p x → Below p f → ((q : ℕ) → z ≡ Some q → q ≡ p) → or_else x z ≡ or_else f z → x ≡ f
+same-below p (Some a) (Some c) z hx hf hz e = e
+same-below p (Some a) None z hx hf hz e = absurd (omega (arith, hx a refl, hz a (sym e)))
+same-below p None (Some c) z hx hf hz e = absurd (omega (arith, hf c refl, hz c e))
+same-below p None None z hx hf hz e = refl
 
-or-twice : (f z : Found) → or_else (or_else f z) z ≡ or_else f z
-or-twice (At a) z = refl
-or-twice Nothing (At a) = refl
-or-twice Nothing Nothing = refl
+or-twice : (f z : Option ℕ) → or_else (or_else f z) z ≡ or_else f z
+or-twice (Some a) z = refl
+or-twice None (Some a) = refl
+or-twice None None = refl
 
 -- ---- the way out of `leave`: x is the head of bucket b, as an index
 module _ (index : List ℕ) (p b x : ℕ) (is : x ≡ head_of index b) where
@@ -67,7 +66,7 @@ module _ (index : List ℕ) (test : ℕ → Bool) (s : PointsBack index) (p : �
   unfolding on_chain
   on_below c h q e = found (chain_in index test c c 0) (chain-below c c 0 h (omega arith)) q e
     where
-      found : (r : ℕ) → r ≤ p → (q : ℕ) → as_found r ≡ At q → q < p
+      found : (r : ℕ) → r ≤ p → (q : ℕ) → as_found r ≡ Some q → q < p
       found zero l q e = let z : ◌≡◌ {A = ℕ} 0 1 = cc in absurd (omega arith)
       found (suc a) l q e = let z : a ≡ q = cc in omega arith
 
@@ -208,8 +207,8 @@ module _ (tags values : List ℕ) (p : ℕ) (at : Reached values p) (index : Lis
       abbrev d : ℕ
       d = bucket_of tag cells
 
-      abbrev here : Found
-      here = cond (test p) (At p) Nothing
+      abbrev here : (Option ℕ)
+      here = cond (test p) (Some p) None
 
       found-next : find tags values (p + (1 + get_or values p 0)) tag cells ≡ or_else (find tags values p tag cells) here
       unfolding find
@@ -225,8 +224,8 @@ module _ (tags values : List ℕ) (p : ℕ) (at : Reached values p) (index : Lis
       unfolding find
       find-below q e = first_below values p test q e
 
-      here-is : (q : ℕ) → here ≡ At q → q ≡ p
-      here-is q = by-test (test p) (λ e o. let z : At p ≡ At q = rw e at o in let y : p ≡ q = cc in sym y) (λ e o. let z : Nothing ≡ At q = rw e at o in let y : ◌≡◌ {A = ℕ} 0 1 = cc in absurd (omega arith))
+      here-is : (q : ℕ) → here ≡ Some q → q ≡ p
+      here-is q = by-test (test p) (λ e o. let z : Some p ≡ Some q = rw e at o in let y : p ≡ q = cc in sym y) (λ e o. let z : None ≡ Some q = rw e at o in let y : ◌≡◌ {A = ℕ} 0 1 = cc in absurd (omega arith))
 
       -- the chain is left with c as its head
       left-chain : (c : ℕ) → head_of index⁻ d ≡ c → c ≤ p → or_else (as_found (on_chain index test c 0)) here ≡ or_else (find tags values p tag cells) here

@@ -1,5 +1,6 @@
 -- Laws of hashing and of chains, one for each way out of the code.
 -- Assumes nothing.
+use Rattle.std.specs.Prelude.{Option, Some, None}
 use Prim.Native.Nat.{ℕ, zero, suc, ◌+◌, ◌-◌, ◌*◌, ◌%◌, ◌≤◌, ◌<◌}
 use mathlib.Core.Path.{◌≡◌, refl, sym, ap, ◌∙◌}
 use mathlib.Core.Bool.{Bool, cond}
@@ -12,8 +13,6 @@ use native.Mathlib.Numerals.{add-one}
 use Rattle.cells.specs.Cell.{is_at}
 use Rattle.cells.specs.ByPlace.{by-test}
 use Rattle.descriptions.specs.Index.{hash_from, bucket_of, chain_in, on_chain, head_of, as_found, look_up, PointsBack}
-use Rattle.cells.specs.declared.Found.{Found}
-use Rattle.cells.specs.declared.Found.TheVariants.{At, Nothing}
 use Rattle.descriptions.proofs.description.Fills.{or_else}
 
 -- ---- the bucket of a description: h is the hash of the tag and the cells before i
@@ -90,9 +89,9 @@ module _ (c : ℕ) where
 pub ruleset descent = (place-less, link-less, index-less)
 
 -- ---- what is found on the chain, else what was found before it
-or_assoc : (a b c : Found) → or_else (or_else a b) c ≡ or_else a (or_else b c)
-or_assoc (At p) b c = refl
-or_assoc Nothing b c = refl
+or_assoc : (a b c : Option ℕ) → or_else (or_else a b) c ≡ or_else a (or_else b c)
+or_assoc (Some p) b c = refl
+or_assoc None b c = refl
 
 module _ (index : List ℕ) (test : ℕ → Bool) where
   chain-or : (f c last : ℕ) → as_found (chain_in index test f c last) ≡ or_else (as_found (chain_in index test f c 0)) (as_found last)
@@ -100,9 +99,9 @@ module _ (index : List ℕ) (test : ℕ → Bool) where
   chain-or zero c last = refl
   chain-or (suc f) zero last = refl
   chain-or (suc f) (suc q) last =
-      let ih : as_found (chain_in index test f (get_or index q 0) (suc q)) ≡ or_else (as_found (chain_in index test f (get_or index q 0) 0)) (At q) = chain-or f (get_or index q 0) (suc q) in
+      let ih : as_found (chain_in index test f (get_or index q 0) (suc q)) ≡ or_else (as_found (chain_in index test f (get_or index q 0) 0)) (Some q) = chain-or f (get_or index q 0) (suc q) in
       by-test (test q)
-      (λ e. rw e (ih ∙ sym (ap (λ a. or_else a (as_found last)) ih ∙ or_assoc (as_found (chain_in index test f (get_or index q 0) 0)) (At q) (as_found last))))
+      (λ e. rw e (ih ∙ sym (ap (λ a. or_else a (as_found last)) ih ∙ or_assoc (as_found (chain_in index test f (get_or index q 0) 0)) (Some q) (as_found last))))
       (λ e. rw e (chain-or f (get_or index q 0) last))
 
   pub on_or : (c last : ℕ) → as_found (on_chain index test c last) ≡ or_else (as_found (on_chain index test c 0)) (as_found last)
@@ -125,21 +124,21 @@ module _ (index index' : List ℕ) (test test' : ℕ → Bool) (p : ℕ) (s : Po
   on_same i last h = chain_same (get_or index i 0) i (get_or index i 0) last refl h
 
 -- ---- what the chain of a bucket gives
-as-found : (l : ℕ) → (l ≡ 0 → ⊥) → At (l - 1) ≡ as_found l
+as-found : (l : ℕ) → (l ≡ 0 → ⊥) → Some (l - 1) ≡ as_found l
 as-found zero n = absurd (n refl)
-as-found (suc q) n = ap At (omega arith)
+as-found (suc q) n = ap Some (omega arith)
 
 module _ (last w : ℕ) (is : last ≡ w) where
-  pub none_found : last ≡ 0 → Nothing ≡ as_found w
+  pub none_found : last ≡ 0 → None ≡ as_found w
   none_found e = rw (← is, e)
 
-  pub one_found : (x : ℕ) → (last ≡ 0 → ⊥) → x ≡ last → At (x - 1) ≡ as_found w
-  one_found x n e = ap At (ap (λ y. y - 1) e) ∙ rw (← is) (as-found last n)
+  pub one_found : (x : ℕ) → (last ≡ 0 → ⊥) → x ≡ last → Some (x - 1) ≡ as_found w
+  one_found x n e = ap Some (ap (λ y. y - 1) e) ∙ rw (← is) (as-found last n)
 
 pub ruleset founds = (none_found, one_found)
 
 -- what the index has of a description, found in the chain of its bucket
-pub looks-up : (tags values index : List ℕ) (tag : ℕ) (cells : List ℕ) (b : ℕ) → b ≡ bucket_of tag cells → (r : Found)
+pub looks-up : (tags values index : List ℕ) (tag : ℕ) (cells : List ℕ) (b : ℕ) → b ≡ bucket_of tag cells → (r : Option ℕ)
     → r ≡ as_found (on_chain index (λ q. is_at tags values q tag cells) (head_of index b) 0) → r ≡ look_up tags values index tag cells
 unfolding look_up
 looks-up tags values index tag cells b e r is = is ∙ ap (λ (x : ℕ). as_found (on_chain index (λ q. is_at tags values q tag cells) (head_of index x) 0)) e

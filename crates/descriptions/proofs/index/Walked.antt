@@ -1,8 +1,8 @@
 -- The places that the walk over the headers reaches, in their order; and the walk that enters the headers below n.
 -- Assumes nothing.
 use Prim.Native.Nat.{ℕ, zero, suc, ◌+◌, ◌≤◌, ◌<◌}
-use mathlib.Core.Path.{◌≡◌}
-use mathlib.Core.List.{List}
+use mathlib.Core.Path.{◌≡◌, sym, ◌∙◌}
+use mathlib.Core.List.{List, [], ◌∷◌}
 use mathlib.Core.Logic.{◌⊎◌, inl, inr, ⊎_elim}
 use lib.ListN.{length, get_or}
 use lib.Dec.{eqb}
@@ -11,6 +11,8 @@ use borrow.Author.Tests.{eqb-true, eqb-false}
 use Rattle.cells.specs.ByPlace.{by-test}
 use Rattle.descriptions.specs.Description.{zero_from}
 use Rattle.descriptions.specs.Index.{Reached, start, next, Within, Index, Earlier}
+use Rattle.cells.specs.Headers.{headers_from}
+use Rattle.cells.proofs.HeaderLists.{left_end, left_before, left_place, left_rest}
 use Rattle.descriptions.proofs.index.Entries.{index-start}
 
 -- ---- of two places that the walk reaches, one stands at or before the other, or after the other's cells
@@ -37,30 +39,45 @@ module _ (values : List ℕ) where
       (λ after. record { before = h; fits = omega arith; header = rq })
       (order rq rp)
 
--- ---- the walk that enters the headers below n: those below p are in the index
-pub record Entered (tags values : List ℕ) (n : ℕ) (index : List ℕ) (p : ℕ) : Type 0 where
-  pub has : Index tags values p index
-  pub before : p ≤ n
+-- ---- the walk that enters the headers below n: those below `at` are in the index, and the iterator has those from there on left
+pub record Entered (tags values : List ℕ) (n : ℕ) (index left : List ℕ) : Type 0 where
+  pub at : ℕ
+  pub is : left ≡ headers_from values n at
+  pub has : Index tags values at index
+  pub before : at ≤ n
 
 module _ (tags values : List ℕ) (n : ℕ) (ask : Earlier values n n) where
-  pub entered-start : (index old : List ℕ) → length index ≡ 12288 → index ≡ zero_from 0 old → Entered tags values n index 0
-  entered-start index old l e = record { has = index-start tags values index old l e; before = omega arith }
+  pub entered-start : (index old left : List ℕ) → length index ≡ 12288 → index ≡ zero_from 0 old → left ≡ headers_from values n 0 → Entered tags values n index left
+  entered-start index old left l e is = record { at = 0; is = is; has = index-start tags values index old l e; before = omega arith }
 
-  module _ (index : List ℕ) (p : ℕ) (s : Entered tags values n index p) where
-    pub entered-has : Index tags values p index
-    entered-has = s.has
+  module _ (index left : List ℕ) (s : Entered tags values n index left) where
+    pub entered-end : left ≡ [] → Index tags values n index
+    entered-end e =
+        let h : n ≤ s.at = left_end values n s.at (sym s.is ∙ e) in
+        let z : s.at ≡ n = omega (arith, s.before) in
+        rw z at s.has
 
-    pub entered-end : n ≤ p → Index tags values n index
-    entered-end h = let z : p ≡ n = omega (arith, s.before) in rw z at s.has
+    module _ (p : ℕ) (rest : List ℕ) (e : left ≡ p ∷ rest) where
+      here : headers_from values n s.at ≡ p ∷ rest
+      here = sym s.is ∙ e
 
-    module _ (h : p < n) (k : ℕ) (is : k ≡ get_or values p 0) where
-      entered-past : p + (1 + get_or values p 0) ≤ n
-      entered-past = ⊎_elim (λ back. absurd (omega arith)) (λ after. after) (order values s.has.reached ask.reached)
+      there : s.at ≡ p
+      there = sym (left_place values n s.at p rest here)
 
-      pub entered-small : p + (1 + k) ≤ 8192
-      entered-small = omega (arith, entered-past, ask.small)
+      pub entered-has : Index tags values p index
+      entered-has = rw (← there) s.has
 
-      pub entered-next : (index' : List ℕ) → Index tags values (p + (1 + get_or values p 0)) index' → Entered tags values n index' (p + (1 + k))
-      entered-next index' i = record { has = rw is i; before = omega (arith, entered-past) }
+      pub entered-small : p < 8192
+      entered-small =
+          let h : p < n = rw (← there) (left_before values n s.at p rest here) in
+          omega (arith, ask.small)
 
-pub ruleset entered-headers = (entered-start, entered-has, entered-end, entered-small, entered-next)
+      pub entered-next : (index' : List ℕ) → Index tags values (p + (1 + get_or values p 0)) index' → Entered tags values n index' rest
+      entered-next index' i = record {
+        at = p + (1 + get_or values p 0);
+        is = rw there at (left_rest values n s.at p rest here);
+        has = i;
+        before =
+            let h : p < n = rw (← there) (left_before values n s.at p rest here) in
+            ⊎_elim (λ back. absurd (omega arith)) (λ after. after) (order values entered-has.reached ask.reached);
+      }

@@ -1,5 +1,6 @@
 -- Laws of the code, one for each way through it.
 -- Assumes nothing.
+use Rattle.std.specs.Prelude.{Option, Some, None}
 use Prim.Native.Nat.{ℕ, ◌+◌, ◌-◌, ◌*◌, ◌/◌, ◌%◌, ◌≤◌, ◌<◌}
 use mathlib.Core.Path.{◌≡◌, refl, sym, ap₂, ◌∙◌}
 use mathlib.Core.Bool.{Bool, true, false, cond, ◌||◌}
@@ -14,8 +15,6 @@ use borrow.Author.Tests.{lt-ltb, le-ltb, eq-eqb, ne_eqb, eqb-true, eqb-false, lt
 use Rattle.cells.specs.Cell.{sort_of, operands_of}
 use Rattle.cells.specs.ByPlace.{by-test}
 use Rattle.cells.specs.declared.TermPlace.{TermPlace}
-use Rattle.cells.specs.declared.Found.{Found}
-use Rattle.cells.specs.declared.Found.TheVariants as found
 use Rattle.descriptions.specs.Description.{find}
 use Rattle.free_variables.specs.Free.{pair_in, any_of, let_values, is_free}
 use Rattle.free_variables.specs.FreeMemo.{pair_sort, pairs_bind, free_below}
@@ -28,7 +27,7 @@ use Rattle.free_variables.specs.declared.term_names.FreeFrom.TheVariants as belo
 use Rattle.bindings.specs.Binding.{Binding, bindings_of, same}
 use Rattle.free_pairs.specs.BindingFree.{binding_free, free_at}
 use Rattle.bindings.specs.BindingAnswer.{pair, pair_at}
-use Rattle.bindings.proofs.binding.Laws.{pairs_end, pairs_next, same-is}
+use Rattle.bindings.proofs.binding.Laws.{pairs_none, pairs_one, same-is}
 use Rattle.free_pairs.specs.Mask.{mask_of, without, bound_in}
 use Rattle.free_pairs.specs.MaskWalk.{binding_below, mask_among, MaskMemo, MaskWalked, MaskNoted}
 use Rattle.free_pairs.proofs.free_masks.Variables.{stands}
@@ -40,10 +39,10 @@ rest-is l h = take_all (length l - 2) (drop 2 l) (rw (length-drop 2 l) (omega ar
 
 module _ (l : List ℕ) where
   none_left : length l < 2 → bindings_of l ≡ []
-  none_left h = pairs_end l 0 (omega arith)
+  none_left = pairs_none l
 
   first-left : 2 ≤ length l → bindings_of l ≡ pair_at l 0 ∷ bindings_of (take (length l - 2) (drop 2 l))
-  first-left h = rw (rest-is l (λ q. omega arith)) (pairs_next l 0 (omega arith))
+  first-left = pairs_one l
 
 -- ---- equal pairs
 module _ (l : List ℕ) (test : Binding → Bool) where
@@ -63,8 +62,6 @@ module _ (l : List ℕ) (test : Binding → Bool) where
     -- the rest has room for one more bit
     pub equal-room : length l ≤ 62 → rest < 2147483648
     equal-room g = rw (is, rest-is l (λ q. omega arith)) (mask_fits test (drop 2 l) (rw (length-drop 2 l) (omega arith)))
-
-pub ruleset equal = (equal-end, equal-yes, equal-no)
 
 -- ---- pairs that a binder binds
 module _ (values : List ℕ) (lets : Bool) (run l : List ℕ) (mask : ℕ) where
@@ -116,9 +113,9 @@ module _ (tags values : List ℕ) (n t : ℕ) (k : get_or tags t 0 ≡ 21) where
     unfolding binding_free
     other-pair a d = by (find tags values n 21 (a.sort ∷ (a.name ∷ []))) refl
       where
-        by : (f : Found) → find tags values n 21 (a.sort ∷ (a.name ∷ [])) ≡ f → free_at tags values t f ≡ false
-        by found.Nothing q = refl
-        by (found.At v) q =
+        by : (f : Option ℕ) → find tags values n 21 (a.sort ∷ (a.name ∷ [])) ≡ f → free_at tags values t f ≡ false
+        by None q = refl
+        by (Some v) q =
             let w = stands tags values n a.name a.sort v q in
             rw (variable-free v)
             (by-test (eqb v t)
@@ -131,7 +128,7 @@ module _ (tags values : List ℕ) (n t : ℕ) (k : get_or tags t 0 ≡ 21) where
       pub variable-none : mask ≡ 0 → 0 ≡ mask_of (binding_free tags values n t) l
       variable-none z = sym (mask-less (same (pair name sort)) (binding_free tags values n t) l other-pair (sym is ∙ z))
 
-      module _ (f : Found) (there : f ≡ find tags values n 21 (sort ∷ (name ∷ []))) where
+      module _ (f : Option ℕ) (there : f ≡ find tags values n 21 (sort ∷ (name ∷ []))) where
         -- a pair of this name and sort is the variable at t if that is found
         this-pair : (a : Binding) → same (pair name sort) a ≡ true → binding_free tags values n t a ≡ free_at tags values t f
         unfolding binding_free
@@ -143,10 +140,10 @@ module _ (tags values : List ℕ) (n t : ℕ) (k : get_or tags t 0 ≡ 21) where
         not_there : free_at tags values t f ≡ false → 0 ≡ mask_of (binding_free tags values n t) l
         not_there q = sym (mask-none (binding_free tags values n t) l (λ a. by-test (same (pair name sort) a) (λ e. both false q a e) (λ d. other-pair a d)))
 
-        pub variable-lost : f ≡ found.Nothing → 0 ≡ mask_of (binding_free tags values n t) l
+        pub variable-lost : f ≡ None → 0 ≡ mask_of (binding_free tags values n t) l
         variable-lost e = not_there (rw e)
 
-        module _ (v : ℕ) (e : f ≡ found.At v) where
+        module _ (v : ℕ) (e : f ≡ Some v) where
           pub variable-here : v ≡ t → mask ≡ mask_of (binding_free tags values n t) l
           variable-here o =
               is
@@ -176,40 +173,40 @@ any-false-of test [] h = refl
 any-false-of test (u ∷ l) h = rw (h u, any-false-of test l h)
 
 -- the test of a variable that a scan finds
-abbrev at_found : (ℕ → Bool) → Found → Bool
-at_found test (found.At v) = test v
-at_found test found.Nothing = false
+abbrev at_found : (ℕ → Bool) → Option ℕ → Bool
+at_found test (Some v) = test v
+at_found test None = false
 
 module _ (tags values : List ℕ) (n t : ℕ) where
   binding-is : (test : ℕ → Bool) → Exactly tags values t test → (a : Binding) → binding_free tags values n t a ≡ at_found test (find tags values n 21 (a.sort ∷ (a.name ∷ [])))
   unfolding binding_free free_in
   binding-is test w a = by (find tags values n 21 (a.sort ∷ (a.name ∷ []))) refl
     where
-      by : (f : Found) → find tags values n 21 (a.sort ∷ (a.name ∷ [])) ≡ f → free_at tags values t f ≡ at_found test f
-      by found.Nothing q = refl
-      by (found.At v) q = w.at v (stands tags values n a.name a.sort v q).tag
+      by : (f : Option ℕ) → find tags values n 21 (a.sort ∷ (a.name ∷ [])) ≡ f → free_at tags values t f ≡ at_found test f
+      by None q = refl
+      by (Some v) q = w.at v (stands tags values n a.name a.sort v q).tag
 
-  no_found : (f : Found) → at_found (λ v. false) f ≡ false
-  no_found (found.At v) = refl
-  no_found found.Nothing = refl
+  no_found : (f : Option ℕ) → at_found (λ v. false) f ≡ false
+  no_found (Some v) = refl
+  no_found None = refl
 
-  under-found : (u : ℕ) (a : Binding) (f : Found) → find tags values n 21 (a.sort ∷ (a.name ∷ [])) ≡ f
+  under-found : (u : ℕ) (a : Binding) (f : Option ℕ) → find tags values n 21 (a.sort ∷ (a.name ∷ [])) ≡ f
       → at_found (free_under tags values t u) f ≡ cond (bound_in values (eqb (get_or tags t 0) 27) (operands_of tags values t) a) false (free_at tags values u f)
   unfolding free_under free_in bound_in pairs_bind
-  under-found u a found.Nothing q =
+  under-found u a None q =
       by-test (bound_in values (eqb (get_or tags t 0) 27) (operands_of tags values t) a) (λ o. rw o) (λ o. rw o)
-  under-found u a (found.At v) q = let w = stands tags values n a.name a.sort v q in rw (w.name-is, w.sort-is)
+  under-found u a (Some v) q = let w = stands tags values n a.name a.sort v q in rw (w.name-is, w.sort-is)
 
-  among-found : (run : List ℕ) (f : Found) → at_found (free_among tags values t run) f ≡ any_of (λ u. cond (ltb u t) (free_at tags values u f) false) run
+  among-found : (run : List ℕ) (f : Option ℕ) → at_found (free_among tags values t run) f ≡ any_of (λ u. cond (ltb u t) (free_at tags values u f) false) run
   unfolding free_among free_below
-  among-found run found.Nothing = sym (any-false-of _ run (λ u. by-test (ltb u t) (λ o. rw o) (λ o. rw o)))
-  among-found run (found.At v) = refl
+  among-found run None = sym (any-false-of _ run (λ u. by-test (ltb u t) (λ o. rw o) (λ o. rw o)))
+  among-found run (Some v) = refl
 
-  let-found : (u : ℕ) (f : Found)
+  let-found : (u : ℕ) (f : Option ℕ)
       → at_found (free_in_let tags values t u) f ≡ at_found (free_among tags values t (let_values (operands_of tags values t))) f || at_found (free_under tags values t u) f
   unfolding free_in_let
-  let-found u found.Nothing = refl
-  let-found u (found.At v) = refl
+  let-found u None = refl
+  let-found u (Some v) = refl
 
   under-is : (u : ℕ) → Exactly tags values t (free_under tags values t u) → (a : Binding)
       → binding_free tags values n t a ≡ cond (bound_in values (eqb (get_or tags t 0) 27) (operands_of tags values t) a) false (binding_free tags values n u a)

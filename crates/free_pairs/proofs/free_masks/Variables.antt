@@ -1,5 +1,6 @@
 -- A variable that the scan for a name and a sort finds has that name and sort.
 -- Assumes nothing.
+use Rattle.std.specs.Prelude.{Some}
 use Prim.Native.Nat.{ℕ, zero, suc, ◌+◌}
 use mathlib.Core.Path.{◌≡◌}
 use mathlib.Core.Bool.{true, false}
@@ -11,7 +12,6 @@ use native.Mathlib.Omega.{arith}
 use borrow.Author.Tests.{eqb-true}
 use Rattle.cells.specs.Cell.{cells_of, sort_of, is_at}
 use Rattle.cells.specs.ByPlace.{by-test}
-use Rattle.cells.specs.declared.Found.TheVariants as found
 use Rattle.cells.proofs.Cells.{same-eq}
 use Rattle.descriptions.specs.Description.{find}
 use Rattle.cells.proofs.Walks.{found-holds}
@@ -43,6 +43,6 @@ variable-at tags values name sort v e =
     })
     (λ o. absurd (let z : false ≡ true = rw o at e in let n : ◌≡◌ {A = ℕ} 0 1 = cc in omega arith))
 
-pub stands : (tags values : List ℕ) (n name sort v : ℕ) → find tags values n 21 (sort ∷ (name ∷ [])) ≡ found.At v → Variable tags values name sort v
+pub stands : (tags values : List ℕ) (n name sort v : ℕ) → find tags values n 21 (sort ∷ (name ∷ [])) ≡ Some v → Variable tags values name sort v
 unfolding find
 stands tags values n name sort v e = variable-at tags values name sort v (found-holds values n (λ q. is_at tags values q 21 (sort ∷ (name ∷ []))) v e)

@@ -4,17 +4,16 @@ use Prim.Native.Nat.{ℕ, zero, suc, ◌+◌, ◌-◌, ◌≤◌, ◌<◌}
 use mathlib.Core.Path.{◌≡◌, refl, sym, ap, fun_ext, ◌∙◌}
 use mathlib.Core.Bool.{Bool, true, false, cond, ◌||◌, or-false}
 use mathlib.Core.List.{List, [], ◌∷◌}
-use lib.ListN.{length, get_or, take, drop, set, replicate, length-drop, drop_of_length-le}
+use lib.ListN.{length, get_or, take, drop, set, replicate, length-drop}
 use lib.Seq.{drop-cons, take_all, get_or-set_other}
 use lib.Dec.{ltb, eqb}
 use native.Mathlib.Omega.{arith}
-use native.Mathlib.Numerals.{add-one}
 use borrow.Author.Tests.{lt-ltb, le-ltb, eq-eqb, ne_eqb, eqb-true, eqb-false, ltb-true}
 use Rattle.cells.specs.Cell.{sort_of, operands_of}
 use Rattle.cells.specs.ByPlace.{by-test, down_to, by_place, by_place-is}
 use Rattle.cells.specs.Marks.{MarkNoted}
-use Rattle.cells.proofs.marks.Laws.{zeros, Filled, fill_start, fill-next, fill_end}
-use Rattle.free_variables.specs.Free.{pair_in, bound_by, let_binds, any_of, values_in, let_values, under_pairs, free_step, is_free, mark_of, Marked}
+use Rattle.cells.proofs.marks.Laws.{zeros}
+use Rattle.free_variables.specs.Free.{pair_in, bound_by, let_binds, any_of, values_in, let_values, under_pairs, free_step, is_free, mark_of}
 use Rattle.free_variables.specs.FreeMemo.{pair_sort, is_pair, pairs_bind, free_below, FreeMeans, NotFreeMemo, FreeAnswered}
 use Rattle.cells.specs.declared.TermPlace.{TermPlace}
 use Rattle.free_variables.specs.declared.free_vars.Step.{Step}
@@ -26,14 +25,14 @@ module _ (values : List ℕ) (lets : Bool) (name sort a b : ℕ) where
   unfolding is_pair
   pair-name n = rw (ne_eqb _ _ n)
 
-  module _ (e : a ≡ name) where
-    pub pair-value : lets ≡ true → (s : ℕ) → s ≡ sort_of values b → eqb s sort ≡ is_pair values lets name sort a b
+  module _ (e : a ≡ name) (r : Bool) where
+    pub pair-value : lets ≡ true → (s : ℕ) → s ≡ sort_of values b → r ≡ eqb s sort → r ≡ is_pair values lets name sort a b
     unfolding is_pair pair_sort
-    pair-value l s q = rw (eq-eqb _ _ e, l, ← q)
+    pair-value l s q is = rw (eq-eqb _ _ e, l, ← q) is
 
-    pub pair-sort : lets ≡ false → eqb b sort ≡ is_pair values lets name sort a b
+    pub pair-sort : lets ≡ false → r ≡ eqb b sort → r ≡ is_pair values lets name sort a b
     unfolding is_pair pair_sort
-    pair-sort l = rw (eq-eqb _ _ e, l)
+    pair-sort l is = rw (eq-eqb _ _ e, l) is
 
 pub ruleset pair = (pair-name, pair-value, pair-sort)
 
@@ -42,32 +41,33 @@ pub bind-by : (values : List ℕ) (lets : Bool) (v : ℕ) (run : List ℕ) (name
 unfolding pairs_bind
 bind-by values lets v run name sort a b r e = rw (← a, ← b) e
 
--- w says whether the pairs from i on hold the name with the sort
-module _ (w : Bool) (values : List ℕ) (lets : Bool) (name sort : ℕ) (l : List ℕ) (i : ℕ) (inv : w ≡ pair_in (pair_sort values lets) name sort (drop i l)) where
-  pub bind-end : length l ≤ i → false ≡ w
-  unfolding pair_in
-  bind-end h = rw (inv, drop_of_length-le l h)
+-- the pairs of a run, at its end and at a pair
+pairs-end : (f : ℕ → ℕ) (name sort : ℕ) (l : List ℕ) → length l < 2 → pair_in f name sort l ≡ false
+unfolding pair_in
+pairs-end f name sort [] h = refl
+pairs-end f name sort (a ∷ []) h = refl
+pairs-end f name sort (a ∷ (b ∷ l)) h = absurd (omega arith)
 
-  module _ (h : i < length l) where
-    pub bind-odd : length l - i < 2 → false ≡ w
-    unfolding pair_in
-    bind-odd o = rw (inv, drop-cons l i 0 h, drop_of_length-le l {i = suc i} (omega arith))
+pairs-next : (values : List ℕ) (lets : Bool) (name sort : ℕ) (l : List ℕ) → 2 ≤ length l
+    → pair_in (pair_sort values lets) name sort l ≡ (is_pair values lets name sort (get_or l 0 0) (get_or l 1 0) || pair_in (pair_sort values lets) name sort (take (length l - 2) (drop 2 l)))
+unfolding pair_in is_pair
+pairs-next values lets name sort [] h = absurd (omega arith)
+pairs-next values lets name sort (a ∷ []) h = absurd (omega arith)
+pairs-next values lets name sort (a ∷ (b ∷ l)) h =
+    let e : suc (suc (length l)) - 2 ≡ length l = omega arith in
+    rw (e, take_all (length l) l (omega arith))
 
-    module _ (e : 2 ≤ length l - i) (r : Bool) (is : r ≡ is_pair values lets name sort (get_or l i 0) (get_or l (i + 1) 0)) where
-      two : drop i l ≡ get_or l i 0 ∷ (get_or l (i + 1) 0 ∷ drop (i + 2) l)
-      two =
-          let after : suc (i + 1) ≡ i + 2 = omega arith in
-          rw (drop-cons l i 0 h, drop-cons l (suc i) 0 (omega arith), ← add-one i, after)
+-- w says whether the pairs that are left hold the name with the sort
+module _ (w : Bool) (values : List ℕ) (lets : Bool) (name sort : ℕ) (l : List ℕ) (inv : w ≡ pair_in (pair_sort values lets) name sort l) where
+  pub bind-end : length l < 2 → false ≡ w
+  bind-end h = rw (inv, pairs-end (pair_sort values lets) name sort l h)
 
-      pub bind-here : r ≡ true → true ≡ w
-      unfolding pair_in is_pair
-      bind-here y = rw (inv, two, ← is, y)
+  module _ (h : 2 ≤ length l) (r : Bool) (is : r ≡ is_pair values lets name sort (get_or l 0 0) (get_or l 1 0)) where
+    pub bind-here : r ≡ true → true ≡ w
+    bind-here y = rw (inv, pairs-next values lets name sort l h, ← is, y)
 
-      pub bind-next : r ≡ false → w ≡ pair_in (pair_sort values lets) name sort (drop (i + 2) l)
-      unfolding pair_in is_pair
-      bind-next y = rw (inv, two, ← is, y)
-
-pub ruleset binding = (bind-end, bind-odd, bind-here, bind-next)
+    pub bind-next : r ≡ false → w ≡ pair_in (pair_sort values lets) name sort (take (length l - 2) (drop 2 l))
+    bind-next y = rw (inv, pairs-next values lets name sort l h, ← is, y)
 
 -- ---- the definition, with its recursion one step open
 free-is : (tags values : List ℕ) (v t : ℕ) → is_free tags values v t ≡ free_step tags values v t (free_below tags values v t)
@@ -336,9 +336,3 @@ module _ (tags values : List ℕ) (n t v : ℕ) where
         mark-no y = rw (lt-ltb _ _ h, ← is, eq-eqb _ _ e, ← q, y)
 
 pub ruleset mark = (mark-past, mark-other, mark-later, mark-yes, mark-no)
-
--- ---- the marks of a whole array
-pub marked : (tags values : List ℕ) (n t k : ℕ) (l : List ℕ) (i : ℕ) → Filled (mark_of tags values n t) k l i → length l ≤ i → Marked tags values n t k l
-marked tags values n t k l i m h = record { size = m.size; at = fill_end _ k l i m h }
-
-pub ruleset fills = (fill_start, fill-next, marked)

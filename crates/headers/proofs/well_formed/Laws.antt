@@ -1,6 +1,6 @@
 -- Laws of `WellFormed`: one for each way out of a function of check 14, and one for a turn of a loop.
 -- Assumes nothing.
-use Prim.Native.Nat.{ℕ, ◌+◌, ◌-◌, ◌≤◌, ◌<◌}
+use Prim.Native.Nat.{ℕ, zero, suc, ◌+◌, ◌-◌, ◌≤◌, ◌<◌}
 use mathlib.Core.Path.{◌≡◌, refl, ap}
 use mathlib.Core.Bool.{Bool, true, false, not, ◌&&◌, ◌||◌}
 use mathlib.Core.List.{List, [], ◌∷◌}
@@ -8,16 +8,13 @@ use lib.ListN.{get_or}
 use lib.Dec.{leb, ltb, eqb}
 use native.Mathlib.Omega.{arith}
 use borrow.Author.Tests.{ltb-true, ltb-false, leb-true, leb-false, lt-ltb, le-ltb, eq-eqb, ne_eqb, eqb-true, not-true, not-false}
-use Rattle.cells.specs.Bounded.{every}
+use native.Mathlib.Numerals.{add-one}
+use Rattle.std.specs.List.{list_all, range_with_len}
+use Rattle.cells.specs.Bounded.{every_in, every}
 use Rattle.cells.specs.ByPlace.{by-test}
-use Rattle.cells.specs.Headers.{first_from}
 use Rattle.headers.specs.WellFormed.{shape_of, count_fits, kind_at, value_fits, cell_fits, bool_first, header_fits}
-use Rattle.cells.specs.declared.Found.{Found}
-use Rattle.cells.specs.declared.Found.TheVariants.{At}
 use Rattle.headers.specs.declared.well_formed.Shape.{Shape}
 use Rattle.headers.specs.declared.well_formed.CellKind.{CellKind}
-use Rattle.cells.proofs.Bounds.{every-end, every-fails, every-next}
-use Rattle.cells.proofs.Walks.{first-end, first-here, first_next}
 
 -- ---- the shape of a tag
 -- the tags at which another shape begins
@@ -76,7 +73,11 @@ module _ (tags values : List ℕ) (p : ℕ) (shape : Shape) (j tag : ℕ) (t : t
 
 pub ruleset cell = (cell-header, cell-value)
 
-pub ruleset cells = (every-end, every-fails, every-next, not-true, not-false)
+-- a test at every position of a range, as the library's word for it
+pub every_in-all : (test : ℕ → Bool) (n j : ℕ) → every_in test n j ≡ list_all test (range_with_len j n)
+unfolding every_in
+every_in-all test zero j = refl
+every_in-all test (suc n) j = rw (add-one j, every_in-all test n (suc j)) refl
 
 -- ---- a header
 module _ (tags : List ℕ) (p : ℕ) where
@@ -115,26 +116,3 @@ pub ruleset header = (header-first, header-long, header-count, header-cells)
 -- ---- the first bad header
 abbrev pub is_bad : List ℕ → List ℕ → ℕ → ℕ → Bool
 is_bad tags values n p = not (header_fits tags values n p)
-
--- r says whether the header at p fits, and k is the number of its cells
-module _ (tags values : List ℕ) (n p : ℕ) (r : Bool) (is : r ≡ header_fits tags values n p) where
-  pub header-within : not r ≡ false → (k : ℕ) → k ≡ get_or values p 0 → k < n - p
-  header-within e k cells =
-      by-test (not (bool_first tags p)) (λ o. no (header-first tags values n p _ refl o))
-      (λ o. by-test (ltb k (n - p)) (ltb-true k (n - p))
-      (λ l. no (header-long tags values n p _ refl o k cells (ltb-false k (n - p) l))))
-    where
-      no : false ≡ header_fits tags values n p → k < n - p
-      no q =
-          let fits : r ≡ true = not-false r e in
-          let z : ◌≡◌ {A = ℕ} 0 1 = cc in
-          omega arith
-
-  module _ (w : Found) (inv : w ≡ first_from values n (is_bad tags values n) p) (h : p < n) where
-    pub bad-here : not r ≡ true → At p ≡ w
-    bad-here e = first-here values n (is_bad tags values n) w p inv h (not r) (ap not is) e
-
-    pub bad-next : not r ≡ false → (k : ℕ) → k ≡ get_or values p 0 → w ≡ first_from values n (is_bad tags values n) (p + (1 + k))
-    bad-next e k cells = first_next values n (is_bad tags values n) w p inv h (not r) (ap not is) e k cells
-
-pub ruleset bad = (first-end, bad-here, bad-next)

@@ -24,8 +24,6 @@ module _ (tags values rules : List ℕ) (n t : ℕ) where
     unfolding sort_answer
     sort-is h s e made q = q ∙ rw (← is, e) (go_on a _ h)
 
-pub ruleset sorts = (sort-refused, sort-is)
-
 -- ---- the free variables
 module _ (tags values rules : List ℕ) (n t : ℕ) (marks : List ℕ) where
   pub marks-short : length marks < n → (made : Answer) → made ≡ bad_arrays → FreeVars tags values rules n t marks made marks
@@ -57,5 +55,3 @@ module _ (tags values rules : List ℕ) (n t : ℕ) (marks : List ℕ) where
         size = m.size;
         at = λ v b. rw (ne_eqb _ _ h, eq-eqb _ _ o) (m.at v b);
       }
-
-pub ruleset marked = (marks-short, marks-kept, marks-cleared, marks-made)

@@ -1,5 +1,6 @@
 -- Laws of `Check`, one for each way out of a function.
 -- Assumes nothing.
+use Rattle.std.specs.Prelude.{Option, Some, None}
 use Prim.Native.Nat.{ℕ, suc, ◌≤◌, ◌<◌}
 use mathlib.Core.Path.{◌≡◌, sym, ◌∙◌}
 use mathlib.Core.Bool.{Bool, true, false, not}
@@ -18,9 +19,10 @@ use Rattle.descriptions.specs.Index.{Indexes}
 use Rattle.sorts.specs.SortRule.{first_wrong_sort}
 use Rattle.sort_table.specs.TableAnswer.{table_answer}
 use Rattle.pool.specs.Check.{arrays_fit, check_cells, check_pool, Indexed, and_then, check_term}
+use Rattle.answers.specs.Refusal.{answer_to}
+use Rattle.answers.proofs.Refusals.{refused-code}
 use Rattle.answers.specs.declared.Answer.{Answer}
-use Rattle.cells.specs.declared.Found.{Found}
-use Rattle.cells.specs.declared.Found.TheVariants.{At, Nothing}
+use Rattle.answers.specs.declared.refusal.Refusal.{Refusal}
 use Rattle.cells.proofs.Walks.{first_below}
 
 -- ---- a refusal, or what comes next
@@ -32,6 +34,10 @@ module _ (a : Answer) where
   pub go_on : (next : Answer) → a.code ≡ 0 → next ≡ and_then a next
   unfolding and_then
   go_on next h = rw (eq-eqb _ _ h)
+
+-- ---- a check by its answer: refused it is the refusal's, passed the code is 0
+pub refused : (x : Refusal) → (answer_to x).code ≡ 0 → ⊥
+refused x e = absurd (let z : false ≡ true = sym (refused-code x) ∙ eq-eqb _ _ e in let w : ◌≡◌ {A = ℕ} 0 1 = cc in omega arith)
 
 -- ---- 30, and then 40 and 41 of the table in use
 module _ (tags values : List ℕ) (n : ℕ) where
@@ -80,34 +86,30 @@ module _ (tags values : List ℕ) (n : ℕ) where
 
 pub ruleset fits = (fit-lengths, fit-short, fit-rest)
 
-pub ruleset pools = (pool-arrays, pool-table, pool-cells)
-
 -- ---- 14, 15, 16: what the walks found
 module _ (tags values rules : List ℕ) (n : ℕ) where
   pub cells-none : n ≡ 0 → (made : Answer) → made ≡ ill_formed 0 → made ≡ check_cells tags values rules n
   unfolding check_cells
   cells-none h made q = rw (eq-eqb _ _ h) q
 
-  module _ (h : n ≡ 0 → ⊥) (bad : Found) (is-bad : bad ≡ first_bad tags values n) where
-    pub cells-bad : (p : ℕ) → bad ≡ At p → (made : Answer) → made ≡ ill_formed p → made ≡ check_cells tags values rules n
+  module _ (h : n ≡ 0 → ⊥) (bad : Option ℕ) (is-bad : bad ≡ first_bad tags values n) where
+    pub cells-bad : (p : ℕ) → bad ≡ Some p → (made : Answer) → made ≡ ill_formed p → made ≡ check_cells tags values rules n
     unfolding check_cells
     cells-bad p e made q = rw (ne_eqb _ _ h, ← is-bad, e) q
 
-    module _ (good : bad ≡ Nothing) (rep : Found) (is-rep : rep ≡ first_repeat tags values n) where
-      pub cells-repeated : (p : ℕ) → rep ≡ At p → (made : Answer) → made ≡ repeated p → made ≡ check_cells tags values rules n
+    module _ (good : bad ≡ None) (rep : Option ℕ) (is-rep : rep ≡ first_repeat tags values n) where
+      pub cells-repeated : (p : ℕ) → rep ≡ Some p → (made : Answer) → made ≡ repeated p → made ≡ check_cells tags values rules n
       unfolding check_cells
       cells-repeated p e made q = rw (ne_eqb _ _ h, ← is-bad, good, ← is-rep, e) q
 
-      module _ (once : rep ≡ Nothing) (wrong : Found) (is-wrong : wrong ≡ first_wrong_sort tags values rules n) where
-        pub cells-wrong : (p : ℕ) → wrong ≡ At p → (made : Answer) → made ≡ wrong_sort p → made ≡ check_cells tags values rules n
+      module _ (once : rep ≡ None) (wrong : Option ℕ) (is-wrong : wrong ≡ first_wrong_sort tags values rules n) where
+        pub cells-wrong : (p : ℕ) → wrong ≡ Some p → (made : Answer) → made ≡ wrong_sort p → made ≡ check_cells tags values rules n
         unfolding check_cells
         cells-wrong p e made q = rw (ne_eqb _ _ h, ← is-bad, good, ← is-rep, once, ← is-wrong, e) q
 
-        pub cells_right : wrong ≡ Nothing → (made : Answer) → made ≡ accepted 0 0 → made ≡ check_cells tags values rules n
+        pub cells_right : wrong ≡ None → (made : Answer) → made ≡ accepted 0 0 → made ≡ check_cells tags values rules n
         unfolding check_cells
         cells_right e made q = rw (ne_eqb _ _ h, ← is-bad, good, ← is-rep, once, ← is-wrong, e) q
-
-pub ruleset all-cells = (cells-none, cells-bad, cells-repeated, cells-wrong, cells_right)
 
 -- ---- the index: a refusal leaves any, a pool that passes its own
 module _ (tags values : List ℕ) (n : ℕ) (made : Answer) (index : List ℕ) where
@@ -123,29 +125,15 @@ module _ (tags values : List ℕ) (n : ℕ) (made : Answer) (index : List ℕ) w
   pub indexed-wrong : (p : ℕ) → made ≡ wrong_sort p → Indexed tags values n made index
   indexed-wrong p e = other-code 15 (rw e)
 
-  pub indexed-arrays : made ≡ bad_arrays → Indexed tags values n made index
-  indexed-arrays e = other-code 29 (rw e)
-
   pub indexed-table : (made.code ≡ 0 → ⊥) → Indexed tags values n made index
   indexed-table h = record { passed = λ z. absurd (h z) }
 
-  pub indexed-right : n ≤ 8192 → (bad : Found) → bad ≡ first_bad tags values n → bad ≡ Nothing → (rep : Found) → rep ≡ first_repeat tags values n → rep ≡ Nothing
+  pub indexed-right : n ≤ 8192 → (bad : Option ℕ) → bad ≡ first_bad tags values n → bad ≡ None → (rep : Option ℕ) → rep ≡ first_repeat tags values n → rep ≡ None
       → Indexes tags values n index → Indexed tags values n made index
   indexed-right small bad is-bad good rep is-rep once i = record { passed = λ z. i.whole small (sym is-bad ∙ good) (sym is-rep ∙ once) }
 
-  pub indexed-other : (t : ℕ) → made ≡ not_a_term t → Indexed tags values n made index
-  indexed-other t e = other-code 16 (rw e)
-
-  -- after a pool that passed
-  pub indexed-after : (a : Answer) → a.code ≡ 0 → Indexed tags values n a index → Indexed tags values n made index
-  indexed-after a e i = record { passed = λ z. i.passed e }
-
-pub ruleset indexings = (indexed-bad, indexed-repeated, indexed-wrong, indexed-arrays, indexed-table, indexed-right)
-
-pub ruleset indexed-terms = (indexed-other, indexed-after)
-
 -- a place that a walk found stands below n, and fits u32 as n does
-module _ (tags values rules : List ℕ) (n p : ℕ) (small : n ≤ 8192) (found : Found) (at : found ≡ At p) where
+module _ (tags values rules : List ℕ) (n p : ℕ) (small : n ≤ 8192) (found : Option ℕ) (at : found ≡ Some p) where
   fit : p < n → Fits w32 p
   fit h = record { fits = omega arith }
 
@@ -175,5 +163,3 @@ module _ (tags values rules : List ℕ) (n t : ℕ) where
       pub term_is : not r ≡ false → (made : Answer) → made ≡ accepted 0 0 → made ≡ check_term tags values rules n t
       unfolding check_term
       term_is o made q = q ∙ rw (← is, ← e, not-false r o) (go_on a _ h)
-
-pub ruleset terms = (term-refused, term-not, term_is)

@@ -1,21 +1,24 @@
 -- Laws of `TableAnswer`, one for each way out of a function.
 -- Assumes nothing.
-use Prim.Native.Nat.{ℕ, zero, suc, ◌+◌, ◌-◌, ◌≤◌, ◌<◌}
+use Prim.Native.Nat.{ℕ, zero, suc, ◌+◌, ◌≤◌, ◌<◌}
 use mathlib.Core.Path.{◌≡◌, refl, sym, ◌∙◌}
 use mathlib.Core.Bool.{Bool, true, false, not, ◌&&◌, ◌||◌}
 use mathlib.Core.List.{List}
-use lib.ListN.{length, get_or, set, length-set}
-use lib.Seq.{get_or-set_same, get_or-set_other, ext_get_or}
+use lib.ListN.{length, get_or}
 use lib.Dec.{ltb, eqb}
 use native.Mathlib.Omega.{arith}
 use native.Mathlib.Numerals.{add-one}
 use mir.Val.{Fits}
 use mir.Syntax.{w32}
-use borrow.Author.Tests.{le-leb, lt-leb, lt-ltb, le-ltb, eq-eqb, ne_eqb, eqb-true, eqb-false}
+use borrow.Author.Tests.{le-leb, lt-leb, lt-ltb, le-ltb, eq-eqb, ne_eqb, eqb-true}
+use Rattle.std.specs.Prelude.{Option, Some, None, Result, is_ok}
+use Rattle.answers.specs.Refusal.{answer_of_check}
+use Rattle.answers.specs.declared.refusal.Refusal.{Refusal}
+use Rattle.answers.proofs.Refusals.{passed-code}
+use Rattle.std.specs.List.{find, range_with_len}
+use Rattle.std.specs.Option.{option_map}
+use Rattle.std.proofs.lemmas.Iterator.Adapters.{option_map_id}
 use Rattle.cells.specs.ByPlace.{by-test}
-use Rattle.cells.specs.declared.Found.{Found}
-use Rattle.cells.specs.declared.Found.TheVariants.{At, Nothing}
-use Rattle.cells.proofs.Bounds.{no_more, one_more}
 use Rattle.answers.specs.Answer.{accepted, bad_table, not_bool}
 use Rattle.answers.specs.declared.Answer.{Answer}
 use Rattle.sort_table.specs.Table.{built_in}
@@ -62,31 +65,28 @@ module _ (i rule : ℕ) where
 
 pub ruleset connectives = (bool-rule, before-not, not-to-or, after-or)
 
--- ---- the loops: w is the first entry from i on
-module _ (test : ℕ → Bool) (w : Found) (i : ℕ) (inv : w ≡ first_entry test (entry_count - i) i) where
-  pub entry-end : entry_count ≤ i → Nothing ≡ w
-  unfolding first_entry
-  entry-end h = rw (inv, no_more entry_count i h)
+-- ---- the first entry, as `find` over the range gives it
+first_entry-found : (test : ℕ → Bool) (f i : ℕ) → first_entry test f i ≡ find test (range_with_len i f)
+unfolding first_entry
+first_entry-found test zero i = refl
+first_entry-found test (suc f) i =
+    by-test (test i)
+    (λ e. rw e)
+    (λ e. rw (e, add-one i) (first_entry-found test f (suc i)))
 
-  module _ (h : i < entry_count) (r : Bool) (is : r ≡ test i) where
-    pub entry_here : r ≡ true → At i ≡ w
-    unfolding first_entry
-    entry_here e = rw (inv, one_more entry_count i h, ← is, e)
-
-    pub entry_next : r ≡ false → w ≡ first_entry test (entry_count - (i + 1)) (i + 1)
-    unfolding first_entry
-    entry_next e = rw (inv, one_more entry_count i h, ← is, e, add-one i)
+pub first-is : (test : ℕ → Bool) (n : ℕ) (r : Option ℕ) → option_map (λ i. i) r ≡ find test (range_with_len 0 n) → r ≡ first_entry test n 0
+first-is test n r e = sym (option_map_id r) ∙ e ∙ sym (first_entry-found test n 0)
 
 module _ (test : ℕ → Bool) where
-  entry-below : (f i k : ℕ) → first_entry test f i ≡ At k → k < i + f
+  entry-below : (f i k : ℕ) → first_entry test f i ≡ Some k → k < i + f
   unfolding first_entry
   entry-below zero i k e = let z : ◌≡◌ {A = ℕ} 0 1 = cc in absurd (omega arith)
   entry-below (suc f) i k e =
       by-test (test i)
-      (λ o. let d : At i ≡ At k = rw o at e in let z : i ≡ k = cc in omega arith)
-      (λ o. let d : first_entry test f (suc i) ≡ At k = rw o at e in omega (arith, entry-below f (suc i) k d))
+      (λ o. let d : Some i ≡ Some k = rw o at e in let z : i ≡ k = cc in omega arith)
+      (λ o. let d : first_entry test f (suc i) ≡ Some k = rw o at e in omega (arith, entry-below f (suc i) k d))
 
-  pub entry-fits : (found : Found) (k : ℕ) → found ≡ first_entry test entry_count 0 → found ≡ At k → Fits w32 k
+  pub entry-fits : (found : Option ℕ) (k : ℕ) → found ≡ first_entry test entry_count 0 → found ≡ Some k → Fits w32 k
   entry-fits found k e at = record { fits = omega (arith, entry-below entry_count 0 k (sym e ∙ at)) }
 
 -- an entry that is not allowed, by the built-in table as the code has it
@@ -105,17 +105,17 @@ module _ (entries : List ℕ) where
   unfolding table_answer
   other_length h made q = rw (ne_eqb _ _ h) q
 
-  module _ (h : length entries ≡ entry_count) (bad : Found) (is-bad : bad ≡ first_entry (forbids entries) entry_count 0) where
-    pub entry-forbidden : (i : ℕ) → bad ≡ At i → (made : Answer) → made ≡ bad_table i → made ≡ table_answer entries
+  module _ (h : length entries ≡ entry_count) (bad : Option ℕ) (is-bad : bad ≡ first_entry (forbids entries) entry_count 0) where
+    pub entry-forbidden : (i : ℕ) → bad ≡ Some i → (made : Answer) → made ≡ bad_table i → made ≡ table_answer entries
     unfolding table_answer
     entry-forbidden i e made q = rw (eq-eqb _ _ h, ← is-bad, e) q
 
-    module _ (good : bad ≡ Nothing) (lost : Found) (is_lost : lost ≡ first_entry (loses_bool entries) entry_count 0) where
-      pub entry-not-bool : (i : ℕ) → lost ≡ At i → (made : Answer) → made ≡ not_bool i → made ≡ table_answer entries
+    module _ (good : bad ≡ None) (lost : Option ℕ) (is_lost : lost ≡ first_entry (loses_bool entries) entry_count 0) where
+      pub entry-not-bool : (i : ℕ) → lost ≡ Some i → (made : Answer) → made ≡ not_bool i → made ≡ table_answer entries
       unfolding table_answer
       entry-not-bool i e made q = rw (eq-eqb _ _ h, ← is-bad, good, ← is_lost, e) q
 
-      pub entries-load : lost ≡ Nothing → (made : Answer) → made ≡ accepted 0 0 → made ≡ table_answer entries
+      pub entries-load : lost ≡ None → (made : Answer) → made ≡ accepted 0 0 → made ≡ table_answer entries
       unfolding table_answer
       entries-load e made q = rw (eq-eqb _ _ h, ← is-bad, good, ← is_lost, e) q
 
@@ -128,39 +128,16 @@ loads-length entries e =
     by-test (eqb (length entries) entry_count) (λ o. eqb-true (length entries) entry_count o)
     (λ o. let z : ◌≡◌ {A = ℕ} 40 0 = rw o at e in absurd (omega arith))
 
--- ---- copying: the first i entries are in use
-pub record Copying (entries table₀ table : List ℕ) (i : ℕ) : Type 0 where
-  pub long : length table ≡ length table₀
-  pub done : (j : ℕ) → j < i → get_or table j 0 ≡ get_or entries j 0
+-- ---- loading: r is what the check of the entries says
+module _ (entries : List ℕ) (r : Result (Unit {0}) Refusal) (is : answer_of_check r ≡ table_answer entries) where
+  loads : is_ok r ≡ true → (table_answer entries).code ≡ 0
+  loads o = rw is at (eqb-true (answer_of_check r).code 0 (passed-code r ∙ o))
 
-pub copy_start : (entries table : List ℕ) → Copying entries table table 0
-copy_start entries table = record { long = refl; done = λ j l. absurd (omega arith) }
+  pub load-length : is_ok r ≡ true → length entries ≡ entry_count
+  load-length o = loads-length entries (loads o)
 
-module _ (entries table₀ table : List ℕ) (i : ℕ) (w : Copying entries table₀ table i) (size : length entries ≡ length table₀) where
-  pub copy_more : i < length entries → (v : ℕ) → v ≡ get_or entries i 0 → Copying entries table₀ (set table i v) (i + 1)
-  copy_more h v e = record {
-    long = length-set table i v ∙ w.long;
-    done = λ j l.
-        by-test (eqb j i)
-        (λ o. let z : j ≡ i = eqb-true j i o in rw (z, get_or-set_same table i v 0 (omega (arith, w.long))) e)
-        (λ o. get_or-set_other table i j v 0 (eqb-false j i o) ∙ w.done j (omega (arith, eqb-false j i o)));
-  }
+  pub loaded : is_ok r ≡ true → (table : List ℕ) (a : Answer) → a ≡ answer_of_check r → Loaded entries table a entries
+  loaded o table a e = record { answer = e ∙ is; in_use = rw (e, passed-code r, o) }
 
-  pub copy-end : length entries ≤ i → table ≡ entries
-  copy-end h =
-      ext_get_or 0 table entries (w.long ∙ sym size) (λ j l. w.done j (omega (arith, w.long)))
-
-pub ruleset copies = (copy_start, copy_more, copy-end)
-
--- ---- loading
-module _ (entries table : List ℕ) (r : Answer) (is : r ≡ table_answer entries) where
-  pub load-refused : (r.code ≡ 0 → ⊥) → Loaded entries table r table
-  load-refused h = record { answer = is; in_use = rw (ne_eqb _ _ h) }
-
-  pub load-done : r.code ≡ 0 → (table' : List ℕ) → table' ≡ entries → Loaded entries table r table'
-  load-done h table' e = record { answer = is; in_use = rw (eq-eqb _ _ h) e }
-
-  pub load-length : r.code ≡ 0 → (k : ℕ) → k ≡ entry_count → length entries ≡ k
-  load-length h k e = loads-length entries (rw is at h) ∙ sym e
-
-pub ruleset loads = (load-refused, load-done)
+  pub not-loaded : is_ok r ≡ false → (table : List ℕ) (a : Answer) → a ≡ answer_of_check r → Loaded entries table a table
+  not-loaded o table a e = record { answer = e ∙ is; in_use = rw (e, passed-code r, o) }

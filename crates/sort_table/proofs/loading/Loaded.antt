@@ -2,6 +2,7 @@
 --     BoolConnectives        a table with Bool for `not`, `and` and `or`, what normal forms build; no other entry matters to them
 --     loaded-connectives     a table that loads is one. This is what 41 is for
 -- Assumes nothing.
+use Rattle.std.specs.Prelude.{Option, Some, None}
 use Prim.Native.Nat.{ℕ, zero, suc, ◌+◌, ◌<◌, ◌≤◌}
 use mathlib.Core.Path.{◌≡◌, refl, ◌∙◌}
 use mathlib.Core.Bool.{Bool, true, false}
@@ -11,8 +12,6 @@ use lib.Dec.{eqb}
 use native.Mathlib.Omega.{arith}
 use borrow.Author.Tests.{eqb-true, eqb-false, not-false}
 use Rattle.cells.specs.ByPlace.{by-test}
-use Rattle.cells.specs.declared.Found.{Found}
-use Rattle.cells.specs.declared.Found.TheVariants.{At, Nothing}
 use Rattle.answers.specs.Answer.{accepted, bad_table, not_bool, refuse_at}
 use Rattle.answers.specs.declared.Answer.{Answer}
 use Rattle.sort_table.specs.TableAnswer.{entry_count, first_entry, forbids, is_connective, loses_bool, table_answer}
@@ -24,12 +23,12 @@ pub record BoolConnectives (rules : List ℕ) : Type 0 where
   pub for-or : get_or rules 5 7 ≡ 0
 
 -- where no entry is found the test holds at none
-none-holds : (test : ℕ → Bool) (f i : ℕ) → first_entry test f i ≡ Nothing → (j : ℕ) → i ≤ j → j < i + f → test j ≡ false
+none-holds : (test : ℕ → Bool) (f i : ℕ) → first_entry test f i ≡ None → (j : ℕ) → i ≤ j → j < i + f → test j ≡ false
 unfolding first_entry
 none-holds test zero i e j h l = absurd (omega arith)
 none-holds test (suc f) i e j h l =
     by-test (test i)
-    (λ y. let d : At i ≡ Nothing = rw y at e in let z : ◌≡◌ {A = ℕ} 0 1 = cc in absurd (omega arith))
+    (λ y. let d : Some i ≡ None = rw y at e in let z : ◌≡◌ {A = ℕ} 0 1 = cc in absurd (omega arith))
     (λ y. by-test (eqb i j)
     (λ o. let z : i ≡ j = eqb-true i j o in rw z at y)
     (λ o. none-holds test f (suc i) (rw y at e) j (omega (arith, eqb-false i j o)) (omega arith)))
@@ -40,16 +39,16 @@ any-default [] i a b h = absurd (omega arith)
 any-default (x ∷ l) zero a b h = refl
 any-default (x ∷ l) (suc i) a b h = any-default l i a b (omega arith)
 
-no-refusal : (refusal : ℕ → Answer) → ((i : ℕ) → (refusal i).code ≡ 0 → ⊥) → (w : Found) (next : Answer)
-    → (refuse_at refusal w next).code ≡ 0 → (w ≡ Nothing) × (next.code ≡ 0)
-no-refusal refusal h (At i) next e = absurd (h i e)
-no-refusal refusal h Nothing next e = (refl, e)
+no-refusal : (refusal : ℕ → Answer) → ((i : ℕ) → (refusal i).code ≡ 0 → ⊥) → (w : Option ℕ) (next : Answer)
+    → (refuse_at refusal w next).code ≡ 0 → (w ≡ None) × (next.code ≡ 0)
+no-refusal refusal h (Some i) next e = absurd (h i e)
+no-refusal refusal h None next e = (refl, e)
 
 module _ (rules : List ℕ) (ok : (table_answer rules).code ≡ 0) where
   long : length rules ≡ entry_count
   long = loads-length rules ok
 
-  all-bool : first_entry (loses_bool rules) entry_count 0 ≡ Nothing
+  all-bool : first_entry (loses_bool rules) entry_count 0 ≡ None
   unfolding table_answer
   all-bool =
       by-test (eqb (length rules) entry_count)

@@ -1,185 +1,140 @@
--- Laws of the sort rules whose sort is made of a list of sorts: one for each way out of a function, one for a loop's turn.
+-- Laws of the sort rules whose sort is made of a list of sorts: one for each way out of a function, and what `eq` of two iterators answers.
 -- Assumes nothing.
-use Prim.Native.Nat.{ℕ, zero, suc, ◌+◌, ◌-◌, ◌≤◌, ◌<◌}
-use mathlib.Core.Path.{◌≡◌, refl, sym, ◌∙◌}
+use Prim.Native.Nat.{ℕ, suc, ◌+◌, ◌-◌, ◌≤◌, ◌<◌}
+use mathlib.Core.Path.{◌≡◌, refl, sym, subst, ◌∙◌}
 use mathlib.Core.Bool.{Bool, true, false, not, ◌&&◌, cond, and-true, and-false, and_assoc}
-use mathlib.Core.List.{List, [], ◌∷◌, ◌++◌, map, reverse, drop_last, reverse-cons}
-use lib.ListN.{length, get_or, take, drop, length-append, length-map, length-reverse, length-drop, drop_of_length-le, get_or-append}
-use lib.Seq.{drop-cons, take_all, get_or_at, get_or-drop}
-use lib.Dec.{leb, ltb, eqb}
+use mathlib.Core.List.{List, [], ◌∷◌, ◌++◌, reverse, drop_last}
+use lib.ListN.{length, get_or, take, drop, length-append, length-drop}
+use lib.Seq.{get_or-drop}
+use lib.Dec.{ltb, eqb}
 use native.Mathlib.Omega.{arith}
-use native.Mathlib.Numerals.{add-one}
 use native.Mathlib.Nat.{add-zero}
-use borrow.Author.Tests.{lt-ltb, le-ltb, le-leb, lt-leb, eq-eqb, ne_eqb, ltb-true, ltb-false, leb-true, leb-false, not-true, not-false}
-use Rattle.cells.specs.ByPlace.{by-test}
+use borrow.Author.Tests.{lt-ltb, le-ltb, le-leb, lt-leb, eq-eqb, ne_eqb, not-true, not-false}
+use Rattle.std.specs.Prelude.{Option, Some, None, MatchOption, IfSome}
+use Rattle.std.specs.declared.iter.StepBy.{StepBy}
+use Rattle.std.specs.Iterator.Adapters.{step_by_gap, step_by_first_take, step_by_source, step_by_steps}
+use Rattle.std.specs.Iterator.{AlwaysYields, YieldsThen, ComparesItemsByEq}
+use Rattle.std.specs.List.{AllZip}
+use Rattle.std.proofs.lemmas.Iterator.{YieldsList}
 use Rattle.cells.specs.Cell.{cells_of, sort_of, same_cells, is_at}
 use Rattle.sorts.specs.SortRule.{relation, no_answer, is_sort, pair_sorts, apply, sort_tag, is_relation, relation_sorts, transpose, join, product, application, lambda}
 use Rattle.sorts.specs.ListRule.{by_list}
 use Rattle.sorts.specs.declared.list_sorts.ListRule.{ListRule}
-use Rattle.cells.proofs.Cells.{same-lengths, same_end, same_not, same_next}
+use Rattle.cells.proofs.Cells.{same-lengths}
 
--- ---- parts of a list
-module _ (a : List ℕ) (m : ℕ) where
-  pub past-none : length a < m → [] ≡ drop m a
-  past-none h = sym (drop_of_length-le a {i = m} (omega arith))
+-- ---- a list without its last
+pub last_rest : (a : List ℕ) → take (length a - 1) a ≡ drop_last a
+last_rest [] = refl
+last_rest (x ∷ []) = refl
+last_rest (x ∷ (y ∷ a)) =
+    let e : length (x ∷ (y ∷ a)) - 1 ≡ suc (length (y ∷ a) - 1) = omega arith in
+    rw (e, last_rest (y ∷ a))
 
-  pub past-rest : take (length a - m) (drop m a) ≡ drop m a
-  past-rest = take_all (length a - m) (drop m a) (rw length-drop (omega arith))
+-- ---- two lists compared, each as an iterator gives it; v reads an item
+module _ {S T A : Type 0} (steps : S → Option A → S → Type 0) (others : T → Option A → T → Type 0) (v : A → ℕ) (eq : A → A → Bool)
+    (agree : (x y : A) → eq x y ≡ eqb (v x) (v y)) (r : Bool) where
+  abbrev Last : Option A → Option A → Type 0
+  Last o p = MatchOption o (MatchOption p (r ≡ true) (λ _. r ≡ false)) (λ x. (r ≡ false) × IfSome p (λ y. eq x y ≡ false))
 
-pub last_none : (a : List ℕ) → length a ≡ 0 → a ≡ drop_last a
-last_none [] h = refl
-last_none (x ∷ a) h = absurd (omega arith)
+  at_last : (o p : Option A) (xs ys : List ℕ) (s u : S) (t w : T) → AlwaysYields steps v s xs → AlwaysYields others v t ys → steps s o u → others t p w → Last o p → r ≡ same_cells xs ys
+  unfolding same_cells
+  at_last None None (x ∷ xs) ys s u t w e f a b h = absurd (e.0 u a)
+  at_last None (Some y) (x ∷ xs) ys s u t w e f a b h = absurd (e.0 u a)
+  at_last (Some x) None [] ys s u t w e f a b h = absurd (e x u a)
+  at_last (Some x) (Some y) [] ys s u t w e f a b h = absurd (e x u a)
+  at_last None None [] (y ∷ ys) s u t w e f a b h = absurd (f.0 w b)
+  at_last None (Some y) [] [] s u t w e f a b h = absurd (f y w b)
+  at_last (Some x) None (z ∷ xs) (y ∷ ys) s u t w e f a b h = absurd (f.0 w b)
+  at_last (Some x) (Some y) (z ∷ xs) [] s u t w e f a b h = absurd (f y w b)
+  at_last None None [] [] s u t w e f a b h = h
+  at_last None (Some y) [] (z ∷ ys) s u t w e f a b h = h
+  at_last (Some x) None (z ∷ xs) [] s u t w e f a b h = h.0
+  at_last (Some x) (Some y) (x' ∷ xs) (y' ∷ ys) s u t w e f a b h =
+      let d : eqb (v x) (v y) ≡ false = sym (agree x y) ∙ h.1 in
+      rw (← (e.1 x u a).0, ← (f.1 y w b).0, d, h.0)
 
-pub last_rest : (a : List ℕ) → take (length a - 1 - 0) a ≡ drop_last a
-last_rest a = let e : length a - 1 - 0 ≡ length a - 1 = omega arith in rw e (front a)
-  where
-    front : (l : List ℕ) → take (length l - 1) l ≡ drop_last l
-    front [] = refl
-    front (x ∷ []) = refl
-    front (x ∷ (y ∷ l)) =
-        let e : length (x ∷ (y ∷ l)) - 1 ≡ suc (length (y ∷ l) - 1) = omega arith in
-        rw (e, front (y ∷ l))
+  along : (cs bs : List A) (o p : Option A) (xs ys : List ℕ) (s u : S) (t w : T) → AlwaysYields steps v s xs → AlwaysYields others v t ys
+      → YieldsThen steps s cs o u → YieldsThen others t bs p w → AllZip (λ x y. eq x y ≡ true) cs bs → Last o p → r ≡ same_cells xs ys
+  unfolding same_cells
+  along [] [] o p xs ys s u t w e f a b z h = at_last o p xs ys s u t w e f (subst (λ j. steps j o u) (sym a.1) a.2) (subst (λ j. others j p w) (sym b.1) b.2) h
+  along [] (y ∷ bs) o p xs ys s u t w e f a b z h = absurd z
+  along (x ∷ cs) [] o p xs ys s u t w e f a b z h = absurd z
+  along (x ∷ cs) (y ∷ bs) o p [] ys s u t w e f a b z h = absurd (e x a.1.0 a.1.1)
+  along (x ∷ cs) (y ∷ bs) o p (x' ∷ xs) [] s u t w e f a b z h = absurd (f y b.1.0 b.1.1)
+  along (x ∷ cs) (y ∷ bs) o p (x' ∷ xs) (y' ∷ ys) s u t w e f a b z h =
+      let m = e.1 x a.1.0 a.1.1 in
+      let n = f.1 y b.1.0 b.1.1 in
+      let d : eqb (v x) (v y) ≡ true = sym (agree x y) ∙ z.0 in
+      rw (← m.0, ← n.0, d) (along cs bs o p xs ys a.1.0 u b.1.0 w m.1 n.1 (a.0, a.1.2, a.2) (b.0, b.1.2, b.2) z.1 h)
 
-pub ruleset parts = (past-none, past-rest, last_none, last_rest)
+-- `eq` of two iterators compares the lists that they give
+pub same_from_eq : {S U T A : Type 0} {steps : S → Option A → S → Type 0} {others : T → Option A → T → Type 0} {v : A → ℕ} {s : S} {eq : A → A → Bool} {xs ys : List ℕ}
+    (becomes : U → T → Type 0) (other : U) (r : Bool) → ComparesItemsByEq steps becomes others s other eq r
+    → YieldsList steps v s xs → ((it : T) → becomes other it → YieldsList others v it ys) → ((x y : A) → eq x y ≡ eqb (v x) (v y)) → r ≡ same_cells xs ys
+same_from_eq {steps = steps} {others = others} {v = v} {s = s} {eq = eq} {xs = xs} {ys = ys} becomes other r d e f agree =
+    along steps others v eq agree r d.1 d.2 d.3 d.4 xs ys s d.5 d.0 d.6 e.runs (f d.0 d.7).runs d.8 d.9 d.10 d.11
 
--- ---- a loop that compares a with b, whose cell at i is x; w says whether they are equal from i on
-module _ (w : Bool) (a b : List ℕ) (i : ℕ) (inv : w ≡ same_cells (drop i a) (drop i b)) (long : length a ≡ length b) (h : i < length a) (x : ℕ) (is : x ≡ get_or b i 0) where
-  differs : (get_or a i 0 ≡ x → ⊥) → false ≡ w
-  differs n = same_not w a b i inv long h (λ e. n (e ∙ sym is))
+-- ---- every second item of an iterator is the second of a pair
+module _ {S A : Type 0} (steps : S → Option A → S → Type 0) (v : A → ℕ) where
+  -- calls that passed over no item, and over one
+  at_once : (s u : S) (r : Option A) (xs : List A) → length xs ≤ 0 → YieldsThen steps s xs r u → steps s r u
+  at_once s u r [] h y = subst (λ j. steps j r u) (sym y.1) y.2
+  at_once s u r (x ∷ xs) h y = absurd (omega arith)
 
-  agrees : get_or a i 0 ≡ x → w ≡ same_cells (drop (i + 1) a) (drop (i + 1) b)
-  agrees e = same_next w a b i inv long h (e ∙ is)
+  after_one : (s u : S) (r : Option A) (xs : List A) → length xs ≡ 1 → YieldsThen steps s xs r u → (x : A) × (t : S) × steps s (Some x) t × steps t r u
+  after_one s u r [] h y = absurd (omega arith)
+  after_one s u r (x ∷ []) h y = (x, y.1.0, y.1.1, subst (λ j. steps j r u) (sym y.1.2) y.2)
+  after_one s u r (x ∷ (x' ∷ xs)) h y = absurd (omega arith)
 
--- with the sorts of operands
-module _ (values : List ℕ) where
-  sort-at : (os : List ℕ) (i : ℕ) → i < length os → sort_of values (get_or os i 0) ≡ get_or (map (sort_of values) os) i 0
-  sort-at [] i h = absurd (omega arith)
-  sort-at (o ∷ os) zero h = refl
-  sort-at (o ∷ os) (suc i) h = sort-at os i (omega arith)
+  no_end : (s u : S) (y z : ℕ) (ys : List ℕ) (xs : List A) → length xs ≤ 1 → YieldsThen steps s xs None u → AlwaysYields steps v s (y ∷ (z ∷ ys)) → ⊥
+  no_end s u y z ys [] h d e = e.0 u (at_once s u None [] (omega arith) d)
+  no_end s u y z ys (x ∷ []) h d e = let w = after_one s u None (x ∷ []) refl d in (e.1 w.0 w.1 w.2).1.0 u w.3
+  no_end s u y z ys (x ∷ (x' ∷ xs)) h d e = absurd (omega arith)
 
-  module _ (cells os : List ℕ) where
-    pub sorts-lengths : (length cells ≡ length os → ⊥) → false ≡ same_cells cells (map (sort_of values) os)
-    sorts-lengths n = same-lengths cells (map (sort_of values) os) (λ e. n (e ∙ length-map os (sort_of values)))
+  later : (s : StepBy S) → step_by_gap s ≡ 1 → step_by_first_take s ≡ false → (ys : List ℕ) → AlwaysYields steps v (step_by_source s) ys → AlwaysYields (step_by_steps steps) v s (pair_sorts ys)
+  unfolding pair_sorts
+  later s g b [] e = λ x t d. let n : d.2.0 ≡ 1 = rw (b, g) at d.2.2 in let w = after_one _ _ _ d.2.1 (d.2.4 ∙ n) d.2.3 in e w.0 w.1 w.2
+  later s g b (y ∷ []) e = λ x t d.
+      let n : d.2.0 ≡ 1 = rw (b, g) at d.2.2 in
+      let w = after_one _ _ _ d.2.1 (d.2.4 ∙ n) d.2.3 in
+      (e.1 w.0 w.1 w.2).1 x _ w.3
+  later s g b (y ∷ (z ∷ ys)) e = (
+    λ t d. let n : d.2.0 ≡ 1 = rw (b, g) at d.2.2 in no_end _ _ y z ys d.2.1 (rw n at d.2.4) d.2.3 e,
+    λ x t d.
+        let n : d.2.0 ≡ 1 = rw (b, g) at d.2.2 in
+        let w = after_one _ _ _ d.2.1 (d.2.4 ∙ n) d.2.3 in
+        let m = (e.1 w.0 w.1 w.2).1.1 x _ w.3 in
+        (m.0, later t (d.0 ∙ g) d.1 ys m.1),
+  )
 
-    module _ (w : Bool) (i : ℕ) (inv : w ≡ same_cells (drop i cells) (drop i (map (sort_of values) os))) (long : length cells ≡ length os) where
-      as_long : length cells ≡ length (map (sort_of values) os)
-      as_long = rw length-map long
+  seconds : (s : StepBy S) → step_by_gap s ≡ 1 → step_by_first_take s ≡ true → (l : List ℕ) → AlwaysYields steps v (step_by_source s) (drop 1 l) → AlwaysYields (step_by_steps steps) v s (pair_sorts l)
+  unfolding pair_sorts
+  seconds s g b [] e = λ x t d. let n : d.2.0 ≡ 0 = rw b at d.2.2 in e x _ (at_once _ _ _ d.2.1 (omega arith) d.2.3)
+  seconds s g b (y ∷ []) e = λ x t d. let n : d.2.0 ≡ 0 = rw b at d.2.2 in e x _ (at_once _ _ _ d.2.1 (omega arith) d.2.3)
+  seconds s g b (y ∷ (z ∷ ys)) e = (
+    λ t d. let n : d.2.0 ≡ 0 = rw b at d.2.2 in e.0 _ (at_once _ _ _ d.2.1 (omega arith) d.2.3),
+    λ x t d.
+        let n : d.2.0 ≡ 0 = rw b at d.2.2 in
+        let m = e.1 x _ (at_once _ _ _ d.2.1 (omega arith) d.2.3) in
+        (m.0, later t (d.0 ∙ g) d.1 ys m.1),
+  )
 
-      pub sorts-end : length cells ≤ i → true ≡ w
-      sorts-end h = same_end w cells (map (sort_of values) os) i inv as_long h
-
-      module _ (h : i < length cells) (x : ℕ) (is : x ≡ sort_of values (get_or os i 0)) where
-        x-is : x ≡ get_or (map (sort_of values) os) i 0
-        x-is = is ∙ sort-at os i (omega arith)
-
-        pub sorts-not : (get_or cells i 0 ≡ x → ⊥) → false ≡ w
-        sorts-not n = differs w cells (map (sort_of values) os) i inv as_long h x x-is n
-
-        pub sorts-next : get_or cells i 0 ≡ x → w ≡ same_cells (drop (i + 1) cells) (drop (i + 1) (map (sort_of values) os))
-        sorts-next e = agrees w cells (map (sort_of values) os) i inv as_long h x x-is e
-
-pub ruleset sorts = (sorts-lengths, sorts-end, sorts-not, sorts-next)
-
--- with a list in reverse
-reverse-at : (b : List ℕ) (i : ℕ) → i < length b → get_or b (length b - 1 - i) 0 ≡ get_or (reverse b) i 0
-reverse-at [] i h = absurd (omega arith)
-reverse-at (x ∷ b) i h =
-    by-test (ltb i (length b))
-    (λ t. let l : i < length b = ltb-true i (length b) t in
-    let e : length (x ∷ b) - 1 - i ≡ suc (length b - 1 - i) = omega arith in
-    rw (e, reverse-cons x b, get_or-append (reverse b) (x ∷ []) 0 i (rw length-reverse l)) (reverse-at b i l))
-    (λ t. let e : length (x ∷ b) - 1 - i ≡ 0 = omega (arith, ltb-false i (length b) t) in
-    rw (e, reverse-cons x b, get_or_at (reverse b) x [] 0 i (rw length-reverse (omega (arith, ltb-false i (length b) t)))))
-
-module _ (a b : List ℕ) where
-  pub reversed-lengths : (length a ≡ length b → ⊥) → false ≡ same_cells a (reverse b)
-  reversed-lengths n = same-lengths a (reverse b) (λ e. n (e ∙ length-reverse b))
-
-  module _ (w : Bool) (i : ℕ) (inv : w ≡ same_cells (drop i a) (drop i (reverse b))) (long : length a ≡ length b) where
-    pub reversed_end : length a ≤ i → true ≡ w
-    reversed_end h = same_end w a (reverse b) i inv (long ∙ sym (length-reverse b)) h
-
-    module _ (h : i < length a) where
-      pub reversed-not : (get_or a i 0 ≡ get_or b (length b - 1 - i) 0 → ⊥) → false ≡ w
-      reversed-not n = differs w a (reverse b) i inv (long ∙ sym (length-reverse b)) h _ (reverse-at b i (omega arith)) n
-
-      pub reversed-next : get_or a i 0 ≡ get_or b (length b - 1 - i) 0 → w ≡ same_cells (drop (i + 1) a) (drop (i + 1) (reverse b))
-      reversed-next e = agrees w a (reverse b) i inv (long ∙ sym (length-reverse b)) h _ (reverse-at b i (omega arith)) e
-
-pub ruleset reversed = (reversed-lengths, reversed_end, reversed-not, reversed-next)
-
--- with the second cells of pairs, where i is in the cells and j in the pairs
-no-pair : (l : List ℕ) → length l ≤ 1 → pair_sorts l ≡ []
-unfolding pair_sorts
-no-pair [] h = refl
-no-pair (x ∷ []) h = refl
-no-pair (x ∷ (y ∷ l)) h = absurd (omega arith)
-
-no_cell : (l : List ℕ) (i : ℕ) → leb (length l) i ≡ same_cells (drop i l) []
-unfolding same_cells
-no_cell l i =
-    by-test (leb (length l) i)
-    (λ e. rw (e, drop_of_length-le l {i = i} (leb-true _ _ e)))
-    (λ e. rw (e, drop-cons l i 0 (leb-false _ _ e)))
-
-module _ (w : Bool) (cells pairs : List ℕ) (i j : ℕ) (inv : w ≡ same_cells (drop i cells) (pair_sorts (drop j pairs))) where
-  pub pairs_end : length pairs - j ≤ 1 → leb (length cells) i ≡ w
-  pairs_end h = rw (inv, no-pair (drop j pairs) (rw length-drop h)) (no_cell cells i)
-
-  module _ (h : 1 < length pairs - j) where
-    pair : drop j pairs ≡ get_or pairs j 0 ∷ (get_or pairs (j + 1) 0 ∷ drop (j + 2) pairs)
-    pair =
-        let e : j + 2 ≡ suc (suc j) = omega arith in
-        rw (drop-cons pairs j 0 (omega arith), drop-cons pairs (suc j) 0 (omega arith), add-one j, e)
-
-    pub pairs-short : length cells ≤ i → false ≡ w
-    unfolding same_cells pair_sorts
-    pairs-short l = rw (inv, drop_of_length-le cells l, pair)
-
-    module _ (l : i < length cells) where
-      pub pairs-not : (get_or cells i 0 ≡ get_or pairs (j + 1) 0 → ⊥) → false ≡ w
-      unfolding same_cells pair_sorts
-      pairs-not n = rw (inv, drop-cons cells i 0 l, pair, ne_eqb _ _ n)
-
-      pub pairs_next : get_or cells i 0 ≡ get_or pairs (j + 1) 0 → w ≡ same_cells (drop (i + 1) cells) (pair_sorts (drop (j + 2) pairs))
-      unfolding same_cells pair_sorts
-      pairs_next e = rw (inv, drop-cons cells i 0 l, pair, eq-eqb _ _ e, add-one i)
-
-pub ruleset pairs = (pairs_end, pairs-short, pairs-not, pairs_next)
-
--- ---- two lists joined
-joined : (l r a : List ℕ) → same_cells a (l ++ r) ≡ (same_cells (take (length l) a) l && same_cells (drop (length l) a) r)
-unfolding same_cells
-joined [] r a = refl
-joined (x ∷ l) r [] = refl
-joined (x ∷ l) r (y ∷ a) = rw (joined l r a, and_assoc)
-
-module _ (a left right : List ℕ) where
-  pub joined-short : length a < length left → false ≡ same_cells a (left ++ right)
-  joined-short h = same-lengths a (left ++ right) (λ e. omega (arith, e, length-append left right))
-
-  module _ (q : Bool) (is : q ≡ same_cells (take (length left - 0) a) left) where
-    as_is : q ≡ same_cells (take (length left) a) left
-    as_is = let e : length left - 0 ≡ length left = omega arith in rw e at is
-
-    pub joined-not : not q ≡ true → false ≡ same_cells a (left ++ right)
-    joined-not n = rw (joined left right a, ← as_is, not-true q n)
-
-    pub joined-rest : not q ≡ false → (r : Bool) → r ≡ same_cells (take (length a - length left) (drop (length left) a)) right → r ≡ same_cells a (left ++ right)
-    joined-rest y r e = rw (joined left right a, ← as_is, not-false q y, e, past-rest)
-
-pub ruleset joins = (joined-short, joined-not, joined-rest)
+pub pair_sorts_from_step_by : {S A : Type 0} {steps : S → Option A → S → Type 0} {v : A → ℕ} {s : StepBy S} (l : List ℕ) → YieldsList steps v (step_by_source s) (drop 1 l)
+    → step_by_gap s + 1 ≡ 2 → step_by_first_take s ≡ true → YieldsList (step_by_steps steps) v s (pair_sorts l)
+pair_sorts_from_step_by {steps = steps} {v = v} {s = s} l e g b = record { runs = seconds steps v s (omega arith) b l e.runs }
 
 -- ---- functions
 -- a list that ends with x
-ends : (a l : List ℕ) (x : ℕ) → (length a ≡ 0 → ⊥) → same_cells a (l ++ (x ∷ [])) ≡ (same_cells (drop_last a) l && eqb (get_or a (length (drop_last a)) 0) x)
+ends : (a l : List ℕ) (x : ℕ) → 1 ≤ length a → same_cells a (l ++ (x ∷ [])) ≡ (same_cells (take (length a - 1) a) l && eqb (get_or a (length a - 1) 0) x)
 unfolding same_cells
-ends [] l x h = absurd (h refl)
+ends [] l x h = absurd (omega arith)
 ends (y ∷ []) [] x h = and-true (eqb y x)
 ends (y ∷ []) (z ∷ []) x h = and-false (eqb y z)
 ends (y ∷ []) (z ∷ (z' ∷ l)) x h = and-false (eqb y z)
-ends (y ∷ (y' ∷ a)) [] x h = and-false (eqb y x)
-ends (y ∷ (y' ∷ a)) (z ∷ l) x h = rw (ends (y' ∷ a) l x (omega arith), and_assoc)
+ends (y ∷ (y' ∷ a)) [] x h = let e : length (y ∷ (y' ∷ a)) - 1 ≡ suc (length (y' ∷ a) - 1) = omega arith in rw e (and-false (eqb y x))
+ends (y ∷ (y' ∷ a)) (z ∷ l) x h =
+    let e : length (y ∷ (y' ∷ a)) - 1 ≡ suc (length (y' ∷ a) - 1) = omega arith in
+    rw (e, ends (y' ∷ a) l x (omega arith), and_assoc)
 
 module _ (tags values os : List ℕ) (s k : ℕ) (is : k ≡ get_or tags s 0) where
   pub lambda-other : (k ≡ 10 → ⊥) → false ≡ is_sort tags values s (lambda values os)
@@ -187,23 +142,24 @@ module _ (tags values os : List ℕ) (s k : ℕ) (is : k ≡ get_or tags s 0) wh
   lambda-other n = rw (← is, ne_eqb _ _ n)
 
   module _ (e : k ≡ 10) (entries : List ℕ) (es : entries ≡ cells_of values s) where
-    pub lambda-empty : length entries ≡ 0 → false ≡ is_sort tags values s (lambda values os)
+    pub lambda-empty : length entries < 1 → false ≡ is_sort tags values s (lambda values os)
     unfolding is_sort lambda is_at
     lambda-empty z =
         rw (← is, eq-eqb _ _ e, ← es)
         (same-lengths entries (pair_sorts (drop 1 os) ++ (sort_of values (get_or os 0 0) ∷ []))
         (λ q. omega (arith, q, length-append (pair_sorts (drop 1 os)) (sort_of values (get_or os 0 0) ∷ []))))
 
-    module _ (h : length entries ≡ 0 → ⊥) (front : List ℕ) (fs : front ≡ drop_last entries) (last : ℕ) (ls : last ≡ get_or entries (length front) 0)
-        (b body : ℕ) (bs : b ≡ get_or os 0 0) (ss : body ≡ sort_of values b) where
-      lambda-ends : is_sort tags values s (lambda values os) ≡ (same_cells front (pair_sorts (drop 1 os)) && eqb last body)
+    module _ (h : 1 ≤ length entries) (b body : ℕ) (bs : b ≡ get_or os 0 0) (ss : body ≡ sort_of values b) where
+      lambda-ends : is_sort tags values s (lambda values os) ≡ (same_cells (take (length entries - 1) entries) (pair_sorts (drop 1 os)) && eqb (get_or entries (length entries - 1) 0) body)
       unfolding is_sort lambda is_at
-      lambda-ends = rw (← is, eq-eqb _ _ e, ← es, ← bs, ← ss, ends entries (pair_sorts (drop 1 os)) body h, ← fs, ← ls)
+      lambda-ends = rw (← is, eq-eqb _ _ e, ← es, ← bs, ← ss, ends entries (pair_sorts (drop 1 os)) body h)
 
-      pub lambda-body : (last ≡ body → ⊥) → false ≡ is_sort tags values s (lambda values os)
+      pub lambda-body : (get_or entries (length entries - 1) 0 ≡ body → ⊥) → false ≡ is_sort tags values s (lambda values os)
       lambda-body n = rw (lambda-ends, ne_eqb _ _ n, and-false)
 
-      pub lambda-pairs : last ≡ body → (rest : List ℕ) → rest ≡ drop 1 os → (r : Bool) → r ≡ same_cells front (pair_sorts rest) → r ≡ is_sort tags values s (lambda values os)
+      pub lambda-pairs :
+          get_or entries (length entries - 1) 0 ≡ body → (rest : List ℕ) → rest ≡ drop 1 os → (r : Bool) → r ≡ same_cells (take (length entries - 1) entries) (pair_sorts rest) →
+          r ≡ is_sort tags values s (lambda values os)
       lambda-pairs y rest rs r q = rw (lambda-ends, eq-eqb _ _ y, and-true, ← rs, q)
 
 pub ruleset lambdas = (lambda-other, lambda-empty, lambda-body, lambda-pairs)

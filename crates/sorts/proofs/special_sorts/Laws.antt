@@ -2,17 +2,19 @@
 -- Assumes nothing.
 use Prim.Native.Nat.{ℕ, suc, ◌+◌, ◌-◌, ◌≤◌, ◌<◌}
 use mathlib.Core.Path.{◌≡◌, refl}
-use mathlib.Core.Bool.{Bool, true, false, cond}
+use mathlib.Core.Bool.{Bool, true, false, cond, not}
 use mathlib.Core.List.{List, [], ◌∷◌}
 use lib.ListN.{length, get_or, drop, drop_of_length-le}
 use lib.Seq.{drop-cons}
 use lib.Dec.{ltb, eqb}
 use native.Mathlib.Omega.{arith}
 use native.Mathlib.Numerals.{add-one}
-use borrow.Author.Tests.{lt-ltb, le-ltb, ltb-false, eq-eqb, ne_eqb}
+use borrow.Author.Tests.{lt-ltb, le-ltb, ltb-false, eq-eqb, ne_eqb, eqb-true}
+use Rattle.std.specs.Prelude.{Option, Some, None}
+use Rattle.std.specs.List.{list_any, find}
 use Rattle.cells.specs.ByPlace.{by-test}
 use Rattle.cells.specs.Cell.{cells_of, sort_of, same_cells, is_at}
-use Rattle.sorts.specs.SortRule.{Computed, made, is_sort, last_sort, sort_tag, any_real, selected, bit_vector, concat_from, bv_const, rare_list, singleton, by_special}
+use Rattle.sorts.specs.SortRule.{Computed, place, made, no_answer, is_sort, last_sort, sort_tag, any_real, selected, bit_vector, concat_from, bv_const, rare_list, singleton, by_special}
 use Rattle.sorts.specs.declared.special.Special.{Special}
 use Rattle.cells.proofs.Cells.{same-lengths, at_other}
 
@@ -41,10 +43,6 @@ module _ (values : List ℕ) (o q : ℕ) (is : q ≡ sort_of values o) (r : ℕ)
 -- ---- rules that read the first operand or the last
 module _ (tags values : List ℕ) (s : ℕ) (os : List ℕ) where
   module _ (z : length os ≡ 0) where
-    pub last_none : false ≡ is_sort tags values s (last_sort values os)
-    unfolding is_sort last_sort
-    last_none = rw (nil os z)
-
     pub selected-none : false ≡ is_sort tags values s (selected tags values os)
     unfolding is_sort selected
     selected-none = rw (nil os z)
@@ -79,17 +77,21 @@ module _ (tags values : List ℕ) (s : ℕ) (os : List ℕ) where
       unfolding is_sort selected
       selected-array a q is p e = rw (cons os n, ← tag, eq-eqb _ _ a, e, is)
 
--- the last of a list that has one
+-- the last of a list
 module _ (tags values : List ℕ) (s : ℕ) where
+  pub last_none : (os : List ℕ) → length os < 1 → false ≡ is_sort tags values s (last_sort values os)
+  unfolding is_sort last_sort
+  last_none os h = rw (nil os (omega arith))
+
   pub last_some :
-      (os : List ℕ) → (length os ≡ 0 → ⊥) → (q : ℕ) → q ≡ sort_of values (get_or os (length os - 1) 0) →
+      (os : List ℕ) → 1 ≤ length os → (q : ℕ) → q ≡ sort_of values (get_or os (length os - 1) 0) →
       eqb s q ≡ is_sort tags values s (last_sort values os)
   unfolding is_sort last_sort
-  last_some [] n q is = absurd (n refl)
+  last_some [] n q is = absurd (omega arith)
   last_some (o ∷ []) n q is = rw is
   last_some (o ∷ (p ∷ os)) n q is =
       let e : length (o ∷ (p ∷ os)) - 1 ≡ suc (length (p ∷ os) - 1) = omega arith in
-      last_some (p ∷ os) (λ z. absurd (omega arith)) q (rw e at is)
+      last_some (p ∷ os) (omega arith) q (rw e at is)
 
 pub ruleset ends = (last_none, last_some)
 
@@ -120,21 +122,12 @@ module _ (tags values : List ℕ) (s : ℕ) where
 
 pub ruleset consts = (const-short, const-known, const-param)
 
--- ---- Add, Sub, Mult: w says whether an operand from i on is Real
+-- ---- Add, Sub, Mult
 module _ (tags values : List ℕ) where
-  module _ (w : Bool) (os : List ℕ) (i : ℕ) (inv : w ≡ any_real tags values (drop i os)) where
-    pub real-end : length os ≤ i → false ≡ w
-    unfolding any_real
-    real-end h = rw (inv, drop_of_length-le os h)
-
-    module _ (h : i < length os) (k : ℕ) (tag : k ≡ sort_tag tags values (get_or os i 0)) where
-      pub real-here : k ≡ 3 → true ≡ w
-      unfolding any_real
-      real-here a = rw (inv, drop-cons os i 0 h, ← tag, eq-eqb _ _ a)
-
-      pub real-next : (k ≡ 3 → ⊥) → w ≡ any_real tags values (drop (i + 1) os)
-      unfolding any_real
-      real-next o = rw (inv, drop-cons os i 0 h, ← tag, ne_eqb _ _ o, add-one i)
+  pub any_real-any : (os : List ℕ) → any_real tags values os ≡ list_any (λ o. eqb (sort_tag tags values o) 3) os
+  unfolding any_real
+  any_real-any [] = refl
+  any_real-any (o ∷ os) = rw (any_real-any os)
 
   pub arithmetic-is :
       (s : ℕ) (os : List ℕ) (a : Bool) → a ≡ any_real tags values os → (v : Bool) → a ≡ v → (r : Bool) → r ≡ is_at tags values s (cond v 3 2) [] →
@@ -142,29 +135,34 @@ module _ (tags values : List ℕ) where
   unfolding is_sort
   arithmetic-is s os a is v t r e = rw (← is, t, e)
 
-pub ruleset reals = (real-end, real-here, real-next)
+-- ---- bit-vector operations
+module _ (tags values : List ℕ) where
+  -- the sort of the first operand that isn't ParamBitVec, if there is one
+  pub first_bits : Option ℕ → Computed
+  first_bits None = made 6 []
+  first_bits (Some o) = cond (eqb (sort_tag tags values o) 7) (place (sort_of values o)) no_answer
 
--- ---- bit-vector operations: w is what the operands from i on give
-module _ (tags values : List ℕ) (w : Computed) (os : List ℕ) (i : ℕ) (inv : w ≡ bit_vector tags values (drop i os)) (s : ℕ) where
-  pub bits-end : length os ≤ i → (r : Bool) → r ≡ is_at tags values s 6 [] → r ≡ is_sort tags values s w
-  unfolding is_sort bit_vector
-  bits-end h r e = rw (inv, drop_of_length-le os h, e)
+  pub bit_vector-first : (os : List ℕ) → bit_vector tags values os ≡ first_bits (find (λ o. not (eqb (sort_tag tags values o) 6)) os)
+  unfolding bit_vector first_bits
+  bit_vector-first [] = refl
+  bit_vector-first (o ∷ os) =
+      by-test (eqb (sort_tag tags values o) 6)
+      (λ e. let n : eqb (sort_tag tags values o) 7 ≡ false = ne_eqb _ _ (λ s. omega (arith, eqb-true _ _ e)) in rw (e, n) (bit_vector-first os))
+      (λ e. rw e)
 
-  module _ (h : i < length os) (k : ℕ) (tag : k ≡ sort_tag tags values (get_or os i 0)) where
-    pub bits-here : k ≡ 7 → (q : ℕ) → q ≡ sort_of values (get_or os i 0) → eqb s q ≡ is_sort tags values s w
-    unfolding is_sort bit_vector
-    bits-here a q is = rw (inv, drop-cons os i 0 h, ← tag, eq-eqb _ _ a, is)
+  module _ (s : ℕ) (os : List ℕ) where
+    pub bits-none : None ≡ find (λ o. not (eqb (sort_tag tags values o) 6)) os → (r : Bool) → r ≡ is_at tags values s 6 [] → r ≡ is_sort tags values s (bit_vector tags values os)
+    unfolding is_sort first_bits
+    bits-none f r e = rw (bit_vector-first os, ← f, e)
 
-    module _ (o : k ≡ 7 → ⊥) where
-      pub bits-other : (k ≡ 6 → ⊥) → false ≡ is_sort tags values s w
-      unfolding is_sort bit_vector
-      bits-other p = rw (inv, drop-cons os i 0 h, ← tag, ne_eqb _ _ o, ne_eqb _ _ p)
+    module _ (o : ℕ) (f : Some o ≡ find (λ o. not (eqb (sort_tag tags values o) 6)) os) (k : ℕ) (tag : k ≡ sort_tag tags values o) where
+      pub bits-other : (k ≡ 7 → ⊥) → eqb k 7 ≡ is_sort tags values s (bit_vector tags values os)
+      unfolding is_sort first_bits
+      bits-other n = rw (bit_vector-first os, ← f, ← tag, ne_eqb _ _ n)
 
-      pub bits-next : k ≡ 6 → w ≡ bit_vector tags values (drop (i + 1) os)
-      unfolding bit_vector
-      bits-next a = rw (inv, drop-cons os i 0 h, ← tag, ne_eqb _ _ o, eq-eqb _ _ a, add-one i)
-
-pub ruleset bit-vectors = (bits-end, bits-here, bits-other, bits-next)
+      pub bits-here : k ≡ 7 → (q : ℕ) → q ≡ sort_of values o → eqb s q ≡ is_sort tags values s (bit_vector tags values os)
+      unfolding is_sort first_bits
+      bits-here a q is = rw (bit_vector-first os, ← f, ← tag, eq-eqb _ _ a, is)
 
 -- ---- BvConcat
 pub sum_past : (width more : ℕ) → 4294967296 ≤ width → width ≡ cond (ltb width 4294967296) (width + more) width
@@ -221,14 +219,15 @@ module _ (tags values : List ℕ) where
       concat-width a more m sum e =
           rw (inv, drop-cons os i 0 h, ← tag, eq-eqb _ _ a, ← m, e, add-one i) (capped width more param (drop (suc i) os))
 
-      module _ (o : k ≡ 7 → ⊥) where
-        pub concat-other : (k ≡ 6 → ⊥) → false ≡ is_sort tags values s w
-        unfolding is_sort concat_from
-        concat-other p = rw (inv, drop-cons os i 0 h, ← tag, ne_eqb _ _ o, ne_eqb _ _ p)
+      pub concat-next : k ≡ 6 → w ≡ concat_from tags values width true (drop (i + 1) os)
+      unfolding concat_from
+      concat-next a =
+          let o : eqb k 7 ≡ false = ne_eqb _ _ (λ b. omega (arith, a, b)) in
+          rw (inv, drop-cons os i 0 h, ← tag, o, eq-eqb _ _ a, add-one i)
 
-        pub concat-next : k ≡ 6 → w ≡ concat_from tags values width true (drop (i + 1) os)
-        unfolding concat_from
-        concat-next a = rw (inv, drop-cons os i 0 h, ← tag, ne_eqb _ _ o, eq-eqb _ _ a, add-one i)
+      pub concat-other : (k ≡ 7 → ⊥) → (k ≡ 6 → ⊥) → false ≡ is_sort tags values s w
+      unfolding is_sort concat_from
+      concat-other o p = rw (inv, drop-cons os i 0 h, ← tag, ne_eqb _ _ o, ne_eqb _ _ p)
 
 pub ruleset sums = (sum_past, sum_fits)
 

@@ -1,10 +1,5 @@
 use Rattle.appearance.proofs.compute_free_vars.PairLoops.{Hiding}
-use Prim.Native.Nat.{◌-◌}
-use lib.ListN.{length}
 use Rattle.appearance.proofs.compute_free_vars.hide_pairs.Given as goal
 
 abbrev pub invariant-loop-i : goal.invariant-loop-i
 invariant-loop-i l = Hiding l.tags l.values l.index l.lets l.run l.initial.state l.state l.i
-
-abbrev pub decreases-loop-i : goal.decreases-loop-i
-decreases-loop-i l = length l.run - l.i

@@ -1,8 +1,9 @@
-use Rattle.appearance.proofs.pairs.Laws.{variables}
+use Rattle.free_variables.specs.FreeMemo.{pair_sort}
+use borrow.Author.Rules.{rules}
+use Rattle.appearance.proofs.pairs.Laws.{variable-place}
 use Rattle.appearance.proofs.pairs.variable_of.Goals as goal
-
-pub returns-then-lets : goal.returns-then-lets
-returns-then-lets c = search variables
+use Rattle.appearance.proofs.pairs.variable_of.Goals.{then-lets, else-lets}
 
 pub returns : goal.returns
-returns c = search variables
+unfolding pair_sort
+returns c = elim c.if-lets.branch [ then-lets w ↦ search (variable-place, rules) | else-lets w ↦ search (variable-place, rules) ]

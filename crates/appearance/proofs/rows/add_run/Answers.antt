@@ -1,33 +1,13 @@
 use borrow.Author.Rules.{rules}
+use native.Mathlib.Omega.{arith}
 use Rattle.appearance.proofs.rows.Adding.{run-additions, run_end}
 use Rattle.appearance.proofs.rows.add_run.Goals as goal
 
-pub loop-i-init : goal.loop-i-init
-loop-i-init c = search (run-additions, rules)
+pub loop-u-preserved-then-t-u : goal.loop-u-preserved-then-t-u
+loop-u-preserved-then-t-u c = search (run-additions, rules)
 
-pub offset_bounds-run-i : goal.offset_bounds-run-i
-offset_bounds-run-i c = search (run-additions, rules)
-
-pub bounds-run-i : goal.bounds-run-i
-bounds-run-i c = search (run-additions, rules)
-
-pub overflow_add-i : goal.overflow_add-i
-overflow_add-i c = search (run-additions, rules)
-
-pub loop-i-smaller-then-t-u : goal.loop-i-smaller-then-t-u
-loop-i-smaller-then-t-u c = search (run-additions, rules)
-
-pub loop-i-preserved-then-t-u : goal.loop-i-preserved-then-t-u
-loop-i-preserved-then-t-u c = search (run-additions, rules)
-
-pub add_term-requires : goal.add_term-requires
-add_term-requires c = search (run-additions, rules)
-
-pub loop-i-smaller : goal.loop-i-smaller
-loop-i-smaller c = search (run-additions, rules)
-
-pub loop-i-preserved : goal.loop-i-preserved
-loop-i-preserved c = search (run-additions, rules)
+pub loop-u-preserved : goal.loop-u-preserved
+loop-u-preserved c = search (run-additions, rules)
 
 pub returns : goal.returns
-returns c = run_end _ _ _ _ _ _ _ _ c.loop-i.invariant c.loop-i-test.false
+returns c = run_end _ _ _ _ _ _ _ _ c.loop-u.invariant (omega arith)

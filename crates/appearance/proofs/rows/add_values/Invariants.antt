@@ -1,10 +1,5 @@
 use Rattle.appearance.proofs.rows.Adding.{ValuesAdding}
-use Prim.Native.Nat.{◌-◌}
-use lib.ListN.{length}
 use Rattle.appearance.proofs.rows.add_values.Given as goal
 
 abbrev pub invariant-loop-i : goal.invariant-loop-i
 invariant-loop-i l = ValuesAdding l.tags l.words l.initial.table l.to l.t.0 l.run l.table l.i
-
-abbrev pub decreases-loop-i : goal.decreases-loop-i
-decreases-loop-i l = length l.run - l.i

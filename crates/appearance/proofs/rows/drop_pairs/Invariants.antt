@@ -1,10 +1,5 @@
 use Rattle.appearance.proofs.rows.Dropping.{Dropping}
-use Prim.Native.Nat.{◌-◌}
-use lib.ListN.{length}
 use Rattle.appearance.proofs.rows.drop_pairs.Given as goal
 
 abbrev pub invariant-loop-i : goal.invariant-loop-i
 invariant-loop-i l = Dropping l.tags l.values l.index l.initial.table l.to l.table l.lets l.run l.i
-
-abbrev pub decreases-loop-i : goal.decreases-loop-i
-decreases-loop-i l = length l.run - l.i

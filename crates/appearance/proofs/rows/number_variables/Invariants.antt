@@ -1,9 +1,5 @@
 use Rattle.appearance.proofs.rows.Numbers.{Numbering}
-use Prim.Native.Nat.{◌-◌}
 use Rattle.appearance.proofs.rows.number_variables.Given as goal
 
 abbrev pub invariant-loop-p : goal.invariant-loop-p
 invariant-loop-p l = Numbering l.tags l.n l.initial.table l.table l.count l.p
-
-abbrev pub decreases-loop-p : goal.decreases-loop-p
-decreases-loop-p l = l.n - l.p

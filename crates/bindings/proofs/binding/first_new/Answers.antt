@@ -1,12 +1,13 @@
-use borrow.Author.Rules.{rules}
-use Rattle.bindings.proofs.binding.Laws.{first, first-here, first_next}
+use mathlib.Core.Bool.{not}
+use mathlib.Core.Path.{ap}
+use Rattle.bindings.proofs.binding.Laws.{first-end, first-here, first_next}
 use Rattle.bindings.proofs.binding.first_new.Goals as goal
 
-pub returns-then-lacks : goal.returns-then-lacks
-returns-then-lacks c = first-here _ _ c.args.list.now c.loop-i.i c.loop-i.invariant.1 c.loop-i-test.true _ c.lacks.ensures c.if-lacks.true
+pub returns-then-not-has : goal.returns-then-not-has
+returns-then-not-has c = first-here _ _ _ c.loop-pair.invariant _ _ c.in-Some.ensures.steps _ (ap not c.has.ensures) (ap not c.if-not-has.true)
 
-pub loop-i-preserved : goal.loop-i-preserved
-loop-i-preserved c = (search rules, first_next _ _ c.args.list.now c.loop-i.i c.loop-i.invariant.1 c.loop-i-test.true _ c.lacks.ensures c.if-lacks.false)
+pub loop-pair-preserved : goal.loop-pair-preserved
+loop-pair-preserved c = first_next _ _ _ c.loop-pair.invariant _ _ c.in-Some.ensures.steps _ (ap not c.has.ensures) (ap not c.if-not-has.false)
 
 pub returns : goal.returns
-returns c = search first
+returns c = first-end _ _ _ c.loop-pair.invariant c.in-None.ensures.steps.0

@@ -1,15 +1,14 @@
-use borrow.Author.Rules.{rules}
-use Rattle.bindings.proofs.outer_pairs.Laws.{prepares}
+use Rattle.bindings.proofs.outer_pairs.Laws.{prepare-start, prepare-room, prepare-next, prepare-end}
 use Rattle.bindings.proofs.outer_pairs.prepare.Goals as goal
 
-pub loop-i-init : goal.loop-i-init
-loop-i-init c = (search rules, search prepares)
+pub loop-pair-init : goal.loop-pair-init
+loop-pair-init c = rw (c.into_iter-pair-iterator.ensures.into_iter_gives, c.pairs_of-pair-items.ensures) (prepare-start _ _ c.requires)
 
 pub put-k-requires : goal.put-k-requires
-put-k-requires c = search prepares
+put-k-requires c = record { filled = c.loop-pair.invariant.filled; room = prepare-room _ _ _ _ c.loop-pair.invariant _ _ c.in-Some.ensures.steps }
 
-pub loop-i-preserved : goal.loop-i-preserved
-loop-i-preserved c = (search rules, search prepares)
+pub loop-pair-preserved : goal.loop-pair-preserved
+loop-pair-preserved c = prepare-next _ _ _ _ c.loop-pair.invariant _ _ c.in-Some.ensures.steps _ _ c.put-k.auto.prepared c.put-k.ensures
 
 pub returns : goal.returns
-returns c = search prepares
+returns c = prepare-end _ _ _ _ c.loop-pair.invariant c.in-None.ensures.steps.0

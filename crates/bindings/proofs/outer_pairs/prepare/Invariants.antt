@@ -1,11 +1,6 @@
-use mathlib.Core.Path.{◌≡◌}
-use Prim.Native.Nat.{◌-◌}
-use lib.ListN.{length}
+use Rattle.bindings.specs.BindingAnswer.{pairs_left}
 use Rattle.bindings.proofs.outer_pairs.Laws.{Preparing}
 use Rattle.bindings.proofs.outer_pairs.prepare.Given as goal
 
-abbrev pub invariant-loop-i : goal.invariant-loop-i
-invariant-loop-i l = (length l.prepared ≡ length l.initial.prepared) × Preparing l.outer l.prepared l.k l.i
-
-abbrev pub decreases-loop-i : goal.decreases-loop-i
-decreases-loop-i l = length l.outer - l.i
+abbrev pub invariant-loop-pair : goal.invariant-loop-pair
+invariant-loop-pair l = Preparing l.outer l.prepared l.k (pairs_left l.pair-iterator)

@@ -1,18 +1,15 @@
-use borrow.Author.Rules.{rules}
-use Rattle.bindings.proofs.used_pairs.Laws.{is-left, left-next}
+use Rattle.bindings.specs.BindingAnswer.{binding}
+use Rattle.bindings.proofs.used_pairs.Laws.{left_end, left-odd, left_here, left-next}
 use Rattle.bindings.proofs.used_pairs.is_left.Goals as goal
 
-pub loop-k-init : goal.loop-k-init
-loop-k-init c = (search rules, search is-left)
-
-pub returns-then-outer-i-lt2 : goal.returns-then-outer-i-lt2
-returns-then-outer-i-lt2 c = search is-left
+pub returns-in_default : goal.returns-in_default
+returns-in_default c = left-odd _ (binding c.args.sought) c.args.used.now c.loop-mark.mark-index _ c.loop-mark.invariant c.in_default.ensures.steps.0
 
 pub returns-then-is_left_pair : goal.returns-then-is_left_pair
-returns-then-is_left_pair c = search is-left
+returns-then-is_left_pair c = left_here _ (binding c.args.sought) c.args.used.now c.loop-mark.mark-index _ c.loop-mark.invariant c.loop-mark-test.true _ _ c.in-Some.ensures.steps _ c.is_left_pair.ensures c.if-is_left_pair.true
 
-pub loop-k-preserved : goal.loop-k-preserved
-loop-k-preserved c = (search rules, left-next _ _ _ _ _ _ c.loop-k.invariant.1 c.loop-k-test.true c.if-outer-i-lt2.false _ c.is_left_pair.ensures c.if-is_left_pair.false)
+pub loop-mark-preserved : goal.loop-mark-preserved
+loop-mark-preserved c = left-next _ (binding c.args.sought) c.args.used.now c.loop-mark.mark-index _ c.loop-mark.invariant c.loop-mark-test.true _ _ c.in-Some.ensures.steps _ c.is_left_pair.ensures c.if-is_left_pair.false
 
 pub returns : goal.returns
-returns c = search is-left
+returns c = left_end _ (binding c.args.sought) c.args.used.now c.loop-mark.mark-index _ c.loop-mark.invariant c.loop-mark-test.false

@@ -1,11 +1,11 @@
-use Rattle.descriptions.proofs.description.Laws.{puts}
+use Rattle.std.proofs.Common.{arith, ◌≡◌, ◌+◌, ◌-◌, length, refl}
+use Rattle.descriptions.proofs.description.Laws.{filled, cells-put}
 use Rattle.descriptions.proofs.adding.put_cells.Goals as goal
 
-pub loop-j-init : goal.loop-j-init
-loop-j-init c = search puts
-
-pub loop-j-preserved : goal.loop-j-preserved
-loop-j-preserved c = search puts
-
 pub returns : goal.returns
-returns c = search puts
+returns c =
+    let k : c.args.at + length c.args.cells.now - c.args.at ≡ length c.args.cells.now = omega arith in
+    rw k
+    (cells-put _ _ _ _ _ _ _ (omega arith) (omega arith) refl
+    (filled c.args.at (length c.args.cells.now) c.args.tags.now _ (omega arith) (rw k at (c.fill.ensures.after (λ y e. e))))
+    c.copy_from_slice.ensures.after)

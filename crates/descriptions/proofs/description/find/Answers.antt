@@ -1,21 +1,15 @@
-use borrow.Author.Rules.{rules}
-use Rattle.descriptions.proofs.description.Laws.{walk}
-use Rattle.cells.specs.Headers.{first_header}
+use borrow.Author.Tests.{tests}
+use Rattle.std.proofs.Common.{rules}
+use Rattle.std.proofs.lemmas.Iterator.Consumers.{YieldsList-from_first}
+use Rattle.std.proofs.lemmas.Iterator.Search.{find_from_yields_List}
+use Rattle.cells.specs.Cell.{is_at}
+use Rattle.cells.specs.HeadersLeft.{headers_left}
+use Rattle.cells.proofs.HeaderLists.{header-found}
 use Rattle.descriptions.specs.Description.{find}
 use Rattle.descriptions.proofs.description.find.Goals as goal
 
-pub loop-p-init : goal.loop-p-init
-unfolding find first_header
-loop-p-init c = search rules
-
-pub returns-then-is_at : goal.returns-then-is_at
-returns-then-is_at c = search walk
-
-pub returns-then-n-p : goal.returns-then-n-p
-returns-then-n-p c = search walk
-
-pub loop-p-preserved : goal.loop-p-preserved
-loop-p-preserved c = search walk
-
 pub returns : goal.returns
-returns c = search walk
+unfolding find
+returns c =
+    header-found _ _ (λ q. is_at c.args.tags.now c.args.values.now q c.args.tag c.args.cells.now) _
+    (find_from_yields_List _ c.find.new.self _ _ c.find.ensures.ran (YieldsList-from_first (λ p. p) headers_left _ c.header_places.ensures.left) (λ p b q h. search (rules, tests)))

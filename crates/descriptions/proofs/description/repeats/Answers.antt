@@ -1,8 +1,5 @@
-use Rattle.descriptions.proofs.description.Laws.{repetition}
+use Rattle.descriptions.proofs.description.Laws.{repeats-is}
 use Rattle.descriptions.proofs.description.repeats.Goals as goal
 
-pub returns-in-At : goal.returns-in-At
-returns-in-At c = search repetition
-
-pub returns-in-Nothing : goal.returns-in-Nothing
-returns-in-Nothing c = search repetition
+pub returns : goal.returns
+returns c = repeats-is _ _ _ _ _ c.tag_at.ensures c.cells.ensures _ c.find.ensures _ c.is_some.ensures

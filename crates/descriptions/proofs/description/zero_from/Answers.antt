@@ -1,11 +1,6 @@
-use Rattle.descriptions.proofs.description.Laws.{zeros}
+use Rattle.std.proofs.Common.{arith, ◌-◌, length}
+use Rattle.descriptions.proofs.description.Laws.{filled, zeroed}
 use Rattle.descriptions.proofs.description.zero_from.Goals as goal
 
-pub loop-i-init : goal.loop-i-init
-loop-i-init c = search zeros
-
-pub loop-i-preserved : goal.loop-i-preserved
-loop-i-preserved c = search zeros
-
 pub returns : goal.returns
-returns c = search zeros
+returns c = zeroed _ _ _ _ c.min-start.ensures (filled c.min-start.result (length c.args.a.now - c.min-start.result) c.args.a.now _ (omega arith) (c.fill.ensures.after (λ y e. e)))

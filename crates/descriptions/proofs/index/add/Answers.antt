@@ -15,8 +15,8 @@ enter-requires c = record {
   b_lt_bucket_count = search rules;
 }
 
-pub returns-in-At : goal.returns-in-At
-returns-in-At c = search (adds, rules)
+pub returns-in-Some : goal.returns-in-Some
+returns-in-Some c = search (adds, rules)
 
 pub returns-else-is_full : goal.returns-else-is_full
 returns-else-is_full c = search (adds, rules)

@@ -1,33 +1,18 @@
-use borrow.Author.Rules.{rules}
-use Rattle.descriptions.proofs.index.Walked.{entered-start, entered-headers}
+use Rattle.std.proofs.Common.{arith}
+use Rattle.descriptions.proofs.index.Walked.{entered-start, entered-end, entered-has, entered-small, entered-next}
 use Rattle.descriptions.proofs.index.index_headers.Goals as goal
 
-pub zero_from-requires : goal.zero_from-requires
-zero_from-requires c = search (entered-headers, rules)
-
 pub loop-p-init : goal.loop-p-init
-loop-p-init c = entered-start _ _ _ c.requires _ _ (search rules) c.zero_from.ensures
+loop-p-init c = entered-start _ _ _ c.requires _ c.args.index.now _ (omega arith) c.zero_from.ensures (rw c.into_iter-p-iterator.ensures.into_iter_gives c.header_places-p-items.ensures.left)
 
 pub enter_header-requires : goal.enter_header-requires
-enter_header-requires c = search (entered-headers, rules)
-
-pub cell-k-requires : goal.cell-k-requires
-cell-k-requires c = search (entered-headers, rules)
-
-pub overflow_cast-k : goal.overflow_cast-k
-overflow_cast-k c = search (entered-headers, rules)
-
-pub overflow_add-p : goal.overflow_add-p
-overflow_add-p c = search (entered-headers, rules)
-
-pub overflow_add-p-in-loop-p : goal.overflow_add-p-in-loop-p
-overflow_add-p-in-loop-p c = search (entered-headers, rules)
-
-pub loop-p-smaller : goal.loop-p-smaller
-loop-p-smaller c = search (entered-headers, rules)
+enter_header-requires c = record {
+  index = entered-has _ _ _ c.requires _ _ c.loop-p.invariant _ _ c.in-Some.ensures.steps;
+  p_lt_cell_limit = entered-small _ _ _ c.requires _ _ c.loop-p.invariant _ _ c.in-Some.ensures.steps;
+}
 
 pub loop-p-preserved : goal.loop-p-preserved
-loop-p-preserved c = search (entered-headers, rules)
+loop-p-preserved c = entered-next _ _ _ c.requires _ _ c.loop-p.invariant _ _ c.in-Some.ensures.steps _ c.enter_header.ensures.index_2
 
 pub returns : goal.returns
-returns c = search (entered-headers, rules)
+returns c = entered-end _ _ _ c.requires _ _ c.loop-p.invariant c.in-None.ensures.steps.0

@@ -7,8 +7,8 @@ returns-then-mask-eq0 c = search variable
 pub returns-in_default : goal.returns-in_default
 returns-in_default c = search variable
 
-pub returns-then-v-at : goal.returns-then-v-at
-returns-then-v-at c = search variable
+pub returns-then-v-t : goal.returns-then-v-t
+returns-then-v-t c = search variable
 
 pub returns : goal.returns
 returns c = search variable

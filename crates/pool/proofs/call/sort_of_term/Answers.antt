@@ -1,8 +1,10 @@
-use Rattle.pool.proofs.call.Laws.{sorts}
+use mathlib.Core.Path.{refl}
+use Rattle.pool.proofs.checks.Laws.{refused}
+use Rattle.pool.proofs.call.Laws.{sort-refused, sort-is}
 use Rattle.pool.proofs.call.sort_of_term.Goals as goal
 
-pub returns-then-checked-ne0 : goal.returns-then-checked-ne0
-returns-then-checked-ne0 c = search sorts
+pub returns-in-Ok : goal.returns-in-Ok
+returns-in-Ok c = sort-is _ _ _ _ _ _ c.in-Ok.ensures refl _ c.sort_of.ensures _ c.accepted.ensures
 
-pub returns : goal.returns
-returns c = search sorts
+pub returns-in-Err : goal.returns-in-Err
+returns-in-Err c = rw c.from.ensures (sort-refused _ _ _ _ _ _ c.in-Err.ensures (refused _))

@@ -1,12 +1,13 @@
-use borrow.Author.Rules.{rules}
-use Rattle.sort_table.proofs.loading.Laws.{entry-end, entry_here, entry_next, forbids-is}
+use mathlib.Core.Path.{refl}
+use borrow.Author.Tests.{tests}
+use Rattle.std.proofs.Common.{rules}
+use Rattle.std.proofs.lemmas.Iterator.{YieldsList-from_range}
+use Rattle.std.proofs.lemmas.Iterator.Search.{find_from_yields_List}
+use Rattle.sort_table.specs.TableAnswer.{entry_count, forbids}
+use Rattle.sort_table.proofs.loading.Laws.{first-is, forbids-is}
 use Rattle.sort_table.proofs.loading.first_forbidden.Goals as goal
 
-pub returns-then-not-is_allowed : goal.returns-then-not-is_allowed
-returns-then-not-is_allowed c = search (entry_here, forbids-is, rules)
-
-pub loop-i-preserved : goal.loop-i-preserved
-loop-i-preserved c = search (entry_next, forbids-is, rules)
-
 pub returns : goal.returns
-returns c = search (entry-end, rules)
+returns c =
+    first-is _ _ _
+    (find_from_yields_List (forbids c.args.entries.now) c.find.new.self _ _ c.find.ensures.ran (YieldsList-from_range 0 entry_count _ (cc) refl) (λ x b q h. search (rules, tests, forbids-is)))

@@ -1,12 +1,13 @@
-use borrow.Author.Rules.{rules}
-use Rattle.sort_table.proofs.loading.Laws.{entry-end, entry_here, entry_next, loses-is}
+use mathlib.Core.Path.{refl}
+use borrow.Author.Tests.{tests}
+use Rattle.std.proofs.Common.{rules}
+use Rattle.std.proofs.lemmas.Iterator.{YieldsList-from_range}
+use Rattle.std.proofs.lemmas.Iterator.Search.{find_from_yields_List}
+use Rattle.sort_table.specs.TableAnswer.{entry_count, loses_bool}
+use Rattle.sort_table.proofs.loading.Laws.{first-is, loses-is}
 use Rattle.sort_table.proofs.loading.first_not_bool.Goals as goal
 
-pub returns-then-loses_bool : goal.returns-then-loses_bool
-returns-then-loses_bool c = search (entry_here, loses-is, rules)
-
-pub loop-i-preserved : goal.loop-i-preserved
-loop-i-preserved c = search (entry_next, loses-is, rules)
-
 pub returns : goal.returns
-returns c = search (entry-end, rules)
+returns c =
+    first-is _ _ _
+    (find_from_yields_List (loses_bool c.args.entries.now) c.find.new.self _ _ c.find.ensures.ran (YieldsList-from_range 0 entry_count _ (cc) refl) (λ x b q h. search (rules, tests, loses-is)))

@@ -1,8 +1,5 @@
-use Rattle.sorts.proofs.list_sorts.Laws.{parts}
+use Rattle.sorts.proofs.list_sorts.Laws.{last_rest}
 use Rattle.sorts.proofs.list_sorts.but_last.Goals as goal
 
-pub returns-then-n-eq0 : goal.returns-then-n-eq0
-returns-then-n-eq0 c = search parts
-
-pub returns : goal.returns
-returns c = search parts
+pub returns-in-len1-up : goal.returns-in-len1-up
+returns-in-len1-up c = last_rest c.args.a.now

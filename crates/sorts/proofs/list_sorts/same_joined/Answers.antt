@@ -1,11 +1,10 @@
-use Rattle.sorts.proofs.list_sorts.Laws.{joins}
+use mathlib.Core.Path.{◌≡◌, refl}
+use Rattle.std.proofs.lemmas.Iterator.{YieldsList-from_slice}
+use Rattle.std.proofs.lemmas.Iterator.Consumers.{YieldsList-from_chain}
+use Rattle.sorts.proofs.list_sorts.Laws.{same_from_eq}
 use Rattle.sorts.proofs.list_sorts.same_joined.Goals as goal
 
-pub returns-then-a-n : goal.returns-then-a-n
-returns-then-a-n c = search joins
-
-pub returns-then-not-same_cells : goal.returns-then-not-same_cells
-returns-then-not-same_cells c = search joins
-
 pub returns : goal.returns
-returns c = search joins
+returns c =
+    same_from_eq (λ x y. y ≡ x) c.chain.result _ c.eq.ensures.ran (YieldsList-from_slice c.args.a.now (cc))
+    (λ it h. rw h (YieldsList-from_chain (YieldsList-from_slice c.args.left.now (cc)) (YieldsList-from_slice c.args.right.now (cc)) (cc) (cc))) (λ x y. refl)

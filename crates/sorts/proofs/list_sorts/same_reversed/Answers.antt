@@ -1,14 +1,9 @@
-use Rattle.sorts.proofs.list_sorts.Laws.{reversed}
+use mathlib.Core.Path.{◌≡◌, refl}
+use Rattle.std.proofs.lemmas.Iterator.{YieldsList-from_slice}
+use Rattle.std.proofs.lemmas.Iterator.Adapters.{YieldsList-from_rev_slice}
+use Rattle.sorts.proofs.list_sorts.Laws.{same_from_eq}
 use Rattle.sorts.proofs.list_sorts.same_reversed.Goals as goal
 
-pub returns-then-a-b : goal.returns-then-a-b
-returns-then-a-b c = search reversed
-
-pub returns-then-a-i : goal.returns-then-a-i
-returns-then-a-i c = search reversed
-
-pub loop-i-preserved : goal.loop-i-preserved
-loop-i-preserved c = search reversed
-
 pub returns : goal.returns
-returns c = search reversed
+returns c =
+    same_from_eq (λ x y. y ≡ x) c.rev.result _ c.eq.ensures.ran (YieldsList-from_slice c.args.a.now (cc)) (λ it h. rw h (YieldsList-from_rev_slice c.args.b.now (cc))) (λ x y. refl)

@@ -1,19 +1,12 @@
-use Rattle.sorts.proofs.list_sorts.Laws.{sorts, sorts-next}
+use mathlib.Core.Path.{◌≡◌, refl}
+use Rattle.std.proofs.Common.{rules}
+use Rattle.std.proofs.lemmas.Iterator.{YieldsList-from_slice, YieldsList-from_map}
+use Rattle.std.proofs.lemmas.Iterator.Consumers.{YieldsList-from_copied}
+use Rattle.cells.specs.Cell.{sort_of}
+use Rattle.sorts.proofs.list_sorts.Laws.{same_from_eq}
 use Rattle.sorts.proofs.list_sorts.same_sorts.Goals as goal
 
-pub returns-then-cells-os : goal.returns-then-cells-os
-returns-then-cells-os c = search sorts
-
-pub returns-then-cells-i : goal.returns-then-cells-i
-returns-then-cells-i c = search sorts
-
-pub loop-i-preserved : goal.loop-i-preserved
-loop-i-preserved c = sorts-next _ _ c.args.os.now _ _
-    c.loop-i.invariant
-    c.if-cells-os.false
-    c.loop-i-test.true _
-    c.sort_of-sort.ensures
-    c.if-cells-i.false
-
 pub returns : goal.returns
-returns c = search sorts
+returns c =
+    same_from_eq (λ x y. y ≡ x) c.map-sorts.result _ c.eq.ensures.ran (YieldsList-from_copied (YieldsList-from_slice c.args.cells.now (cc)))
+    (λ it h. rw h (YieldsList-from_map _ (sort_of c.args.values.now) (YieldsList-from_slice c.args.os.now (cc)) c.map-sorts.ensures.closure (λ x r q k. search rules))) (λ x y. refl)

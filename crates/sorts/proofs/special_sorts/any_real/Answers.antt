@@ -1,11 +1,11 @@
-use Rattle.sorts.proofs.special_sorts.Laws.{reals}
+use borrow.Author.Tests.{tests}
+use Rattle.std.proofs.Common.{rules}
+use Rattle.std.proofs.lemmas.Iterator.{YieldsList-from_slice}
+use Rattle.std.proofs.lemmas.Iterator.Search.{any_from_yields_List}
+use Rattle.sorts.proofs.special_sorts.Laws.{any_real-any}
 use Rattle.sorts.proofs.special_sorts.any_real.Goals as goal
 
-pub returns-then-sort_tag-eq-REAL : goal.returns-then-sort_tag-eq-REAL
-returns-then-sort_tag-eq-REAL c = search reals
-
-pub loop-i-preserved : goal.loop-i-preserved
-loop-i-preserved c = search reals
-
 pub returns : goal.returns
-returns c = search reals
+returns c =
+    rw any_real-any
+    (any_from_yields_List _ _ _ _ c.any.ensures.ran (YieldsList-from_slice c.args.os.now (cc)) (λ x b q h. search (rules, tests)))

@@ -1,14 +1,12 @@
 use Rattle.sorts.proofs.special_sorts.Laws.{concats}
 use Rattle.sorts.proofs.special_sorts.concat.Goals as goal
+use Rattle.sorts.proofs.special_sorts.concat.Goals.{in-7, in-6}
 
-pub loop-i-preserved-then-tag-eq-BIT_VEC : goal.loop-i-preserved-then-tag-eq-BIT_VEC
-loop-i-preserved-then-tag-eq-BIT_VEC c = search concats
+pub returns-in_default : goal.returns-in_default
+returns-in_default c = search concats
 
-pub returns-then-tag-ne-PARAM_BIT_VEC : goal.returns-then-tag-ne-PARAM_BIT_VEC
-returns-then-tag-ne-PARAM_BIT_VEC c = search concats
-
-pub loop-i-preserved : goal.loop-i-preserved
-loop-i-preserved c = search concats
+pub loop-o-preserved : goal.loop-o-preserved
+loop-o-preserved c = elim c.match-sort_tag.branch [ in-7 w ↦ rw (w.width-is, w.param-is) (search concats) | in-6 w ↦ rw (w.width-is, w.param-is) (search concats) ]
 
 pub returns-then-param : goal.returns-then-param
 returns-then-param c = search concats
