@@ -1,5 +1,6 @@
 -- Laws of putting forms into a pool: the pool grows, what was put stands there, and what stands is found again however the pool grows.
 -- Assumes nothing.
+use Rattle.std.specs.Prelude.{Option, Some, None}
 use Prim.Native.Nat.{ℕ, ◌+◌, ◌≤◌, ◌<◌}
 use mathlib.Core.Path.{◌≡◌, refl, sym, ap, ◌∙◌}
 use mathlib.Core.Bool.{true, false}
@@ -10,8 +11,6 @@ use native.Mathlib.Omega.{arith}
 use borrow.Author.Tests.{eq-eqb}
 use Rattle.cells.specs.Cell.{cells_of, is_at}
 use Rattle.descriptions.specs.Description.{find}
-use Rattle.cells.specs.declared.Found.{Found}
-use Rattle.cells.specs.declared.Found.TheVariants.{At, Nothing}
 use Rattle.cells.proofs.Cells.{same_refl}
 use Rattle.cells.proofs.Walks.{first-here, first_below}
 use Rattle.descriptions.proofs.description.Fills.{Fills, filled, more, fills-grown}
@@ -113,8 +112,8 @@ module _ (q q' : Pool) (good : Good q) (good' : Good q') (g : Grows q q') where
   }
 
   -- is found there in every pool that goes on
-  find-still : (tag : ℕ) (cells : List ℕ) (p : ℕ) → find q.tags q.values (count q) tag cells ≡ At p
-      → find q'.tags q'.values (count q') tag cells ≡ At p
+  find-still : (tag : ℕ) (cells : List ℕ) (p : ℕ) → find q.tags q.values (count q) tag cells ≡ Some p
+      → find q'.tags q'.values (count q') tag cells ≡ Some p
   find-still tag cells p e =
       rw (find-grown (count q) q.tags q.values q'.tags q'.values grows-cells (count q') tag cells g.longer good.fills, e)
 
@@ -124,18 +123,18 @@ pub record PutOn (q : Pool) (tag : ℕ) (cells : List ℕ) (o : Placed) : Type 0
   pub good : Good o.pool
   pub grows : Grows q o.pool
   pub below : o.place < count o.pool
-  pub found : find o.pool.tags o.pool.values (count o.pool) tag cells ≡ At o.place
+  pub found : find o.pool.tags o.pool.values (count o.pool) tag cells ≡ Some o.place
 
 module _ (q : Pool) (tag : ℕ) (cells : List ℕ) where
   pub put-becomes : Becomes q (put q tag cells).pool
   unfolding put
   put-becomes = go (find q.tags q.values (count q) tag cells)
     where
-      go : (f : Found) → Becomes q (place_at q tag cells f).pool
-      go (At p) = same
-      go Nothing = longer {q' = extend q tag cells} (omega (arith, extend-count q tag cells))
+      go : (f : Option ℕ) → Becomes q (place_at q tag cells f).pool
+      go (Some p) = same
+      go None = longer {q' = extend q tag cells} (omega (arith, extend-count q tag cells))
 
-  pub put-found : (p : ℕ) → find q.tags q.values (count q) tag cells ≡ At p → put q tag cells ≡ record { pool = q; place = p }
+  pub put-found : (p : ℕ) → find q.tags q.values (count q) tag cells ≡ Some p → put q tag cells ≡ record { pool = q; place = p }
   unfolding put
   put-found p e = rw e
 
@@ -143,9 +142,9 @@ module _ (q : Pool) (tag : ℕ) (cells : List ℕ) where
   unfolding put find
   put_on good = go (find q.tags q.values (count q) tag cells) refl
     where
-      go : (f : Found) → find q.tags q.values (count q) tag cells ≡ f → PutOn q tag cells (place_at q tag cells f)
-      go (At p) e = record { good = good; grows = grows-refl q; below = first_below q.values (count q) _ p e; found = e }
-      go Nothing e = record {
+      go : (f : Option ℕ) → find q.tags q.values (count q) tag cells ≡ f → PutOn q tag cells (place_at q tag cells f)
+      go (Some p) e = record { good = good; grows = grows-refl q; below = first_below q.values (count q) _ p e; found = e }
+      go None e = record {
         good = extend-good q tag cells good;
         grows = extend-grows q tag cells good;
         below = omega (arith, extend-count q tag cells);
@@ -162,13 +161,13 @@ module _ (q : Pool) (tag : ℕ) (cells : List ℕ) where
 
   -- a put that leaves a pool as it was before: the description stood there
   put_back : (q₀ : Pool) (p : ℕ) → Becomes q₀ q → put q tag cells ≡ record { pool = q₀; place = p }
-      → (q ≡ q₀) × (find q.tags q.values (count q) tag cells ≡ At p)
+      → (q ≡ q₀) × (find q.tags q.values (count q) tag cells ≡ Some p)
   unfolding put
   put_back q₀ p b = go (find q.tags q.values (count q) tag cells)
     where
-      go : (f : Found) → place_at q tag cells f ≡ record { pool = q₀; place = p } → (q ≡ q₀) × (f ≡ At p)
-      go (At x) e = (ap (λ (o : Placed). o.pool) e, ap (λ (o : Placed). At o.place) e)
-      go Nothing e =
+      go : (f : Option ℕ) → place_at q tag cells f ≡ record { pool = q₀; place = p } → (q ≡ q₀) × (f ≡ Some p)
+      go (Some x) e = (ap (λ (o : Placed). o.pool) e, ap (λ (o : Placed). Some o.place) e)
+      go None e =
           let z : count (extend q tag cells) ≡ count q₀ = ap (λ (o : Placed). count o.pool) e in
           absurd (omega (arith, extend-count q tag cells, becomes-longer q₀ q b))
 

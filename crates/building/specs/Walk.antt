@@ -1,15 +1,14 @@
 -- What the walkers that build promise each other: what is built, what the memo may hold, and what a refusal leaves.
 -- The memo is no part of a public contract.
--- Rests on cells' Cell, Limits and struct `TermPlace`, on descriptions' Index and Fills, on formulas' Formula, Normal and Built, and on Arrays and
--- the enum `Built`.
+-- Rests on cells' Cell, Limits and struct `TermPlace`, on descriptions' Index and Fills, on formulas' Formula, Normal and Built, and on
+-- Arrays.
+use Rattle.std.specs.Prelude.{Option, Some, None}
 use Rattle.std.specs.Prelude.{ℕ, suc, ◌+◌, ◌-◌, ◌≤◌, ◌<◌, ◌≡◌, Bool, true, false, not, cond, List, map, length, get_or, take, drop, ltb}
 use Rattle.cells.specs.Limits.{cell_limit}
 use Rattle.cells.specs.declared.TermPlace.{TermPlace}
 use Rattle.cells.specs.Cell.{operands_of}
 use Rattle.descriptions.specs.Index.{Index}
 use Rattle.descriptions.proofs.description.Fills.{Fills}
-use Rattle.building.specs.declared.build.Built.{Built}
-use Rattle.building.specs.declared.build.Built.TheVariants.{At, Full}
 use Rattle.formulas.specs.Normal.{Normal, Normals, pair, nnf, prenex}
 use Rattle.formulas.specs.Formula.{form}
 use Rattle.formulas.specs.Built.{Pool, Placed, count, intern, interns, normals_of, normal_at}
@@ -39,19 +38,19 @@ pub record Holds (end : ℕ) (o : Placed) (p m : ℕ) (tags values : List ℕ) :
   pub state : State end m tags values
 
 -- that, or no room for o in arrays of this size
-abbrev pub BuiltOutcome : ℕ → ℕ → Placed → Built → List ℕ → List ℕ → Type 0
-BuiltOutcome end size o (At p m) tags values = Holds end o p.0 m tags values
-BuiltOutcome end size o Full tags values = fits o.pool size ≡ false
+abbrev pub BuiltOutcome : ℕ → ℕ → Placed → Option (TermPlace × ℕ) → List ℕ → List ℕ → Type 0
+BuiltOutcome end size o (Some (p, m)) tags values = Holds end o p.0 m tags values
+BuiltOutcome end size o None tags values = fits o.pool size ≡ false
 
 -- r is the answer of a call that puts o into tags and values, which leaves tags' and values'
-pub record Puts (end : ℕ) (tags values : List ℕ) (o : Placed) (r : Built) (tags' values' : List ℕ) : Type 0 where
+pub record Puts (end : ℕ) (tags values : List ℕ) (o : Placed) (r : Option (TermPlace × ℕ)) (tags' values' : List ℕ) : Type 0 where
   pub outcome : BuiltOutcome end (length tags) o r tags' values'
   pub left : Left end tags values tags' values'
 
 -- the index of the pool that a call leaves; a refusal leaves any
-abbrev pub Indexed : Built → List ℕ → List ℕ → List ℕ → Type 0
-Indexed (At p m) tags values index = Index tags values m index
-Indexed Full tags values index = Unit {0}
+abbrev pub Indexed : (Option (TermPlace × ℕ)) → List ℕ → List ℕ → List ℕ → Type 0
+Indexed (Some (p, m)) tags values index = Index tags values m index
+Indexed None tags values index = Unit {0}
 
 -- ---- a walk's array: the memo, then the row of a new term's cells
 abbrev pub row_start : ℕ
@@ -111,12 +110,12 @@ pub record FormsNoted (form_at : ℕ → Normal (List ℕ) ℕ) (q : Pool) (work
   pub keeps : Keeps work work'
 
 -- what is left of the memo's promise: a refusal ends the whole walk
-abbrev pub Remembers : (ℕ → Normal (List ℕ) ℕ) → List ℕ → Built → List ℕ → List ℕ → List ℕ → Type 0
-Remembers form_at work (At p m) tags values work' = FormsNoted form_at (pool_of tags values m) work work'
-Remembers form_at work Full tags values work' = Unit {0}
+abbrev pub Remembers : (ℕ → Normal (List ℕ) ℕ) → List ℕ → Option (TermPlace × ℕ) → List ℕ → List ℕ → List ℕ → Type 0
+Remembers form_at work (Some (p, m)) tags values work' = FormsNoted form_at (pool_of tags values m) work work'
+Remembers form_at work None tags values work' = Unit {0}
 
 -- a walker that puts o, and keeps in the memo what it built on the way
-pub record Builds (form_at : ℕ → Normal (List ℕ) ℕ) (end : ℕ) (tags values work : List ℕ) (o : Placed) (r : Built) (tags' values' work' : List ℕ) : Type 0 where
+pub record Builds (form_at : ℕ → Normal (List ℕ) ℕ) (end : ℕ) (tags values work : List ℕ) (o : Placed) (r : Option (TermPlace × ℕ)) (tags' values' work' : List ℕ) : Type 0 where
   pub puts : Puts end tags values o r tags' values'
   pub memo-is : Remembers form_at work r tags' values' work'
 
@@ -147,23 +146,23 @@ pub record WalkReady (w : Walk) (end n : ℕ) (tags values work : List ℕ) : Ty
   pub right : FormsMemo (entry_form w end tags values) (pool_of tags values n) work
 
 -- a form is put into the pool of n cells
-abbrev pub Formed : Walk → ℕ → ℕ → List ℕ → List ℕ → List ℕ → Normal (List ℕ) ℕ → Built → List ℕ → List ℕ → List ℕ → Type 0
+abbrev pub Formed : Walk → ℕ → ℕ → List ℕ → List ℕ → List ℕ → Normal (List ℕ) ℕ → Option (TermPlace × ℕ) → List ℕ → List ℕ → List ℕ → Type 0
 Formed w end n tags values work f r tags' values' work' =
     Builds (entry_form w end tags values) end tags values work (intern f (pool_of tags values n)) r tags' values' work'
 
 -- the form of the term at t, which the memo then has
-pub record Known (w : Walk) (end n : ℕ) (tags values work : List ℕ) (t : ℕ) (polarity : Bool) (r : Built) (tags' values' work' : List ℕ) : Type 0 where
+pub record Known (w : Walk) (end n : ℕ) (tags values work : List ℕ) (t : ℕ) (polarity : Bool) (r : Option (TermPlace × ℕ)) (tags' values' work' : List ℕ) : Type 0 where
   pub formed : Formed w end n tags values work (form_of w end tags values t polarity) r tags' values' work'
-  pub known : (p : TermPlace) (m : ℕ) → r ≡ At p m → get_or (memo_of work') (slot_of t polarity) 0 ≡ suc p.0
+  pub known : (p : TermPlace) (m : ℕ) → r ≡ Some (p, m) → get_or (memo_of work') (slot_of t polarity) 0 ≡ suc p.0
 
 -- the forms of the operands of the term at t from i on, whose places the memo then has
 abbrev pub operand_forms : Walk → ℕ → List ℕ → List ℕ → ℕ → Bool → ℕ → Normals (List ℕ) ℕ
 operand_forms w end tags values t polarity i = normals_of (λ u. form_of w end tags values u polarity) (drop i (run_of end tags values t))
 
-pub record OperandsKnown (w : Walk) (end n : ℕ) (tags values work : List ℕ) (t : ℕ) (polarity : Bool) (i : ℕ) (r : Built) (tags' values' work' : List ℕ) : Type 0 where
+pub record OperandsKnown (w : Walk) (end n : ℕ) (tags values work : List ℕ) (t : ℕ) (polarity : Bool) (i : ℕ) (r : Option (TermPlace × ℕ)) (tags' values' work' : List ℕ) : Type 0 where
   pub builds : Builds (entry_form w end tags values) end tags values work
       (record { pool = (interns (operand_forms w end tags values t polarity i) (pool_of tags values n)).pool; place = 0 }) r tags' values' work'
-  pub places : (p : TermPlace) (m : ℕ) → r ≡ At p m
+  pub places : (p : TermPlace) (m : ℕ) → r ≡ Some (p, m)
       → (interns (operand_forms w end tags values t polarity i) (pool_of tags values n)).places ≡ places_in (memo_of work') polarity (drop i (run_of end tags values t))
 
 -- every operand of the term at t stands before it
@@ -182,6 +181,6 @@ abbrev pub two_pairs : Bool → (ℕ → Bool → Normal (List ℕ) ℕ) → ℕ
 two_pairs p f a b c q d = pair p (pair (not p) (f a (not p)) (f b p)) (pair (not p) (f c q) (f d p))
 
 -- the form of a term, o, in arrays whose first n cells are a pool
-abbrev pub NormalBuilt : ℕ → List ℕ → List ℕ → Placed → Built → List ℕ → List ℕ → Type 0
-NormalBuilt n tags values o (At p m) tags' values' = Holds n o p.0 m tags' values' × (fits o.pool (length tags) ≡ true)
-NormalBuilt n tags values o Full tags' values' = Left n tags values tags' values' × (fits o.pool (length tags) ≡ false)
+abbrev pub NormalBuilt : ℕ → List ℕ → List ℕ → Placed → Option (TermPlace × ℕ) → List ℕ → List ℕ → Type 0
+NormalBuilt n tags values o (Some (p, m)) tags' values' = Holds n o p.0 m tags' values' × (fits o.pool (length tags) ≡ true)
+NormalBuilt n tags values o None tags' values' = Left n tags values tags' values' × (fits o.pool (length tags) ≡ false)

@@ -8,14 +8,8 @@ use pool::TermPlace;
 use pool::description::Added;
 use pool::index::{INDEX, add};
 
-// Where a term that was built stands, with the new count; or no room.
-#[derive(Clone, Copy)]
-pub enum Built {
-    At(TermPlace, usize),
-    Full,
-}
-
-// Puts a description into the pool of n cells: where it stands already, nothing changes.
+// Puts a description into the pool of n cells: where it stands already, nothing changes. The place of what is built, here and in the walks,
+// comes with the new count; None is no room.
 pub(crate) fn put(
     tags: &mut [u8],
     values: &mut [u32],
@@ -23,7 +17,7 @@ pub(crate) fn put(
     n: usize,
     tag: u8,
     cells: &[u32],
-) -> Built
+) -> Option<(TermPlace, usize)>
     requires state { State n n tags.old values.old }
     requires index { Index tags.old values.old n index.old }
     ensures puts { Puts n tags.old values.old (put (pool_of tags.old values.old n) tag cells.now) result tags.new values.new }
@@ -31,8 +25,8 @@ pub(crate) fn put(
 {
     let added = add(tags, values, index, n, tag, cells);
     match added {
-        Added::There(p) => Built::At(TermPlace(p as u32), n),
-        Added::New(p, m) => Built::At(TermPlace(p as u32), m),
-        Added::Full => Built::Full,
+        Added::There(p) => Some((TermPlace(p as u32), n)),
+        Added::New(p, m) => Some((TermPlace(p as u32), m)),
+        Added::Full => None,
     }
 }

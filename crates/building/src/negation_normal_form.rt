@@ -10,7 +10,6 @@ ghost use Rattle.building.specs.Arrays.{pool_of};
 ghost use Rattle.descriptions.specs.Index.{Index};
 ghost use Rattle.building.specs.Walk.{State, Indexed, normal, normal_of, Formed, Known, OperandsKnown, Before, AllBelow, two_pairs, NormalBuilt, WalkReady};
 
-use crate::build::Built;
 use crate::terms::{WORK, literal, put_connective, put_pair, put_quantifier, slot};
 use formulas::view::{View, view_of};
 use pool::TermPlace;
@@ -32,7 +31,7 @@ fn negation_normal_form(
     n: usize,
     t: TermPlace,
     polarity: bool,
-) -> Built
+) -> Option<(TermPlace, usize)>
     requires walk_ready { WalkReady normal end n tags.old values.old work.old }
     requires t_lt_end { t.0 < end }
     requires index { Index tags.old values.old n index.old }
@@ -42,13 +41,11 @@ fn negation_normal_form(
     let i = slot(t, polarity);
     let known = work[i];
     if known != 0 {
-        return Built::At(TermPlace(known - 1), n);
+        return Some((TermPlace(known - 1), n));
     }
-    let Built::At(p, m) = expand(tags, values, work, index, end, n, t, polarity) else {
-        return Built::Full;
-    };
+    let (p, m) = expand(tags, values, work, index, end, n, t, polarity)?;
     work[i] = p.0 + 1;
-    Built::At(p, m)
+    Some((p, m))
 }
 
 // The same for a term that the memo does not have.
@@ -62,7 +59,7 @@ fn expand(
     n: usize,
     t: TermPlace,
     polarity: bool,
-) -> Built
+) -> Option<(TermPlace, usize)>
     requires walk_ready { WalkReady normal end n tags.old values.old work.old }
     requires t_lt_end { t.0 < end }
     requires index { Index tags.old values.old n index.old }
@@ -104,7 +101,7 @@ fn connective_form(
     t: TermPlace,
     polarity: bool,
     b: bool,
-) -> Built
+) -> Option<(TermPlace, usize)>
     requires walk_ready { WalkReady normal end n tags.old values.old work.old }
     requires t_lt_end { t.0 < end }
     requires t_value { view_of (take end tags.old) (take end values.old) t.0 ≡ AndOr b }
@@ -112,9 +109,7 @@ fn connective_form(
     ensures formed { Formed normal end n tags.old values.old work.old (normal_of end tags.old values.old t.0 polarity) result tags.new values.new work.new }
     ensures indexed { Indexed result tags.new values.new index.new }
 {
-    let Built::At(_, m) = operand_forms(tags, values, work, index, end, n, t, polarity) else {
-        return Built::Full;
-    };
+    let (_, m) = operand_forms(tags, values, work, index, end, n, t, polarity)?;
     put_connective(tags, values, work, index, end, m, t, polarity, b)
 }
 
@@ -131,7 +126,7 @@ fn quantifier_form(
     polarity: bool,
     b: bool,
     body: TermPlace,
-) -> Built
+) -> Option<(TermPlace, usize)>
     requires walk_ready { WalkReady normal end n tags.old values.old work.old }
     requires t_lt_end { t.0 < end }
     requires t_value { view_of (take end tags.old) (take end values.old) t.0 ≡ Quantifier b body }
@@ -140,9 +135,7 @@ fn quantifier_form(
     ensures indexed { Indexed result tags.new values.new index.new }
 {
     let form = negation_normal_form(tags, values, work, index, end, n, body, polarity);
-    let Built::At(p, m) = form else {
-        return Built::Full;
-    };
+    let (p, m) = form?;
     put_quantifier(tags, values, work, index, end, m, t, polarity, b, p)
 }
 
@@ -157,7 +150,7 @@ fn operand_forms(
     n: usize,
     t: TermPlace,
     polarity: bool,
-) -> Built
+) -> Option<(TermPlace, usize)>
     requires walk_ready { WalkReady normal end n tags.old values.old work.old }
     requires t_lt_end { t.0 < end }
     requires before { Before end tags.old values.old t.0 }
@@ -165,21 +158,15 @@ fn operand_forms(
     ensures operands_known { OperandsKnown normal end n tags.old values.old work.old t.0 polarity 0 result tags.new values.new work.new }
     ensures indexed { Indexed result tags.new values.new index.new }
 {
+    let count = operands(&tags[..end], &values[..end], t).len();
     let mut m = n;
-    let mut i: usize = 0;
-    loop {
+    for i in 0..count {
         let run = operands(&tags[..end], &values[..end], t);
-        if run.len() <= i {
-            return Built::At(TermPlace(0), m);
-        }
         let u = TermPlace(run[i]);
-        let Built::At(_, k) = negation_normal_form(tags, values, work, index, end, m, u, polarity)
-        else {
-            return Built::Full;
-        };
+        let (_, k) = negation_normal_form(tags, values, work, index, end, m, u, polarity)?;
         m = k;
-        i += 1;
     }
+    Some((TermPlace(0), m))
 }
 
 // A pair of the normal forms of a and, at the polarity, of b: their `or`, and their `and` at false polarity.
@@ -194,7 +181,7 @@ fn pair_of(
     polarity: bool,
     a: Signed,
     b: TermPlace,
-) -> Built
+) -> Option<(TermPlace, usize)>
     requires walk_ready { WalkReady normal end n tags.old values.old work.old }
     requires a_lt_end { a.0.0 < end }
     requires b_lt_end { b.0 < end }
@@ -202,13 +189,8 @@ fn pair_of(
     ensures formed { Formed normal end n tags.old values.old work.old (pair (not polarity) (normal_of end tags.old values.old a.0.0 a.1) (normal_of end tags.old values.old b.0 polarity)) result tags.new values.new work.new }
     ensures indexed { Indexed result tags.new values.new index.new }
 {
-    let Built::At(p, m) = negation_normal_form(tags, values, work, index, end, n, a.0, a.1) else {
-        return Built::Full;
-    };
-    let Built::At(q, l) = negation_normal_form(tags, values, work, index, end, m, b, polarity)
-    else {
-        return Built::Full;
-    };
+    let (p, m) = negation_normal_form(tags, values, work, index, end, n, a.0, a.1)?;
+    let (q, l) = negation_normal_form(tags, values, work, index, end, m, b, polarity)?;
     put_pair(tags, values, index, l, !polarity, p, q)
 }
 
@@ -227,7 +209,7 @@ fn two_pairs(
     b: TermPlace,
     c: Signed,
     d: TermPlace,
-) -> Built
+) -> Option<(TermPlace, usize)>
     requires walk_ready { WalkReady normal end n tags.old values.old work.old }
     requires all_below { AllBelow end a.0 b.0 c.0.0 d.0 }
     requires index { Index tags.old values.old n index.old }
@@ -235,12 +217,8 @@ fn two_pairs(
     ensures indexed { Indexed result tags.new values.new index.new }
 {
     let f = Signed(a, !polarity);
-    let Built::At(p, m) = pair_of(tags, values, work, index, end, n, polarity, f, b) else {
-        return Built::Full;
-    };
-    let Built::At(q, l) = pair_of(tags, values, work, index, end, m, polarity, c, d) else {
-        return Built::Full;
-    };
+    let (p, m) = pair_of(tags, values, work, index, end, n, polarity, f, b)?;
+    let (q, l) = pair_of(tags, values, work, index, end, m, polarity, c, d)?;
     put_pair(tags, values, index, l, polarity, p, q)
 }
 
@@ -253,7 +231,7 @@ pub fn build_normal_form(
     n: usize,
     t: TermPlace,
     polarity: bool,
-) -> Built
+) -> Option<(TermPlace, usize)>
     requires state { State n n tags.old values.old }
     requires t_lt_n { t.0 < n }
     requires index { Index tags.old values.old n index.old }

@@ -6,7 +6,6 @@ ghost use Rattle.building.specs.Arrays.{pool_of};
 ghost use Rattle.descriptions.specs.Index.{Index};
 ghost use Rattle.building.specs.Walk.{State, Indexed, taken_out, form_of, Formed, Known, OperandsKnown, Before, NormalBuilt, WalkReady};
 
-use crate::build::Built;
 use crate::terms::{WORK, clear_memo, put_connective, slot};
 use formulas::view::{NormalView, normal_view};
 use pool::TermPlace;
@@ -23,7 +22,7 @@ fn prenex_forall(
     end: usize,
     n: usize,
     x: TermPlace,
-) -> Built
+) -> Option<(TermPlace, usize)>
     requires walk_ready { WalkReady taken_out end n tags.old values.old work.old }
     requires x_lt_end { x.0 < end }
     requires index { Index tags.old values.old n index.old }
@@ -33,13 +32,11 @@ fn prenex_forall(
     let i = slot(x, true);
     let known = work[i];
     if known != 0 {
-        return Built::At(TermPlace(known - 1), n);
+        return Some((TermPlace(known - 1), n));
     }
-    let Built::At(p, m) = take_out(tags, values, work, index, end, n, x) else {
-        return Built::Full;
-    };
+    let (p, m) = take_out(tags, values, work, index, end, n, x)?;
     work[i] = p.0 + 1;
-    Built::At(p, m)
+    Some((p, m))
 }
 
 // The same for a term that the memo does not have.
@@ -52,7 +49,7 @@ fn take_out(
     end: usize,
     n: usize,
     x: TermPlace,
-) -> Built
+) -> Option<(TermPlace, usize)>
     requires walk_ready { WalkReady taken_out end n tags.old values.old work.old }
     requires x_lt_end { x.0 < end }
     requires index { Index tags.old values.old n index.old }
@@ -61,12 +58,10 @@ fn take_out(
 {
     let view = normal_view(&tags[..end], &values[..end], x);
     match view {
-        NormalView::Literal => Built::At(x, n),
+        NormalView::Literal => Some((x, n)),
         NormalView::Forall(body) => prenex_forall(tags, values, work, index, end, n, body),
         NormalView::Connective(b) => {
-            let Built::At(_, m) = operand_forms(tags, values, work, index, end, n, x) else {
-                return Built::Full;
-            };
+            let (_, m) = operand_forms(tags, values, work, index, end, n, x)?;
             put_connective(tags, values, work, index, end, m, x, true, b)
         }
     }
@@ -82,7 +77,7 @@ fn operand_forms(
     end: usize,
     n: usize,
     x: TermPlace,
-) -> Built
+) -> Option<(TermPlace, usize)>
     requires walk_ready { WalkReady taken_out end n tags.old values.old work.old }
     requires x_lt_end { x.0 < end }
     requires before { Before end tags.old values.old x.0 }
@@ -90,20 +85,15 @@ fn operand_forms(
     ensures operands_known { OperandsKnown taken_out end n tags.old values.old work.old x.0 true 0 result tags.new values.new work.new }
     ensures indexed { Indexed result tags.new values.new index.new }
 {
+    let count = operands(&tags[..end], &values[..end], x).len();
     let mut m = n;
-    let mut i: usize = 0;
-    loop {
+    for i in 0..count {
         let run = operands(&tags[..end], &values[..end], x);
-        if run.len() <= i {
-            return Built::At(TermPlace(0), m);
-        }
         let u = TermPlace(run[i]);
-        let Built::At(_, k) = prenex_forall(tags, values, work, index, end, m, u) else {
-            return Built::Full;
-        };
+        let (_, k) = prenex_forall(tags, values, work, index, end, m, u)?;
         m = k;
-        i += 1;
     }
+    Some((TermPlace(0), m))
 }
 
 // The taken-out form of the term in normal form at x, put into the pool of n cells.
@@ -114,7 +104,7 @@ pub fn build_taken_out(
     index: &mut [u32; INDEX],
     n: usize,
     x: TermPlace,
-) -> Built
+) -> Option<(TermPlace, usize)>
     requires state { State n n tags.old values.old }
     requires x_lt_n { x.0 < n }
     requires index { Index tags.old values.old n index.old }

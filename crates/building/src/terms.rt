@@ -9,7 +9,7 @@ ghost use Rattle.building.specs.Arrays.{pool_of};
 ghost use Rattle.descriptions.specs.Index.{Index};
 ghost use Rattle.building.specs.Walk.{State, Indexed, Puts, slot_of, places_in, run_of, work_size, memo_of, MemoEmpty, MemoKept, RowHolds};
 
-use crate::build::{Built, put};
+use crate::build::put;
 use formulas::view::{connective_tag, quantifier_tag};
 use pool::TermPlace;
 use pool::index::INDEX;
@@ -27,11 +27,7 @@ fn zero_memo(work: &mut [u32])
     requires { length work.old ≡ work_size }
     ensures { MemoEmpty work.new }
 {
-    let mut i: usize = 0;
-    while i < ROW {
-        work[i] = 0;
-        i += 1;
-    }
+    work[..ROW].fill(0);
 }
 
 // Makes the memo of a walk's array empty. The row may hold anything: it is written before it is read.
@@ -82,12 +78,10 @@ fn gather(run: &[u32], work: &mut [u32; WORK], polarity: bool) -> usize
 {
     work[ROW] = 0;
     let mut k = ROW + 1;
-    let mut j: usize = 0;
-    while j < run.len() {
-        let p = place_in(work, TermPlace(run[j]), polarity);
+    for u in run {
+        let p = place_in(work, TermPlace(*u), polarity);
         work[k] = p.0;
         k += 1;
-        j += 1;
     }
     k
 }
@@ -100,13 +94,11 @@ fn gather_pairs(run: &[u32], body: TermPlace, work: &mut [u32; WORK]) -> usize
 {
     work[ROW] = 0;
     work[ROW + 1] = body.0;
-    let mut k = ROW + 2;
-    let mut j: usize = 1;
-    while j < run.len() {
-        work[k] = run[j];
-        k += 1;
-        j += 1;
-    }
+    let [_, pairs @ ..] = run else {
+        return ROW + 2;
+    };
+    let k = ROW + 2 + pairs.len();
+    work[ROW + 2..k].copy_from_slice(pairs);
     k
 }
 
@@ -121,7 +113,7 @@ pub fn put_connective(
     t: TermPlace,
     polarity: bool,
     b: bool,
-) -> Built
+) -> Option<(TermPlace, usize)>
     requires state { State end n tags.old values.old }
     requires work_len { length work.old ≡ work_size }
     requires t_lt_end { t.0 < end }
@@ -149,7 +141,7 @@ pub fn put_quantifier(
     polarity: bool,
     b: bool,
     body: TermPlace,
-) -> Built
+) -> Option<(TermPlace, usize)>
     requires state { State end n tags.old values.old }
     requires work_len { length work.old ≡ work_size }
     requires t_lt_end { t.0 < end }
@@ -174,7 +166,7 @@ pub fn put_pair(
     b: bool,
     p: TermPlace,
     q: TermPlace,
-) -> Built
+) -> Option<(TermPlace, usize)>
     requires state { State n n tags.old values.old }
     requires index { Index tags.old values.old n index.old }
     ensures puts { Puts n tags.old values.old (put (pool_of tags.old values.old n) (connective_tag b) (0 ∷ p.0 ∷ q.0 ∷ [])) result tags.new values.new }
@@ -192,7 +184,7 @@ pub fn literal(
     n: usize,
     t: TermPlace,
     polarity: bool,
-) -> Built
+) -> Option<(TermPlace, usize)>
     requires state { State n n tags.old values.old }
     requires t_lt_n { t.0 < n }
     requires index { Index tags.old values.old n index.old }
@@ -200,7 +192,7 @@ pub fn literal(
     ensures indexed { Indexed result tags.new values.new index.new }
 {
     if polarity {
-        return Built::At(t, n);
+        return Some((t, n));
     }
     let cells = [0u32, t.0];
     put(tags, values, index, n, NOT, &cells)

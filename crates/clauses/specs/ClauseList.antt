@@ -1,19 +1,22 @@
 -- What the functions that write the clause list promise each other.
 -- 01, "Normal form and clauses": "an `and` joins lists, an `or` takes products, the first operand slowest."
--- Rests on answers' Answer and struct `Answer`, on cells' Limits and Place, on formulas' Formula, Normal, Built, Clauses and ClauseLists, and on
--- ClauseWalk and the structs `Chosen`, `Digits` and `Filled`.
-use Rattle.std.specs.Prelude.{ℕ, ◌+◌, ◌-◌, ◌/◌, ◌%◌, ◌≤◌, ◌<◌, ◌≡◌, true, cond, ◌&&◌, List, [], ◌∷◌, length, get_or, replicate, ltb, leb, eqb}
+-- Rests on answers' Answer, Refusal, struct `Answer` and enum `Refusal`, on the library's `Result`, on cells' Limits and Place, on formulas'
+-- Formula, Normal, Built, Clauses and ClauseLists, and on ClauseWalk and the structs `Totals`, `Chosen`, `Digits` and `Filled`.
+use Rattle.std.specs.Prelude.{Result, Ok, Err, ℕ, ◌+◌, ◌-◌, ◌/◌, ◌%◌, ◌≤◌, ◌<◌, ◌≡◌, true, cond, ◌&&◌, List, [], ◌∷◌, length, get_or, replicate, ltb, leb, eqb}
 use Rattle.std.proofs.lemmas.List.Edits.{sets}
 use Rattle.cells.specs.Limits.{cell_limit, clause_limit, literal_limit}
 use Rattle.cells.specs.Place.{term_at}
 use Rattle.answers.specs.Answer.{accepted}
 use Rattle.answers.specs.declared.Answer.{Answer}
+use Rattle.answers.specs.Refusal.{answer_to}
+use Rattle.answers.specs.declared.refusal.Refusal.{Refusal}
 use Rattle.formulas.specs.Formula.{all_before}
 use Rattle.formulas.specs.Normal.{Normal, Normals}
 use Rattle.formulas.specs.Clauses.{cnf, cnf_and, cnf_or, literal_total, empty_or}
 use Rattle.formulas.specs.Built.{normals_of, form_at}
 use Rattle.formulas.specs.ClauseLists.{empty_or_reached, too_many_clauses, padded, clause_places, literal_places, clause_ends}
 use Rattle.clauses.specs.ClauseWalk.{clauses_at, Memo}
+use Rattle.clauses.specs.declared.totals.Totals.{Totals}
 use Rattle.clauses.specs.declared.conjunctive_normal_form.Chosen.{Chosen}
 use Rattle.clauses.specs.declared.conjunctive_normal_form.Digits.{Digits}
 use Rattle.clauses.specs.declared.clause_list.Filled.{Filled}
@@ -92,6 +95,11 @@ count_answer cs =
 
 unfoldable pub list_answer : Normal (List ℕ) ℕ → Answer
 list_answer form = cond (empty_or form) empty_or_reached (count_answer (cnf form))
+
+-- the answer of a list whose totals are counted, or which is refused
+abbrev pub counted : Result Totals Refusal → Answer
+counted (Ok t) = accepted t.clauses t.literals
+counted (Err r) = answer_to r
 
 -- what an array of k cells holds: accepted, the list and zeroes; refused, all zeroes
 unfoldable pub held : Answer → List ℕ → ℕ → List ℕ

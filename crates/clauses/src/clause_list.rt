@@ -3,16 +3,16 @@ ghost use Rattle.std.specs.Prelude.{◌≡◌, [], ◌∷◌, length};
 ghost use Rattle.formulas.specs.Built.{form_at};
 ghost use Rattle.descriptions.specs.Description.{Cut};
 ghost use Rattle.formulas.specs.Clauses.{cnf, cnf_and};
-ghost use Rattle.clauses.specs.ClauseList.{run_of, AskMore, AskLists, Adds, Lent, count_answer, list_answer, ListAnswered, ListReady};
+ghost use Rattle.clauses.specs.ClauseList.{run_of, AskMore, AskLists, Adds, Lent, count_answer, list_answer, counted, ListAnswered, ListReady};
 
 use crate::conjunctive_normal_form::write_clause;
 use crate::empty_or::empty_or;
-use crate::totals::{count_at, list_totals};
+use crate::totals::{Totals, count_at, list_totals};
 use formulas::view::{NormalView, normal_view};
 use pool::description::zero_from;
 use pool::limits::{CELLS, MAX_CLAUSES, MAX_LITERALS};
 use pool::run::operands;
-use pool::{Answer, TermPlace};
+use pool::{Refusal, TermPlace};
 
 // How many cells of the two arrays are filled: the clauses' ends and the literals.
 #[derive(Clone, Copy)]
@@ -33,14 +33,12 @@ fn write_clauses(
     requires total_value { total ≡ length (cnf (form_at tags.now values.now x.0)) }
     ensures { Adds (cnf (form_at tags.now values.now x.0)) literals.old ends.old from.0 from.1 literals.new ends.new result }
 {
-    let mut k: u32 = 0;
     let mut i = from.0;
     let mut at = from.1;
-    while k < total {
+    for k in 0..total {
         at = write_clause(tags, values, memo, x, k, literals, at);
         ends[i] = at as u32;
         i += 1;
-        k += 1;
     }
     Filled(i, at)
 }
@@ -93,37 +91,31 @@ fn write_lists(
     requires { AskLists tags.now values.now memo.now x.0 run.now literals.old ends.old from.0 from.1 }
     ensures { Adds (cnf_and (run_of tags.now values.now run.now)) literals.old ends.old from.0 from.1 literals.new ends.new result }
 {
-    if run.len() == 0 {
-        return from;
+    let mut next = from;
+    for u in run {
+        next = write_list(tags, values, memo, TermPlace(*u), literals, ends, next);
     }
-    let u = TermPlace(run[0]);
-    let next = write_list(tags, values, memo, u, literals, ends, from);
-    write_lists(tags, values, memo, x, &run[1..], literals, ends, next)
+    next
 }
 
-// The answer 32, or the two totals with the list, in arrays of zeroes.
+// The refusal 32, or the two totals with the list, in arrays of zeroes.
 fn list_counted(
     tags: &[u8],
     values: &[u32],
     x: TermPlace,
     literals: &mut [u32],
     ends: &mut [u32],
-) -> Answer
+) -> Result<Totals, Refusal>
     requires { ListReady tags.now literals.old ends.old }
-    ensures { ListAnswered (count_answer (cnf (form_at tags.now values.now x.0))) (cnf (form_at tags.now values.now x.0)) (length literals.old) (length ends.old) result literals.new ends.new }
+    ensures { ListAnswered (count_answer (cnf (form_at tags.now values.now x.0))) (cnf (form_at tags.now values.now x.0)) (length literals.old) (length ends.old) (counted result) literals.new ends.new }
 {
     let mut memo = [0u32; CELLS];
-    let t = list_totals(tags, values, &mut memo, x);
-    let clauses = t.clauses;
-    let size = t.literals;
-    if MAX_CLAUSES < clauses {
-        return Answer::refused(32, 0, 0);
-    }
-    if MAX_LITERALS < size {
-        return Answer::refused(32, 0, 0);
+    let totals = list_totals(tags, values, &mut memo, x);
+    if MAX_CLAUSES < totals.clauses || MAX_LITERALS < totals.literals {
+        return Err(Refusal::TooManyClauses);
     }
     write_list(tags, values, &memo, x, literals, ends, Filled(0, 0));
-    Answer::accepted(clauses, size)
+    Ok(totals)
 }
 
 // Writes zeroes to both arrays.
@@ -141,13 +133,13 @@ pub fn list_clauses(
     x: TermPlace,
     literals: &mut [u32],
     ends: &mut [u32],
-) -> Answer
+) -> Result<Totals, Refusal>
     requires { Lent (length tags.now) (length literals.old) (length ends.old) }
-    ensures { ListAnswered (list_answer (form_at tags.now values.now x.0)) (cnf (form_at tags.now values.now x.0)) (length literals.old) (length ends.old) result literals.new ends.new }
+    ensures { ListAnswered (list_answer (form_at tags.now values.now x.0)) (cnf (form_at tags.now values.now x.0)) (length literals.old) (length ends.old) (counted result) literals.new ends.new }
 {
     clear_list(literals, ends);
     if empty_or(tags, values, x) {
-        return Answer::refused(13, 0, 0);
+        return Err(Refusal::EmptyOr);
     }
     list_counted(tags, values, x, literals, ends)
 }

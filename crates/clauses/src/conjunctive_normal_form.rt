@@ -22,9 +22,8 @@ fn choose(memo: &[u32], run: &[u32], i: u32) -> Chosen
     ensures { result ≡ choose memo.now run.now i }
 {
     let mut left = i;
-    let mut j: usize = 0;
-    while j < run.len() {
-        let u = TermPlace(run[j]);
+    for u in run {
+        let u = TermPlace(*u);
         let here = count_at(memo, u);
         if left < here {
             return Chosen {
@@ -33,7 +32,6 @@ fn choose(memo: &[u32], run: &[u32], i: u32) -> Chosen
             };
         }
         left -= here;
-        j += 1;
     }
     Chosen {
         place: TermPlace(0),
@@ -110,12 +108,16 @@ fn write_run(
     requires { AskRun tags.now values.now memo.now x.0 run.now total i out.old at }
     ensures { Written (get_or (cnf_or (run_of tags.now values.now run.now)) i []) out.old at out.new result }
 {
-    if run.len() == 0 {
-        return at;
+    let mut clauses = total;
+    let mut number = i;
+    let mut next = at;
+    for u in run {
+        let u = TermPlace(*u);
+        let here = count_at(memo, u);
+        let d = take_apart(clauses, here, number);
+        next = write_clause(tags, values, memo, u, d.1, out, next);
+        clauses = d.0;
+        number = d.2;
     }
-    let u = TermPlace(run[0]);
-    let here = count_at(memo, u);
-    let d = take_apart(total, here, i);
-    let next = write_clause(tags, values, memo, u, d.1, out, at);
-    write_run(tags, values, memo, x, &run[1..], d.0, d.2, out, next)
+    next
 }

@@ -42,13 +42,12 @@ fn from_run(tags: &[u8], values: &[u32], memo: &mut [u8], x: TermPlace, run: &[u
     requires { NoneReached tags.now values.now memo.old × (all_before x.0 run.now ≡ true) }
     ensures { Reached tags.now values.now memo.new result (empty_ors (normals_of (form_at tags.now values.now) run.now)) }
 {
-    if run.len() == 0 {
-        return false;
+    for u in run {
+        if from_term(tags, values, memo, TermPlace(*u)) {
+            return true;
+        }
     }
-    if from_term(tags, values, memo, TermPlace(run[0])) {
-        return true;
-    }
-    from_run(tags, values, memo, x, &run[1..])
+    false
 }
 
 // Whether an empty `or` is reached from the term at x, through `and` and `or`.

@@ -22,7 +22,7 @@ pub struct Totals {
 fn capped(n: u64) -> u32
     ensures { result ≡ min 8193 n }
 {
-    if n <= 8192 { n as u32 } else { 8193 }
+    n.min(8193) as u32
 }
 
 fn capped_sum(a: u32, b: u32) -> u32
@@ -93,8 +93,7 @@ fn combine(all: bool, t: Totals, u: Totals) -> Totals
 pub(crate) fn count_at(memo: &[u32], u: TermPlace) -> u32
     ensures { result ≡ clauses_at memo.now u.0 }
 {
-    let at = u.0 as usize;
-    cell(memo, at) / ENTRY_BASE
+    cell(memo, u.0 as usize) / ENTRY_BASE
 }
 
 // The memo's totals of the place u, which is counted.
@@ -102,8 +101,7 @@ fn noted(memo: &[u32], u: TermPlace) -> Totals
     requires { 0 < get_or memo.now u.0 0 }
     ensures { as_totals result ≡ memo_at memo.now u.0 }
 {
-    let at = u.0 as usize;
-    let entry = cell(memo, at);
+    let entry = cell(memo, u.0 as usize);
     Totals {
         clauses: entry / ENTRY_BASE,
         literals: (entry - 1) % ENTRY_BASE,
@@ -118,7 +116,6 @@ fn note(memo: &mut [u32], x: TermPlace, t: Totals) -> Totals
     let at = x.0 as usize;
     if at < memo.len() {
         memo[at] = ENTRY_BASE * t.clauses + t.literals + 1;
-        return t;
     }
     t
 }
@@ -129,10 +126,8 @@ fn run_totals(all: bool, memo: &[u32], run: &[u32]) -> Totals
     ensures { as_totals result ≡ run_totals all (memo_at memo.now) run.now }
 {
     let mut sum = start(all);
-    let mut i = run.len();
-    while 0 < i {
-        i -= 1;
-        sum = combine(all, noted(memo, TermPlace(run[i])), sum);
+    for u in run.iter().rev() {
+        sum = combine(all, noted(memo, TermPlace(*u)), sum);
     }
     sum
 }
@@ -161,15 +156,10 @@ fn count_operands(tags: &[u8], values: &[u32], memo: &mut [u32], x: TermPlace)
     requires { AskOperands tags.now values.now memo.old x.0 }
     ensures { OperandsCounted tags.now values.now x.0 memo.old memo.new }
 {
-    let run = operands(tags, values, x);
-    let mut i: usize = 0;
-    while i < run.len() {
-        let u = TermPlace(run[i]);
-        let at = u.0 as usize;
-        i += 1;
-        if cell(memo, at) != 0 {
+    for u in operands(tags, values, x) {
+        if cell(memo, *u as usize) != 0 {
             continue;
         }
-        list_totals(tags, values, memo, u);
+        list_totals(tags, values, memo, TermPlace(*u));
     }
 }

@@ -1,15 +1,13 @@
 -- A term in normal form, read back from its place.
 --     read-literal, read-forall, read-connective     the form at a place, by how the term there is read
 --     run-before, before_at                          a connective's operands stand before it
---     head-falls, rest-before                        a walk along them ends
 --     connective-within                              a connective stands in the pool
 -- Assumes nothing.
-use Prim.Native.Nat.{ℕ, zero, suc, ◌+◌, ◌-◌, ◌*◌, ◌^◌, ◌<◌}
-use mathlib.Core.Path.{◌≡◌, refl, sym, ap, subst, ◌∙◌}
+use Prim.Native.Nat.{ℕ, zero, suc, ◌<◌}
+use mathlib.Core.Path.{◌≡◌, refl, sym, ap, ◌∙◌}
 use mathlib.Core.Bool.{Bool, true, false, cond}
 use mathlib.Core.List.{List, [], ◌∷◌}
-use lib.ListN.{length, get_or, take, drop, replicate, length-drop, get_or-eq_default}
-use lib.Seq.{drop-cons, take_all}
+use lib.ListN.{length, get_or, drop, replicate, get_or-eq_default}
 use lib.Dec.{ltb, leb, eqb}
 use native.Mathlib.Omega.{arith}
 use borrow.Author.Tests.{ltb-true, leb-true, leb-false, lt-ltb}
@@ -52,18 +50,6 @@ pub before_at : (x : ℕ) (us : List ℕ) → all_before x us ≡ true → (i : 
 before_at x [] h i l = absurd (omega arith)
 before_at x (u ∷ us) h zero l = before_head x u us h
 before_at x (u ∷ us) h (suc i) l = before_at x us (before-tail x u us h) i (omega arith)
-
--- ---- a walk along a run, by its first place and `&run[1..]`
-pub run-split : (run : List ℕ) → (length run ≡ 0 → ⊥) → run ≡ get_or run 0 0 ∷ take (length run - 1) (drop 1 run)
-run-split run some = drop-cons run 0 0 (omega arith) ∙ ap (λ (l : List ℕ). get_or run 0 0 ∷ l) (sym (take_all (length run - 1) (drop 1 run) (rw (length-drop 1 run) (omega arith))))
-
--- m is the walk's measure at x
-module _ (x : ℕ) (run : List ℕ) (before : all_before x run ≡ true) (some : length run ≡ 0 → ⊥) where
-  pub head-falls : (m : ℕ) → x * 2 ^ 65 + length run ≡ m → get_or run 0 0 * 2 ^ 65 + 2 ^ 64 < m
-  head-falls m q = omega (arith, before_at x run before 0 (omega arith))
-
-  pub rest-before : all_before x (take (length run - 1) (drop 1 run)) ≡ true
-  rest-before = before-tail x _ _ (subst (λ (l : List ℕ). all_before x l ≡ true) (run-split run some) before)
 
 -- its forms are those of its places
 normals-below : (f : ℕ → Normal (List ℕ) ℕ) (d : Normal (List ℕ) ℕ) (x : ℕ) (us : List ℕ) → all_before x us ≡ true

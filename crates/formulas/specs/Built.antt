@@ -1,14 +1,13 @@
 -- Putting terms into a pool, and what the calls that build leave in it.
 -- 01, "Normal form and clauses": "New terms go after the count in the order of the finished term, operands first and left to right, each
 -- once." A pool here is its used cells alone: two lists of one length.
--- Rests on cells' ByPlace, Cell, Place and enum `Found`, on descriptions' Description, and on Formula, Normal and the enum `NormalView`.
+-- Rests on cells' ByPlace, Cell and Place, on descriptions' Description, and on Formula, Normal and the enum `NormalView`.
+use Rattle.std.specs.Prelude.{Option, Some, None}
 use Rattle.std.specs.Prelude.{ℕ, Bool, true, false, cond, List, [], ◌∷◌, ◌++◌, length, get_or, drop, replicate, eqb, ltb}
 use Rattle.cells.specs.Cell.{operands_of}
 use Rattle.cells.specs.ByPlace.{by_place}
 use Rattle.cells.specs.Place.{term_at}
 use Rattle.descriptions.specs.Description.{find}
-use Rattle.cells.specs.declared.Found.{Found}
-use Rattle.cells.specs.declared.Found.TheVariants.{At, Nothing}
 use Rattle.formulas.specs.declared.view.NormalView.{NormalView}
 use Rattle.formulas.specs.declared.view.NormalView.TheVariants.{Literal, Connective, Forall}
 use Rattle.formulas.specs.Formula.{connective_tag, quantifier_tag, form, all_before}
@@ -34,9 +33,9 @@ count q = length q.tags
 abbrev pub extend : Pool → ℕ → List ℕ → Pool
 extend q tag cells = record { tags = q.tags ++ (tag ∷ replicate (length cells) 0); values = q.values ++ (length cells ∷ cells) }
 
-abbrev pub place_at : Pool → ℕ → List ℕ → Found → Placed
-place_at q tag cells (At p) = record { pool = q; place = p }
-place_at q tag cells Nothing = record { pool = extend q tag cells; place = count q }
+abbrev pub place_at : Pool → ℕ → List ℕ → Option ℕ → Placed
+place_at q tag cells (Some p) = record { pool = q; place = p }
+place_at q tag cells None = record { pool = extend q tag cells; place = count q }
 
 -- a description is put into a pool: "a description that is already in the pool is not added"
 unfoldable pub put : Pool → ℕ → List ℕ → Placed

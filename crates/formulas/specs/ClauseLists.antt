@@ -1,5 +1,6 @@
 -- A clause list as two arrays of numbers, written and read back, and the refusals 13 and 32.
--- 01, "What stops a step": "The clause list also writes literal places and clause ends (literals up to each clause's last) to two lent u32 arrays".
+-- 01, "What stops a step": "The clause list also writes literal places and clause ends (literals up to each clause's last) to two lent u32
+-- arrays".
 -- Rests on answers' struct `Answer` and on Normal.
 use Rattle.std.specs.Prelude.{ℕ, zero, suc, ◌+◌, ◌-◌, List, [], ◌∷◌, ◌++◌, length, get_or, take, drop, replicate}
 use Rattle.answers.specs.declared.Answer.{Answer}

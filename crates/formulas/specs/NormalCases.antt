@@ -1,4 +1,5 @@
--- The normal form of `ite` at both polarities, by computation: `(and (or (not p) q) (or p r))`, and `(or (and p (not q)) (and (not p) (not r)))`.
+-- The normal form of `ite` at both polarities, by computation: `(and (or (not p) q) (or p r))`, and
+-- `(or (and p (not q)) (and (not p) (not r)))`.
 -- Rests on Formula and Normal.
 use Rattle.std.specs.Prelude.{ℕ, ◌≡◌, refl, true, false, List}
 use Rattle.formulas.specs.Formula.{opaque, ite}

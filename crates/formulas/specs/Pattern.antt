@@ -2,7 +2,7 @@
 -- 01: "`=` with exactly 2 operands, `not` with 1, `or` of `qnt_cnf` with 2, `ite` with 3"; choice and lambda are no quantifiers.
 -- Rests on cells' Cell and on bindings' Binding.
 use Rattle.std.specs.Prelude.{ℕ, Bool, true, false, cond, List, [], ◌∷◌, get_or, drop, eqb}
-use Rattle.std.proofs.Math.Option.{Option, some, none}
+use Rattle.std.specs.Prelude.{Option, Some, None}
 use Rattle.cells.specs.Cell.{operands_of}
 use Rattle.bindings.specs.Binding.{Binding, bindings_of}
 
@@ -17,35 +17,35 @@ quantifier_of kind run = record { kind = kind; list = bindings_of (drop 1 run); 
 
 unfoldable pub quantifier : List ℕ → List ℕ → ℕ → Option Quantifier
 quantifier tags values x =
-    cond (eqb (get_or tags x 0) 23) (some (quantifier_of true (operands_of tags values x)))
-    (cond (eqb (get_or tags x 0) 24) (some (quantifier_of false (operands_of tags values x)))
-    none)
+    cond (eqb (get_or tags x 0) 23) (Some (quantifier_of true (operands_of tags values x)))
+    (cond (eqb (get_or tags x 0) 24) (Some (quantifier_of false (operands_of tags values x)))
+    None)
 
 -- the operands of a term with this tag
 unfoldable pub operator : List ℕ → List ℕ → ℕ → ℕ → Option (List ℕ)
-operator tags values tag x = cond (eqb (get_or tags x 0) tag) (some (operands_of tags values x)) none
+operator tags values tag x = cond (eqb (get_or tags x 0) tag) (Some (operands_of tags values x)) None
 
 abbrev pub one_of : List ℕ → Option ℕ
-one_of [] = none
-one_of (a ∷ []) = some a
-one_of (a ∷ (b ∷ os)) = none
+one_of [] = None
+one_of (a ∷ []) = Some a
+one_of (a ∷ (b ∷ os)) = None
 
 abbrev pub two_of : List ℕ → Option (ℕ × ℕ)
-two_of [] = none
-two_of (a ∷ []) = none
-two_of (a ∷ (b ∷ [])) = some (a, b)
-two_of (a ∷ (b ∷ (c ∷ os))) = none
+two_of [] = None
+two_of (a ∷ []) = None
+two_of (a ∷ (b ∷ [])) = Some (a, b)
+two_of (a ∷ (b ∷ (c ∷ os))) = None
 
 abbrev pub three_of : List ℕ → Option (ℕ × ℕ × ℕ)
-three_of [] = none
-three_of (a ∷ []) = none
-three_of (a ∷ (b ∷ [])) = none
-three_of (a ∷ (b ∷ (c ∷ []))) = some (a, b, c)
-three_of (a ∷ (b ∷ (c ∷ (d ∷ os)))) = none
+three_of [] = None
+three_of (a ∷ []) = None
+three_of (a ∷ (b ∷ [])) = None
+three_of (a ∷ (b ∷ (c ∷ []))) = Some (a, b, c)
+three_of (a ∷ (b ∷ (c ∷ (d ∷ os)))) = None
 
 abbrev pub and_then : {A B : Type 0} → Option A → (A → Option B) → Option B
-and_then none next = none
-and_then (some a) next = next a
+and_then None next = None
+and_then (Some a) next = next a
 
 -- `(= l r)`
 unfoldable pub equality : List ℕ → List ℕ → ℕ → Option (ℕ × ℕ)

@@ -58,14 +58,7 @@ pub fn carried_tag(b: bool) -> u32
 fn all_before(t: TermPlace, os: &[u32]) -> bool
     ensures { result ≡ all_before t.0 os.now }
 {
-    let mut i: usize = 0;
-    while i < os.len() {
-        if t.0 <= os[i] {
-            return false;
-        }
-        i += 1;
-    }
-    true
+    os.iter().all(|o| *o < t.0)
 }
 
 // The `=` of two operands whose left has sort Bool.

@@ -1,7 +1,8 @@
 -- Free variables of a tree.
 -- 01, "Sorts and free variables": "a variable is name with sort; binders remove their pairs". 02, S-3: "A let's free variables now also
 -- include those free in its values, as SMT-LIB 2.6 has it." SMT-LIB 2.6, 3.6.1: the let is parallel, so that its values stand outside its
--- names. The names with their values' sorts are taken from the body alone, and of a repeated name every pair; SMT-LIB shadows by name alone.
+-- names. The names with their values' sorts are taken from the body alone, and of a repeated name every pair; SMT-LIB shadows by name
+-- alone.
 -- Rests on cells' Cell, and on Term and Tree.
 use Rattle.std.specs.Prelude.{ℕ, ◌+◌, Bool, true, false, not, ◌&&◌, ◌||◌, List, [], ◌∷◌, get_or}
 use Rattle.cells.specs.Cell.{sort_of}

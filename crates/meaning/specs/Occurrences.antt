@@ -5,8 +5,7 @@
 -- An application's function precedes its arguments." A binder's pairs are no occurrences, an occurrence that is bound does not count, and a
 -- let's values stand outside its names, as in FreeTree.
 -- Rests on free_variables' Once, and on Term and FreeTree.
-use Rattle.std.specs.Prelude.{Bool, cond, [], ◌∷◌, ◌++◌}
-use Rattle.std.proofs.Math.Option.{Option, some, none}
+use Rattle.std.specs.Prelude.{Bool, cond, [], ◌∷◌, ◌++◌, Option, Some, None}
 use Rattle.free_variables.specs.Once.{leave_out, firsts}
 use Rattle.meaning.specs.Term.{Var, Vars, Term, Terms, Lets, const, bit_vector, var, app, quant, bind, letin, op, no_term, tnil, tcons, lnil, lcons}
 use Rattle.meaning.specs.FreeTree.{same, has, let_vars}
@@ -38,5 +37,5 @@ appearing t = firsts same (occurrences t)
 
 -- the first of a list that passes a test
 unfoldable pub first_that : (Var → Bool) → Vars → Option Var
-first_that test [] = none
-first_that test (v ∷ vs) = cond (test v) (some v) (first_that test vs)
+first_that test [] = None
+first_that test (v ∷ vs) = cond (test v) (Some v) (first_that test vs)

@@ -1,17 +1,21 @@
 -- The sort of a term, on trees: what check 16 compares a stated sort with.
---     sort_of_term rules t     the sort that `compute_sort` gives the term t, by the table of rules; `none` where it has no answer
+--     sort_of_term rules t     the sort that `compute_sort` gives the term t, by the table of rules; `None` where it has no answer
 -- 01, "Sorts and free variables": "`compute_sort` is the reference. A stated sort must equal it. It has no answer where the width it gives
 -- passes u32 or the Rust would stop". An operand's sort is the one that it states. "Argument sorts are not checked."
 -- Rests on sorts' SortRule and enum `Special`, and on Sort and Term.
-use Rattle.std.specs.Prelude.{ℕ, ◌+◌, ◌-◌, Bool, true, false, ◌&&◌, ◌||◌, cond, length, get_or, drop, leb, ltb, eqb}
-use mathlib.Core.List.{List, [], ◌∷◌, ◌++◌, map, reverse, drop_last, get_last?}
-use Rattle.std.proofs.Math.Option.{Option, none, some}
-use Rattle.std.proofs.Math.ListN.{get_elem?}
+use Rattle.std.specs.Prelude.{ℕ, ◌+◌, ◌-◌, Bool, true, false, ◌&&◌, ◌||◌, cond, length, get_or, drop, slice_get, leb, ltb, eqb, Option, None, Some}
+use mathlib.Core.List.{List, [], ◌∷◌, ◌++◌, map, reverse, drop_last}
 use Rattle.meaning.specs.Sort.{Sort, Sorts, bool, int, real, string, reglan, param_bit_vec, bit_vec, sort_var, atom, function, array, set, tuple, no_sort, snil, scons}
 use Rattle.meaning.specs.Term.{Var, Vars, Term, Terms, stated, const, bit_vector, var, app, quant, bind, letin, op, no_term, tnil, tcons}
 use Rattle.sorts.specs.SortRule.{special_of}
 use Rattle.sorts.specs.declared.special.Special.{Special}
 use Rattle.sorts.specs.declared.special.Special.TheVariants.{Arithmetic, Select, BitVectors, Concat, OneBit, BitCount, BvConst, RareList, Singleton, Insert, TupleOf, TupleUnit, Transpose, Join, Product, NoRule}
+
+-- the last of a list, if there is one
+abbrev pub last_of : {A : Type 0} → List A → Option A
+last_of [] = None
+last_of (x ∷ []) = Some x
+last_of (x ∷ (y ∷ xs)) = last_of (y ∷ xs)
 
 -- ---- sorts taken apart
 -- the sorts of a list, and the list of these
@@ -96,21 +100,21 @@ any_real_sort (s ∷ ss) = is_real s || any_real_sort ss
 
 -- Select: the second sort of the first operand's Array
 unfoldable pub select_sort : List Sort → Option Sort
-select_sort [] = none
-select_sort (s ∷ ss) = cond (is_array s) (some (part s 1)) none
+select_sort [] = None
+select_sort (s ∷ ss) = cond (is_array s) (Some (part s 1)) None
 
 -- a bit-vector operation: the sort of the first operand that isn't ParamBitVec, which must be BitVec
 unfoldable pub bit_vector_sort : List Sort → Option Sort
-bit_vector_sort [] = some param_bit_vec
-bit_vector_sort (s ∷ ss) = cond (is_bit_vec s) (some s) (cond (is_param_bit_vec s) (bit_vector_sort ss) none)
+bit_vector_sort [] = Some param_bit_vec
+bit_vector_sort (s ∷ ss) = cond (is_bit_vec s) (Some s) (cond (is_param_bit_vec s) (bit_vector_sort ss) None)
 
 -- BvConcat, with the sum of the widths so far and whether a ParamBitVec has been met: "the width it gives passes u32", "any BvConcat
 -- operand that is neither"
 unfoldable pub concat_sort : ℕ → Bool → List Sort → Option Sort
-concat_sort width param [] = cond param (some param_bit_vec) (cond (ltb width 4294967296) (some (bit_vec width)) none)
+concat_sort width param [] = cond param (Some param_bit_vec) (cond (ltb width 4294967296) (Some (bit_vec width)) None)
 concat_sort width param (s ∷ ss) =
     cond (is_bit_vec s) (concat_sort (width + (form_of s).index) param ss)
-    (cond (is_param_bit_vec s) (concat_sort width true ss) none)
+    (cond (is_param_bit_vec s) (concat_sort width true ss) None)
 
 -- BvConst: the second operand is the width, if it is an integer
 unfoldable pub width_sort : Term → Sort
@@ -125,9 +129,9 @@ width_sort (op k s ts) = param_bit_vec
 width_sort no_term = param_bit_vec
 
 unfoldable pub bv_const_sort : Terms → Option Sort
-bv_const_sort tnil = none
-bv_const_sort (tcons t tnil) = none
-bv_const_sort (tcons t (tcons w ts)) = some (width_sort w)
+bv_const_sort tnil = None
+bv_const_sort (tcons t tnil) = None
+bv_const_sort (tcons t (tcons w ts)) = Some (width_sort w)
 
 -- "RareList without operands has sort Var "?"", and 0 is that name
 unfoldable pub rare_list_sort : List Sort → Sort
@@ -136,47 +140,47 @@ rare_list_sort (s ∷ ss) = s
 
 -- SetSingleton
 unfoldable pub singleton_sort : List Sort → Option Sort
-singleton_sort [] = none
-singleton_sort (s ∷ ss) = some (set s)
+singleton_sort [] = None
+singleton_sort (s ∷ ss) = Some (set s)
 
 -- RelTranspose: the columns reversed
 unfoldable pub transpose_sort : List Sort → Option Sort
-transpose_sort [] = none
-transpose_sort (s ∷ ss) = cond (is_relation_sort s) (some (relation_of (reverse (columns s)))) none
+transpose_sort [] = None
+transpose_sort (s ∷ ss) = cond (is_relation_sort s) (Some (relation_of (reverse (columns s)))) None
 
 -- RelJoin: the left's columns but the last, then the right's but the first, of which there must be one
 unfoldable pub join_sort : List Sort → Option Sort
-join_sort [] = none
-join_sort (s ∷ []) = none
+join_sort [] = None
+join_sort (s ∷ []) = None
 join_sort (s ∷ (t ∷ ss)) =
     cond (is_relation_sort s && (is_relation_sort t && ltb 0 (length (columns t))))
-    (some (relation_of (drop_last (columns s) ++ drop 1 (columns t))))
-    none
+    (Some (relation_of (drop_last (columns s) ++ drop 1 (columns t))))
+    None
 
 -- RelProduct: the left's columns, then the right's
 unfoldable pub product_sort : List Sort → Option Sort
-product_sort [] = none
-product_sort (s ∷ []) = none
-product_sort (s ∷ (t ∷ ss)) = cond (is_relation_sort s && is_relation_sort t) (some (relation_of (columns s ++ columns t))) none
+product_sort [] = None
+product_sort (s ∷ []) = None
+product_sort (s ∷ (t ∷ ss)) = cond (is_relation_sort s && is_relation_sort t) (Some (relation_of (columns s ++ columns t))) None
 
 -- rule 7: "special, for operators that none of 0 to 6 describes"
 unfoldable pub special_sort : Special → Terms → Option Sort
-special_sort Arithmetic ts = some (cond (any_real_sort (stated_sorts ts)) real int)  -- Add, Sub, Mult
+special_sort Arithmetic ts = Some (cond (any_real_sort (stated_sorts ts)) real int)  -- Add, Sub, Mult
 special_sort Select ts = select_sort (stated_sorts ts)
 special_sort BitVectors ts = bit_vector_sort (stated_sorts ts)
 special_sort Concat ts = concat_sort 0 false (stated_sorts ts)
-special_sort OneBit ts = some (bit_vec 1)  -- BvComp
-special_sort BitCount ts = some (bit_vec (length (stated_sorts ts)))  -- BvPBbTerm, BvBbTerm
+special_sort OneBit ts = Some (bit_vec 1)  -- BvComp
+special_sort BitCount ts = Some (bit_vec (length (stated_sorts ts)))  -- BvPBbTerm, BvBbTerm
 special_sort BvConst ts = bv_const_sort ts
-special_sort RareList ts = some (rare_list_sort (stated_sorts ts))
+special_sort RareList ts = Some (rare_list_sort (stated_sorts ts))
 special_sort Singleton ts = singleton_sort (stated_sorts ts)
-special_sort Insert ts = get_last? (stated_sorts ts)  -- SetInsert
-special_sort TupleOf ts = some (tuple (sorts_from (stated_sorts ts)))  -- Tuple
-special_sort TupleUnit ts = some (tuple snil)
+special_sort Insert ts = last_of (stated_sorts ts)  -- SetInsert
+special_sort TupleOf ts = Some (tuple (sorts_from (stated_sorts ts)))  -- Tuple
+special_sort TupleUnit ts = Some (tuple snil)
 special_sort Transpose ts = transpose_sort (stated_sorts ts)
 special_sort Join ts = join_sort (stated_sorts ts)
 special_sort Product ts = product_sort (stated_sorts ts)
-special_sort NoRule ts = none
+special_sort NoRule ts = None
 
 -- "Rules: 0 Bool, 1 Int, 2 Real, 3 String, 4 RegLan"
 unfoldable pub plain_sort : ℕ → Sort
@@ -185,9 +189,9 @@ plain_sort rule = cond (eqb rule 0) bool (cond (eqb rule 1) int (cond (eqb rule 
 -- by the table: "5 first operand's sort, 6 second operand's, 7 special"; "a missing operand" has no answer
 unfoldable pub operator_sort : ℕ → ℕ → Terms → Option Sort
 operator_sort rule code ts =
-    cond (ltb rule 5) (some (plain_sort rule))
-    (cond (eqb rule 5) (get_elem? (stated_sorts ts) 0)
-    (cond (eqb rule 6) (get_elem? (stated_sorts ts) 1)
+    cond (ltb rule 5) (Some (plain_sort rule))
+    (cond (eqb rule 5) (slice_get (stated_sorts ts) 0)
+    (cond (eqb rule 6) (slice_get (stated_sorts ts) 1)
     (special_sort (special_of code) ts)))
 
 -- ---- the other terms
@@ -195,15 +199,15 @@ operator_sort rule code ts =
 unfoldable pub constant_sort : ℕ → Sort
 constant_sort tag = cond (eqb tag 16) int (cond (eqb tag 17) real (cond (eqb tag 18) string reglan))
 
--- m arguments to a Function with these entries: all given, "the last entry"; fewer or as many, the Function of those that are left; "to more
--- arguments than its entries", no answer
+-- m arguments to a Function with these entries: all given, "the last entry"; fewer or as many, the Function of those that are left; "to
+-- more arguments than its entries", no answer
 unfoldable pub apply_sort : ℕ → List Sort → Option Sort
 apply_sort m ss =
-    cond (eqb (m + 1) (length ss)) (get_last? ss)
-    (cond (leb m (length ss)) (some (function (sorts_from (drop m ss)))) none)
+    cond (eqb (m + 1) (length ss)) (last_of ss)
+    (cond (leb m (length ss)) (Some (function (sorts_from (drop m ss)))) None)
 
 unfoldable pub application_sort : Sort → Terms → Option Sort
-application_sort s ts = cond (is_function s) (apply_sort (length (stated_sorts ts)) (form_of s).sorts) none
+application_sort s ts = cond (is_function s) (apply_sort (length (stated_sorts ts)) (form_of s).sorts) None
 
 abbrev pub sorts_of_vars : Vars → List Sort
 sorts_of_vars vs = map (λ (v : Var). v.sort) vs
@@ -211,19 +215,19 @@ sorts_of_vars vs = map (λ (v : Var). v.sort) vs
 -- choice: its first variable's sort; lambda: the Function of its variables' sorts and its body's
 unfoldable pub binder_sort : ℕ → Vars → Term → Option Sort
 binder_sort tag vs t =
-    cond (eqb tag 25) (get_elem? (sorts_of_vars vs) 0)
-    (some (function (sorts_from (sorts_of_vars vs ++ (stated t ∷ [])))))
+    cond (eqb tag 25) (slice_get (sorts_of_vars vs) 0)
+    (Some (function (sorts_from (sorts_of_vars vs ++ (stated t ∷ [])))))
 
 -- ---- any term
 -- SMT-LIB 2.6, section 3.6 (Terms and Formulas): a variable has its declared sort, a quantified formula Bool, a let its body's sort, an
 -- application to all arguments the function's result sort. Application to fewer, choice and lambda are the Rust's.
 unfoldable pub sort_of_term : List ℕ → Term → Option Sort
-sort_of_term rules (const k s c) = some (constant_sort k)
-sort_of_term rules (bit_vector s w c) = some (bit_vec w)
-sort_of_term rules (var v) = some v.sort
+sort_of_term rules (const k s c) = Some (constant_sort k)
+sort_of_term rules (bit_vector s w c) = Some (bit_vec w)
+sort_of_term rules (var v) = Some v.sort
 sort_of_term rules (app s f ts) = application_sort (stated f) ts
-sort_of_term rules (quant b s vs t) = some bool
+sort_of_term rules (quant b s vs t) = Some bool
 sort_of_term rules (bind k s vs t) = binder_sort k vs t
-sort_of_term rules (letin s ls t) = some (stated t)
+sort_of_term rules (letin s ls t) = Some (stated t)
 sort_of_term rules (op k s ts) = operator_sort (get_or rules (k - 32) 7) (k - 32) ts
-sort_of_term rules no_term = none
+sort_of_term rules no_term = None

@@ -1,3 +1,3 @@
-// What terms and formulas mean: sorts and terms as trees, truth in a reading, and that the notions on places are those on trees. Definitions
-// and theorems alone.
+// What terms and formulas mean: sorts and terms as trees, truth in a reading, and that the notions on places are those on trees.
+// Definitions and theorems alone.
 #![tactic(auto)]

@@ -1,6 +1,7 @@
 -- Laws of the two forms that are built of a term one after the other, its normal form and that with foralls taken out: what the first
 -- leaves the second to start from, and that the cells of the pool before both are kept.
 -- Assumes nothing.
+use Rattle.std.specs.Prelude.{Option, Some, None}
 use Prim.Native.Nat.{ℕ, zero, suc, ◌≤◌, ◌<◌}
 use mathlib.Core.Path.{◌≡◌, refl, sym, ap, ap₂, ◌∙◌}
 use mathlib.Core.Bool.{true}
@@ -14,8 +15,6 @@ use Rattle.descriptions.proofs.description.Fills.{well-formed-fills}
 use Rattle.meaning.proofs.trees.Passed.{Passed}
 use Rattle.formulas.specs.Normal.{prenex}
 use Rattle.formulas.specs.Built.{Pool, Placed, count, normal_form, normal_at, taken_out_form}
-use Rattle.building.specs.declared.build.Built.{Built}
-use Rattle.building.specs.declared.build.Built.TheVariants.{At, Full}
 use Rattle.building.specs.Arrays.{pool_of, normal_in, clausal_in}
 use Rattle.building.specs.Walk.{State, Holds, NormalBuilt}
 use Rattle.building.proofs.Interning.{GoesOn, grows-trans, becomes-longer, intern-becomes, intern-goes-on}
@@ -87,11 +86,11 @@ module _ (tags values : List ℕ) (n t : ℕ) where
   unfolding taken_out_form
   clausal-longer = becomes-longer _ _ (intern-becomes _ (normal_in tags values n t true).pool)
 
-  module _ (b : Built) (tags₁ values₁ : List ℕ) (built : NormalBuilt n tags values (normal_in tags values n t true) b tags₁ values₁) where
-    pub clausal-full : b ≡ Full → NormalBuilt n tags values (clausal_in tags values n t) Full tags₁ values₁
+  module _ (b : Option (TermPlace × ℕ)) (tags₁ values₁ : List ℕ) (built : NormalBuilt n tags values (normal_in tags values n t true) b tags₁ values₁) where
+    pub clausal-full : b ≡ None → NormalBuilt n tags values (clausal_in tags values n t) None tags₁ values₁
     clausal-full e = let (left, full) = rw e at built in (left, fits_not _ _ (length tags) clausal-longer full)
 
-    module _ (x : TermPlace) (m : ℕ) (e : b ≡ At x m) where
+    module _ (x : TermPlace) (m : ℕ) (e : b ≡ Some (x, m)) where
       pub normal-holds : Holds n (normal_in tags values n t true) x.0 m tags₁ values₁
       normal-holds = let (h, room) = rw e at built in h
 
@@ -107,10 +106,10 @@ module _ (tags values : List ℕ) (n t : ℕ) where
       clausal-is : taken_out_form (pool_of tags₁ values₁ m) x.0 ≡ clausal_in tags values n t
       clausal-is = ap₂ taken_out_form normal-holds.pool-is normal-holds.place_is
 
-      pub clausal-then : State n n tags values → length tags₁ ≡ length tags → length values₁ ≡ length values → (r : Built) (tags₂ values₂ : List ℕ)
+      pub clausal-then : State n n tags values → length tags₁ ≡ length tags → length values₁ ≡ length values → (r : Option (TermPlace × ℕ)) (tags₂ values₂ : List ℕ)
           → NormalBuilt m tags₁ values₁ (taken_out_form (pool_of tags₁ values₁ m) x.0) r tags₂ values₂
           → NormalBuilt n tags values (clausal_in tags values n t) r tags₂ values₂
-      clausal-then s size size₂ (At p l) tags₂ values₂ y =
+      clausal-then s size size₂ (Some (p, l)) tags₂ values₂ y =
           let (h, room) = rw clausal-is at y in (
             record {
               pool-is = h.pool-is;
@@ -126,7 +125,7 @@ module _ (tags values : List ℕ) (n t : ℕ) where
             },
             rw size at room,
           )
-      clausal-then s size size₂ Full tags₂ values₂ y =
+      clausal-then s size size₂ None tags₂ values₂ y =
           let (left, full) = rw clausal-is at y in
           let less : n ≤ m = normal-holds.state.source in (
             record {

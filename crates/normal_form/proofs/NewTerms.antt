@@ -3,6 +3,7 @@
 --     Clean            this of a pool that goes on from n cells
 --     intern-clean     a form that is put keeps it so
 -- Assumes nothing.
+use Rattle.std.specs.Prelude.{Option, Some, None}
 use Prim.Native.Nat.{ℕ, suc, ◌+◌, ◌-◌, ◌≤◌, ◌<◌}
 use mathlib.Core.Path.{◌≡◌, refl, ap, ◌∙◌}
 use mathlib.Core.Bool.{true, false}
@@ -13,8 +14,6 @@ use lib.Dec.{ltb, eqb}
 use native.Mathlib.Omega.{arith}
 use borrow.Author.Tests.{ltb-true, ltb-false, eqb-true, eqb-false}
 use Rattle.cells.specs.ByPlace.{by-test}
-use Rattle.cells.specs.declared.Found.{Found}
-use Rattle.cells.specs.declared.Found.TheVariants.{At, Nothing}
 use Rattle.descriptions.specs.Description.{find, first_repeat}
 use Rattle.formulas.specs.Normal.{Normal, Normals, lit, nmany, nall, nnil, ncons}
 use Rattle.formulas.specs.Built.{Pool, count, extend, place_at, put, intern, interns}
@@ -36,7 +35,7 @@ pub record BuiltAt (q : Pool) (t : ℕ) : Type 0 where
 
 pub record Clean (n : ℕ) (q : Pool) : Type 0 where
   pub good : Good q
-  pub single : first_repeat q.tags q.values (count q) ≡ Nothing
+  pub single : first_repeat q.tags q.values (count q) ≡ None
   pub built : (t : ℕ) → n ≤ t → t < count q → (get_or q.tags t 0 ≡ 0 → ⊥) → BuiltAt q t
 
 module _ (n : ℕ) where
@@ -84,9 +83,9 @@ module _ (n : ℕ) where
     unfolding put
     put-clean = go (find q.tags q.values (count q) k (0 ∷ us)) refl (put_on q k (0 ∷ us) c.good)
       where
-        go : (f : Found) → find q.tags q.values (count q) k (0 ∷ us) ≡ f → PutOn q k (0 ∷ us) (place_at q k (0 ∷ us) f) → Clean n (place_at q k (0 ∷ us) f).pool
-        go (At p) e o = c
-        go Nothing e o = record {
+        go : (f : Option ℕ) → find q.tags q.values (count q) k (0 ∷ us) ≡ f → PutOn q k (0 ∷ us) (place_at q k (0 ∷ us) f) → Clean n (place_at q k (0 ∷ us) f).pool
+        go (Some p) e o = c
+        go None e o = record {
           good = o.good;
           single = repeat-extended q k (0 ∷ us) c.good o.good o.grows e o.found c.single;
           built = built-on o;

@@ -1,5 +1,5 @@
--- The public normal form of a term: in every reading the term that it puts has the value of the term at true polarity, and the negated value
--- at false polarity, whatever the number of new cells.
+-- The public normal form of a term: in every reading the term that it puts has the value of the term at true polarity, and the negated
+-- value at false polarity, whatever the number of new cells.
 -- 01, demand 3, of `negation_normal_form`.
 -- Assumes nothing.
 use Prim.Native.Nat.{ℕ, ◌<◌}

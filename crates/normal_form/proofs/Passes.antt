@@ -4,11 +4,12 @@
 --     normal-form-passes     of the normal form's call
 --     clause-list-passes     of the clause list's
 -- Assumes nothing.
+use Rattle.std.specs.Prelude.{None}
 use Prim.Native.Nat.{ℕ, ◌+◌, ◌≤◌, ◌<◌}
 use mathlib.Core.Path.{◌≡◌, refl, sym, ap, ◌∙◌}
 use mathlib.Core.Bool.{Bool, true, not}
 use mathlib.Core.List.{List, [], ◌∷◌}
-use mathlib.Core.Option.{some}
+use Rattle.std.specs.Prelude.{Some}
 use lib.ListN.{length, get_or}
 use lib.Seq.{get_or-take}
 use lib.Dec.{ltb}
@@ -16,7 +17,6 @@ use native.Mathlib.Omega.{arith}
 use borrow.Author.Tests.{ltb-true, ltb-false, eqb-true, eq-eqb, ne_eqb, le-leb}
 use Rattle.cells.specs.ByPlace.{by-test}
 use Rattle.cells.specs.Cell.{cells_of, sort_of, same_cells, is_at}
-use Rattle.cells.specs.declared.Found.TheVariants.{Nothing}
 use Rattle.cells.proofs.Walks.{first-end}
 use Rattle.headers.specs.WellFormed.{shape_of, count_fits, is_term_tag, header_fits, first_bad}
 use Rattle.answers.specs.Answer.{accepted}
@@ -77,7 +77,7 @@ no_cells : (l : List ℕ) → length l ≡ 0 → l ≡ []
 no_cells [] e = refl
 no_cells (x ∷ l) e = absurd (omega arith)
 
-module _ (tags values : List ℕ) (n : ℕ) (whole : n ≤ length values) (formed : first_bad tags values n ≡ Nothing) (some-cell : 0 < n) where
+module _ (tags values : List ℕ) (n : ℕ) (whole : n ≤ length values) (formed : first_bad tags values n ≡ None) (some-cell : 0 < n) where
   bool-here : is_at tags values 0 1 [] ≡ true
   unfolding is_at same_cells shape_of count_fits
   bool-here =
@@ -97,15 +97,15 @@ module _ {tags values rules : List ℕ} {n : ℕ} (c : Passed tags values rules 
     whole' : count q ≤ length values'
     whole' = (left-same s h).long'
 
-    formed' : first_bad tags' values' (count q) ≡ Nothing
+    formed' : first_bad tags' values' (count q) ≡ None
     formed' =
         formed-kept (count q) q.tags q.values tags' values' (left-same s h) s.formed (count q) (omega arith)
         (sym (first-end values' (count q) (λ p. not (header_fits tags' values' (count q) p)) _ (count q) refl (omega arith)))
 
-    single' : first_repeat tags' values' (count q) ≡ Nothing
+    single' : first_repeat tags' values' (count q) ≡ None
     single' = repeat-same (count q) q.tags q.values tags' values' (left-same s h) s.good.fills ∙ clean.single
 
-    sorted-at : (t : ℕ) → t < count q → is_term_tag (get_or tags' t 0) ≡ true → sort_of_term rules (tree tags' values' t) ≡ some (stated (tree tags' values' t))
+    sorted-at : (t : ℕ) → t < count q → is_term_tag (get_or tags' t 0) ≡ true → sort_of_term rules (tree tags' values' t) ≡ Some (stated (tree tags' values' t))
     sorted-at t l k =
         let tag_same : get_or tags' t 0 ≡ get_or q.tags t 0 = (left-same s h).tags-same t l in
         let k₁ : is_term_tag (get_or q.tags t 0) ≡ true = rw tag_same at k in

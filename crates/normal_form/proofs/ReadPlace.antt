@@ -1,5 +1,5 @@
--- The form that is read back at a place is what is read of the place's tree; it names terms and sorts of the pool, and so does its taken-out
--- form.
+-- The form that is read back at a place is what is read of the place's tree; it names terms and sorts of the pool, and so does its
+-- taken-out form.
 --     read_at         at the place of a term
 --     prenex-fits     the taken-out form
 -- Assumes nothing.

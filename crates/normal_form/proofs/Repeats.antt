@@ -3,6 +3,7 @@
 --     repeat-same         so does check 15
 --     repeat-extended     one more header, whose description does not stand in the pool
 -- Assumes nothing.
+use Rattle.std.specs.Prelude.{Some, None}
 use Prim.Native.Nat.{ℕ, ◌+◌, ◌-◌, ◌≤◌, ◌<◌}
 use mathlib.Core.Path.{◌≡◌, refl, sym, ap, ap₂, ◌∙◌}
 use mathlib.Core.Bool.{Bool, true, false}
@@ -15,7 +16,6 @@ use borrow.Author.Tests.{leb-true, leb-false}
 use Rattle.cells.specs.ByPlace.{by-test}
 use Rattle.cells.specs.Cell.{cells_of, is_at}
 use Rattle.cells.specs.Headers.{first_from, first_header}
-use Rattle.cells.specs.declared.Found.TheVariants.{At, Nothing}
 use Rattle.cells.proofs.Walks.{first-end, first-here, first_next, found-holds}
 use Rattle.descriptions.specs.Description.{find, is_found, repeats, first_repeat}
 use Rattle.descriptions.proofs.description.Fills.{Fills, filled, more, or_else, or_nothing, header-grown}
@@ -63,9 +63,9 @@ module _ (n : ℕ) (tags values tags' values' : List ℕ) (s : Same n tags value
 
 -- ---- one more header
 module _ (q : Pool) (tag : ℕ) (cells : List ℕ) (good : Good q) (good⁺ : Good (extend q tag cells)) (grows : Grows q (extend q tag cells))
-    (new : find q.tags q.values (count q) tag cells ≡ Nothing)
-    (found : find (extend q tag cells).tags (extend q tag cells).values (count (extend q tag cells)) tag cells ≡ At (count q))
-    (single : first_repeat q.tags q.values (count q) ≡ Nothing) where
+    (new : find q.tags q.values (count q) tag cells ≡ None)
+    (found : find (extend q tag cells).tags (extend q tag cells).values (count (extend q tag cells)) tag cells ≡ Some (count q))
+    (single : first_repeat q.tags q.values (count q) ≡ None) where
   abbrev tags⁺ : List ℕ
   tags⁺ = (extend q tag cells).tags
 
@@ -96,7 +96,7 @@ module _ (q : Pool) (tag : ℕ) (cells : List ℕ) (good : Good q) (good⁺ : Go
       rw (described.0, described.1)
       (ap is_found (find-same (count q) q.tags q.values tags⁺ values⁺ same⁺ good.fills (count q) (omega arith) tag cells ∙ new))
 
-  pub repeat-extended : first_repeat tags⁺ values⁺ n⁺ ≡ Nothing
+  pub repeat-extended : first_repeat tags⁺ values⁺ n⁺ ≡ None
   repeat-extended =
       repeat-grown (count q) q.tags q.values tags⁺ values⁺ same⁺ good.fills n⁺ grows.longer
       ∙ ap₂ or_else single

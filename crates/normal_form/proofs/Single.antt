@@ -3,13 +3,13 @@
 --     normal-clean, clausal-clean      with the normal form of a term, and with the taken-out form after it
 --     normal-single, clausal-single    so no description stands twice
 -- Assumes nothing.
+use Rattle.std.specs.Prelude.{None}
 use Prim.Native.Nat.{ℕ}
 use mathlib.Core.Path.{◌≡◌, ◌∙◌}
 use mathlib.Core.Bool.{Bool, true}
 use mathlib.Core.List.{List}
 use lib.ListN.{take}
 use native.Mathlib.Omega.{arith}
-use Rattle.cells.specs.declared.Found.TheVariants.{Nothing}
 use Rattle.descriptions.specs.Description.{first_repeat}
 use Rattle.descriptions.proofs.description.Fills.{well-formed-fills}
 use Rattle.meaning.proofs.trees.Passed.{Passed}
@@ -21,7 +21,7 @@ use Rattle.normal_form.proofs.NormalFormTruth.{used-same, used-count, used_sound
 
 -- "No two headers describe the same thing."
 abbrev pub Single : Pool → Type 0
-Single q = first_repeat q.tags q.values (count q) ≡ Nothing
+Single q = first_repeat q.tags q.values (count q) ≡ None
 
 module _ {tags values rules : List ℕ} {n : ℕ} (c : Passed tags values rules n) where
   start-clean : Clean n (pool_of tags values n)

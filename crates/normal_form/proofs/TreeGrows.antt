@@ -2,6 +2,7 @@
 --     sort-grows, tree-grows     a sort and a term of a pool have the same trees in every pool that goes on
 --     put-term                   the term that is put
 -- Assumes nothing.
+use Rattle.std.specs.Prelude.{Option, Some, None}
 use Prim.Native.Nat.{ℕ, zero, suc, ◌+◌, ◌-◌, ◌<◌}
 use mathlib.Core.Path.{◌≡◌, refl, sym, ap, ◌∙◌}
 use mathlib.Core.Bool.{Bool, true, false, not}
@@ -12,8 +13,6 @@ use native.Mathlib.Omega.{arith}
 use borrow.Author.Tests.{lt-ltb, ne_eqb}
 use Rattle.cells.specs.Bounded.{every_in, every}
 use Rattle.cells.specs.Cell.{cells_of, is_at}
-use Rattle.cells.specs.declared.Found.{Found}
-use Rattle.cells.specs.declared.Found.TheVariants.{At, Nothing}
 use Rattle.cells.proofs.Walks.{first-end, first_next, found-holds}
 use Rattle.descriptions.specs.Description.{find}
 use Rattle.headers.specs.WellFormed.{shape_of, count_fits, kind_at, is_sort_tag, is_term_tag, value_fits, cell_fits, bool_first, header_fits, first_bad}
@@ -30,7 +29,7 @@ use Rattle.building.proofs.Interning.{Good, Grows, PutOn, extend-count, put_on}
 -- a pool that passes check 14, filled by its headers
 pub record Sound (q : Pool) : Type 0 where
   pub good : Good q
-  pub formed : first_bad q.tags q.values (count q) ≡ Nothing
+  pub formed : first_bad q.tags q.values (count q) ≡ None
   pub some : 0 < count q
 
 -- a header with this tag and these cells passes check 14 after the cells of q
@@ -109,7 +108,7 @@ module _ (q : Pool) (tag : ℕ) (cells : List ℕ) (s : Sound q) (fit : Fit q ta
       )
       (every_true (cell_fits q⁺.tags q⁺.values (count q) (shape_of tag)) (length cells - 0) 0 (λ i l. fits-new i (omega arith)))
 
-  extend-formed : first_bad q⁺.tags q⁺.values (count q⁺) ≡ Nothing
+  extend-formed : first_bad q⁺.tags q⁺.values (count q⁺) ≡ None
   extend-formed =
       formed-kept (count q) q.tags q.values q⁺.tags q⁺.values (cells_same q q⁺ s.good good⁺ grows) s.formed (count q⁺) grows.longer
       (first_next q⁺.values (count q⁺) bad _ (count q) refl (omega (arith, longer)) false (sym (ap not header-new)) refl (length cells) (sym count-new)
@@ -119,7 +118,7 @@ module _ (q : Pool) (tag : ℕ) (cells : List ℕ) (s : Sound q) (fit : Fit q ta
       bad p = not (header_fits q⁺.tags q⁺.values (count q⁺) p)
 
 -- ---- what is put
-found_at : (tags values : List ℕ) (n tag : ℕ) (cells : List ℕ) (p : ℕ) → find tags values n tag cells ≡ At p → (get_or tags p 0 ≡ tag) × (cells_of values p ≡ cells)
+found_at : (tags values : List ℕ) (n tag : ℕ) (cells : List ℕ) (p : ℕ) → find tags values n tag cells ≡ Some p → (get_or tags p 0 ≡ tag) × (cells_of values p ≡ cells)
 unfolding find
 found_at tags values n tag cells p e = at_true tags values p tag cells (found-holds values n (λ q. is_at tags values q tag cells) p e)
 
@@ -131,14 +130,14 @@ pub record PutTerm (q : Pool) (tag : ℕ) (cells : List ℕ) (o : Placed) : Type
   pub tree_is : tree o.pool.tags o.pool.values o.place ≡ term_from tag cells (sort_tree q.tags q.values) (tree q.tags q.values)
 
 module _ (q : Pool) (tag : ℕ) (cells : List ℕ) (s : Sound q) (fit : Fit q tag cells) where
-  put-formed : first_bad (put q tag cells).pool.tags (put q tag cells).pool.values (count (put q tag cells).pool) ≡ Nothing
+  put-formed : first_bad (put q tag cells).pool.tags (put q tag cells).pool.values (count (put q tag cells).pool) ≡ None
   unfolding put
   put-formed = go (find q.tags q.values (count q) tag cells) refl (put_on q tag cells s.good)
     where
-      go : (f : Found) → put q tag cells ≡ place_at q tag cells f → PutOn q tag cells (place_at q tag cells f)
-          → first_bad (place_at q tag cells f).pool.tags (place_at q tag cells f).pool.values (count (place_at q tag cells f).pool) ≡ Nothing
-      go (At p) e o = s.formed
-      go Nothing e o = extend-formed q tag cells s fit (extend q tag cells) refl o.good o.grows
+      go : (f : Option ℕ) → put q tag cells ≡ place_at q tag cells f → PutOn q tag cells (place_at q tag cells f)
+          → first_bad (place_at q tag cells f).pool.tags (place_at q tag cells f).pool.values (count (place_at q tag cells f).pool) ≡ None
+      go (Some p) e o = s.formed
+      go None e o = extend-formed q tag cells s fit (extend q tag cells) refl o.good o.grows
 
   pub put-term : is_term_tag tag ≡ true → PutTerm q tag cells (put q tag cells)
   put-term k =

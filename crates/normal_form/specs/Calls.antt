@@ -1,7 +1,7 @@
 -- The public calls of this crate: which refusal comes first, what is accepted, and what the lent arrays hold at the end.
 -- 01, "What stops a step": "Other public calls on a term run 30, 14, 15, 16, 17, then 31, 13, 32 where they apply."
--- Rests on answers' Answer and struct `Answer`, on descriptions' Description, on pool's Check, on formulas' Normal, Built, Clauses and ClauseLists,
--- and on building's Arrays.
+-- Rests on answers' Answer and struct `Answer`, on descriptions' Description, on pool's Check, on formulas' Normal, Built, Clauses and
+-- ClauseLists, and on building's Arrays.
 use Rattle.std.specs.Prelude.{ℕ, ◌≡◌, Bool, ◌&&◌, cond, List, length, replicate, leb, eqb}
 use Rattle.answers.specs.Answer.{accepted, bad_arrays}
 use Rattle.pool.specs.Check.{and_then, check_term}

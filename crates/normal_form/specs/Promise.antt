@@ -7,7 +7,8 @@
 -- value. Both hold even where an opaque literal's value depends on every variable." An empty `or` is refused (13).
 -- The terms are those of the arrays as the call leaves them; readings have numbers for values, which is every reading
 -- (meaning/proofs/truth/Numbered.antt `every_value`, `every-clauses`).
--- Rests on answers' Answer and struct `Answer`, on pool's Check, on formulas' ClauseLists, on meaning's Term, Skeleton, Tree and Numbered, and on Calls.
+-- Rests on answers' Answer and struct `Answer`, on pool's Check, on formulas' ClauseLists, on meaning's Term, Skeleton, Tree and Numbered,
+-- and on Calls.
 use Rattle.std.specs.Prelude.{ℕ, ◌≡◌, Bool, List, map}
 use Rattle.answers.specs.Answer.{accepted}
 use Rattle.answers.specs.declared.Answer.{Answer}

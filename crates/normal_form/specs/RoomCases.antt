@@ -6,8 +6,8 @@
 --     x       true        4                      accepted: x itself, nothing is built
 --
 -- x is a variable of sort Bool at 1, in a pool of 4 cells.
--- Rests on answers' Answer, on cells' Bounded, ByPlace, Cell and Headers, on headers' WellFormed, on descriptions' Description, on sorts' SortRule,
--- on sort_table's Table and TableAnswer, on pool's Check, on formulas' Formula and Built, on building's Arrays, and on Calls.
+-- Rests on answers' Answer, on cells' Bounded, ByPlace, Cell and Headers, on headers' WellFormed, on descriptions' Description, on sorts'
+-- SortRule, on sort_table's Table and TableAnswer, on pool's Check, on formulas' Formula and Built, on building's Arrays, and on Calls.
 use Rattle.std.specs.Prelude.{◌≡◌, refl, true, false, [], ◌∷◌}
 use Rattle.cells.specs.Bounded.{every_in, every}
 use Rattle.cells.specs.ByPlace.{down_to, by_place}

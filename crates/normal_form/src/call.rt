@@ -1,19 +1,21 @@
 // The public calls, under the table of sort rules in use: the normal form of a term, and the clause list of a term.
 ghost use Rattle.cells.specs.Limits.{cell_limit};
 ghost use Rattle.std.specs.Prelude.{◌≤◌, ◌≡◌};
+ghost use Rattle.answers.specs.Refusal.{answer_to};
+ghost use Rattle.clauses.specs.ClauseList.{counted};
 ghost use Rattle.normal_form.specs.Promise.{NormalFormPromise, ClauseListPromise};
 ghost use Rattle.normal_form.specs.ClauseCall.{ClausalBuilt, unlisted, ListKept};
 
-use crate::clausal_forms::{ClausalForms, build_forms};
-use building::build::Built;
+use crate::clausal_forms::build_forms;
 use building::negation_normal_form::build_normal_form;
 use building::terms::WORK;
 use clauses::clause_list::{clear_list, list_clauses};
+use clauses::totals::Totals;
 use pool::checks::index_term;
 use pool::description::cut_back;
 use pool::index::INDEX;
 use pool::limits::{CLAUSE_ENDS, LITERALS};
-use pool::{Answer, TermPlace};
+use pool::{Answer, Refusal, TermPlace};
 
 // The normal form of the term at t at a polarity: accepted, its place and the new count. What stands there has the term's value at true
 // polarity, and the negated value at false.
@@ -28,19 +30,17 @@ pub fn normal_form(
     ensures { NormalFormPromise tags.old values.old table.now n t.0 polarity result tags.new values.new }
 {
     let mut index = [0u32; INDEX];
-    let checked = index_term(tags, values, table, n, t, &mut index);
-    if checked.code == 30 {
-        return checked;
-    }
-    if checked.code != 0 {
+    if let Err(refusal) = index_term(tags, values, table, n, t, &mut index) {
+        if refusal.is_bad_arrays() {
+            return Answer::from(refusal);
+        }
         cut_back(tags, values, n);
-        return checked;
+        return Answer::from(refusal);
     }
     let mut work = [0u32; WORK];
-    let Built::At(p, m) = build_normal_form(tags, values, &mut work, &mut index, n, t, polarity)
-    else {
+    let Some((p, m)) = build_normal_form(tags, values, &mut work, &mut index, n, t, polarity) else {
         cut_back(tags, values, n);
-        return Answer::refused(31, 0, 0);
+        return Answer::from(Refusal::NoRoom);
     };
     cut_back(tags, values, m);
     Answer::accepted(p.0, m as u32)
@@ -53,50 +53,54 @@ pub struct Listed {
     pub count: u32,
 }
 
-// Where the taken-out normal form of a term stands, with the new count; or the refusal.
-#[derive(Clone, Copy)]
-enum Clausal {
-    At(TermPlace, usize),
-    Refused(Answer),
-}
-
-// The checks of the term at t, 30, 40, 41, 14, 15, 16 and 17, and its taken-out normal form or 31.
-fn clausal_of(tags: &mut [u8], values: &mut [u32], table: &[u32], n: usize, t: TermPlace) -> Clausal
+// The checks of the term at t, 30, 40, 41, 14, 15, 16 and 17, and where its taken-out normal form stands, with the new count; or 31.
+fn clausal_of(
+    tags: &mut [u8],
+    values: &mut [u32],
+    table: &[u32],
+    n: usize,
+    t: TermPlace,
+) -> Result<(TermPlace, usize), Refusal>
     ensures { ClausalBuilt tags.old values.old table.now n t.0 result tags.new values.new }
 {
     let mut index = [0u32; INDEX];
-    let checked = index_term(tags, values, table, n, t, &mut index);
-    if checked.code != 0 {
-        return Clausal::Refused(checked);
-    }
-    let ClausalForms::At(_, _, x, m) = build_forms(tags, values, &mut index, n, t) else {
-        return Clausal::Refused(Answer::refused(31, 0, 0));
-    };
-    Clausal::At(x, m)
+    index_term(tags, values, table, n, t, &mut index)?;
+    let forms = build_forms(tags, values, &mut index, n, t).ok_or(Refusal::NoRoom)?;
+    Ok((forms.taken_out, forms.count))
 }
 
-fn refused(answer: Answer) -> Listed
-    ensures { result ≡ unlisted answer }
+fn refused(refusal: Refusal) -> Listed
+    ensures { result ≡ unlisted (answer_to refusal) }
 {
     Listed {
-        answer: answer,
+        answer: Answer::from(refusal),
         count: 0,
     }
 }
 
 // The new terms are kept if the list is accepted, and cut back if not.
-fn keep_listed(tags: &mut [u8], values: &mut [u32], n: usize, m: usize, answer: Answer) -> Listed
+fn keep_listed(
+    tags: &mut [u8],
+    values: &mut [u32],
+    n: usize,
+    m: usize,
+    listed: Result<Totals, Refusal>,
+) -> Listed
     requires { m ≤ cell_limit }
-    ensures { ListKept n m answer tags.old values.old result tags.new values.new }
+    ensures { ListKept n m (counted listed) tags.old values.old result tags.new values.new }
 {
-    if answer.code != 0 {
-        cut_back(tags, values, n);
-        return refused(answer);
-    }
-    cut_back(tags, values, m);
-    Listed {
-        answer: answer,
-        count: m as u32,
+    match listed {
+        Ok(totals) => {
+            cut_back(tags, values, m);
+            Listed {
+                answer: Answer::accepted(totals.clauses, totals.literals),
+                count: m as u32,
+            }
+        }
+        Err(refusal) => {
+            cut_back(tags, values, n);
+            refused(refusal)
+        }
     }
 }
 
@@ -113,25 +117,21 @@ pub fn clause_list(
 ) -> Listed
     ensures { ClauseListPromise tags.old values.old table.now n t.0 literals.old ends.old result.answer result.count tags.new values.new literals.new ends.new }
 {
-    if literals.len() < LITERALS {
-        return refused(Answer::refused(30, 0, 0));
+    if literals.len() < LITERALS || ends.len() < CLAUSE_ENDS {
+        return refused(Refusal::BadArrays);
     }
-    if ends.len() < CLAUSE_ENDS {
-        return refused(Answer::refused(30, 0, 0));
-    }
-    let built = clausal_of(tags, values, table, n, t);
-    match built {
-        Clausal::Refused(answer) => {
-            if answer.code == 30 {
-                return refused(answer);
+    match clausal_of(tags, values, table, n, t) {
+        Err(refusal) => {
+            if refusal.is_bad_arrays() {
+                return refused(refusal);
             }
             cut_back(tags, values, n);
             clear_list(literals, ends);
-            refused(answer)
+            refused(refusal)
         }
-        Clausal::At(x, m) => {
-            let answer = list_clauses(&tags[..m], &values[..m], x, literals, ends);
-            keep_listed(tags, values, n, m, answer)
+        Ok((x, m)) => {
+            let listed = list_clauses(&tags[..m], &values[..m], x, literals, ends);
+            keep_listed(tags, values, n, m, listed)
         }
     }
 }

@@ -5,28 +5,29 @@ ghost use Rattle.descriptions.specs.Index.{Index};
 ghost use Rattle.building.specs.Walk.{State};
 ghost use Rattle.normal_form.specs.ClausalForms.{FormsBuilt};
 
-use building::build::Built;
 use building::negation_normal_form::build_normal_form;
 use building::prenex_forall::build_taken_out;
 use building::terms::WORK;
 use pool::TermPlace;
 use pool::index::{INDEX, forget, index_headers};
 
-// Where the normal form stands, with the count after it, and the same of the taken-out form; or no room.
-#[derive(Clone, Copy)]
-pub enum ClausalForms {
-    At(TermPlace, usize, TermPlace, usize),
-    Full,
+// Where the normal form stands, with the count after it, and the same of the taken-out form.
+#[derive(Clone, Copy, PartialEq, Eq)]
+pub struct ClausalForms {
+    pub normal: TermPlace,
+    pub normal_count: usize,
+    pub taken_out: TermPlace,
+    pub count: usize,
 }
 
-// Builds both forms of the term at t.
+// Builds both forms of the term at t, if there is room.
 pub fn build_forms(
     tags: &mut [u8],
     values: &mut [u32],
     index: &mut [u32; INDEX],
     n: usize,
     t: TermPlace,
-) -> ClausalForms
+) -> Option<ClausalForms>
     requires state { State n n tags.old values.old }
     requires t_lt_n { t.0 < n }
     requires index { Index tags.old values.old n index.old }
@@ -34,14 +35,19 @@ pub fn build_forms(
     ensures index_2 { Index tags.old values.old n index.new }
 {
     let mut work = [0u32; WORK];
-    let Built::At(x, m) = build_normal_form(tags, values, &mut work, index, n, t, true) else {
+    let Some((normal, m)) = build_normal_form(tags, values, &mut work, index, n, t, true) else {
         index_headers(tags, values, n, index);
-        return ClausalForms::Full;
+        return None;
     };
-    let Built::At(y, k) = build_taken_out(tags, values, &mut work, index, m, x) else {
+    let Some((taken_out, k)) = build_taken_out(tags, values, &mut work, index, m, normal) else {
         index_headers(tags, values, n, index);
-        return ClausalForms::Full;
+        return None;
     };
     forget(tags, values, index, n, k);
-    ClausalForms::At(x, m, y, k)
+    Some(ClausalForms {
+        normal,
+        normal_count: m,
+        taken_out,
+        count: k,
+    })
 }

@@ -1,5 +1,5 @@
-// Normal forms and clause lists of a pool's formulas: the public calls over the walks of `building` and `clauses`, what they say; and what the
-// rules need of them, by name.
+// Normal forms and clause lists of a pool's formulas: the public calls over the walks of `building` and `clauses`, what they say; and what
+// the rules need of them, by name.
 #![tactic(auto)]
 
 pub mod call;

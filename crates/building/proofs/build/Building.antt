@@ -1,5 +1,6 @@
 -- Laws of walkers that build: one step after another, a refusal on the way, and one more term. They hold whatever forms the memo has.
 -- Assumes nothing.
+use Rattle.std.specs.Prelude.{Option, Some, None}
 use Prim.Native.Nat.{ℕ, suc, ◌≤◌, ◌<◌}
 use mathlib.Core.Path.{◌≡◌, refl, sym, ap, ◌∙◌}
 use mathlib.Core.Bool.{false}
@@ -10,8 +11,6 @@ use native.Mathlib.Omega.{arith}
 use native.Mathlib.Decide.{ℕ_discrete}
 use Rattle.cells.specs.Place.{term_at}
 use Rattle.cells.specs.declared.TermPlace.{TermPlace}
-use Rattle.building.specs.declared.build.Built.{Built}
-use Rattle.building.specs.declared.build.Built.TheVariants.{At, Full}
 use Rattle.formulas.specs.Normal.{Normal}
 use Rattle.formulas.specs.Built.{Pool, Placed, count, intern}
 use Rattle.building.specs.Arrays.{pool_of, fits}
@@ -61,9 +60,9 @@ left_less end n tags values tags' values' h l = record {
 module _ (form_at : ℕ → Normal (List ℕ) ℕ) (end : ℕ) where
   -- one more term: nothing is kept in the memo
   module _ (n : ℕ) (tags values work : List ℕ) (s : State end n tags values) (right : FormsMemo form_at (pool_of tags values n) work) where
-    pub builds-put : (o : Placed) → GoesOn (pool_of tags values n) o.pool → (r : Built) (tags' values' work' : List ℕ)
+    pub builds-put : (o : Placed) → GoesOn (pool_of tags values n) o.pool → (r : Option (TermPlace × ℕ)) (tags' values' work' : List ℕ)
         → Puts n tags values o r tags' values' → MemoKept work work' → Builds form_at end tags values work o r tags' values' work'
-    builds-put o on (At p m) tags' values' work' y kept =
+    builds-put o on (Some (p, m)) tags' values' work' y kept =
         let h = y.outcome in
         record {
           puts = record {
@@ -93,28 +92,28 @@ module _ (form_at : ℕ → Normal (List ℕ) ℕ) (end : ℕ) where
             keeps = λ i x e. rw kept.same e;
           };
         }
-    builds-put o on Full tags' values' work' y kept = record {
+    builds-put o on None tags' values' work' y kept = record {
       puts = record { outcome = y.outcome; left = left_less end n tags values tags' values' s.source y.left };
       memo-is = tt;
     }
 
     -- nothing to do: the form stands
     pub builds-stood : (f : Normal (List ℕ) ℕ) (p : ℕ) → p < n → Stands (pool_of tags values n) f p
-        → Builds form_at end tags values work (intern f (pool_of tags values n)) (At (term_at p) n) tags values work
+        → Builds form_at end tags values work (intern f (pool_of tags values n)) (Some ((term_at p), n)) tags values work
     builds-stood f p h e =
         rw e (record {
           puts = record { outcome = record { pool-is = refl; place_is = refl; below = h; state = s }; left = left-refl end tags values };
           memo-is = record { right = right; keeps = λ i x k. k };
         })
 
-  module _ (tags values work : List ℕ) (o : Placed) (r : Built) (tags₁ values₁ work₁ : List ℕ) (b : Builds form_at end tags values work o r tags₁ values₁ work₁) where
+  module _ (tags values work : List ℕ) (o : Placed) (r : Option (TermPlace × ℕ)) (tags₁ values₁ work₁ : List ℕ) (b : Builds form_at end tags values work o r tags₁ values₁ work₁) where
     -- a refusal on the way refuses the whole
-    pub builds-full : r ≡ Full → (o' : Placed) → count o.pool ≤ count o'.pool → Builds form_at end tags values work o' Full tags₁ values₁ work₁
+    pub builds-full : r ≡ None → (o' : Placed) → count o.pool ≤ count o'.pool → Builds form_at end tags values work o' None tags₁ values₁ work₁
     builds-full e o' h =
         let full : fits o.pool (length tags) ≡ false = rw e at b.puts.outcome in
         record { puts = record { outcome = fits_not o.pool o'.pool (length tags) h full; left = b.puts.left }; memo-is = tt }
 
-    module _ (p : TermPlace) (m : ℕ) (e : r ≡ At p m) where
+    module _ (p : TermPlace) (m : ℕ) (e : r ≡ Some (p, m)) where
       pub builds-holds : Holds end o p.0 m tags₁ values₁
       builds-holds = rw e at b.puts.outcome
 
@@ -122,13 +121,13 @@ module _ (form_at : ℕ → Normal (List ℕ) ℕ) (end : ℕ) where
       builds-noted = rw e at b.memo-is
 
       -- the next step
-      pub builds-then : (o₂ : Placed) (r₂ : Built) (tags₂ values₂ work₂ : List ℕ) → Builds form_at end tags₁ values₁ work₁ o₂ r₂ tags₂ values₂ work₂
+      pub builds-then : (o₂ : Placed) (r₂ : Option (TermPlace × ℕ)) (tags₂ values₂ work₂ : List ℕ) → Builds form_at end tags₁ values₁ work₁ o₂ r₂ tags₂ values₂ work₂
           → Builds form_at end tags values work o₂ r₂ tags₂ values₂ work₂
-      builds-then o₂ (At q l) tags₂ values₂ work₂ b₂ = record {
+      builds-then o₂ (Some (q, l)) tags₂ values₂ work₂ b₂ = record {
         puts = record { outcome = b₂.puts.outcome; left = left-trans end tags values tags₁ values₁ tags₂ values₂ b.puts.left b₂.puts.left };
         memo-is = record { right = b₂.memo-is.right; keeps = λ i x k. b₂.memo-is.keeps i x (builds-noted.keeps i x k) };
       }
-      builds-then o₂ Full tags₂ values₂ work₂ b₂ = record {
+      builds-then o₂ None tags₂ values₂ work₂ b₂ = record {
         puts = record {
           outcome = rw b.puts.left.tags-size at b₂.puts.outcome;
           left = left-trans end tags values tags₁ values₁ tags₂ values₂ b.puts.left b₂.puts.left;
@@ -138,12 +137,12 @@ module _ (form_at : ℕ → Normal (List ℕ) ℕ) (end : ℕ) where
 
   -- what was built is kept at i, where the memo had nothing
   module _ (n : ℕ) (tags values work : List ℕ) (s : State end n tags values) (f : Normal (List ℕ) ℕ) (i : ℕ) (is : form_at i ≡ f) (free : get_or (memo_of work) i 0 ≡ 0)
-      (p m : ℕ) (tags₁ values₁ work₁ : List ℕ) (b : Builds form_at end tags values work (intern f (pool_of tags values n)) (At (term_at p) m) tags₁ values₁ work₁) where
+      (p m : ℕ) (tags₁ values₁ work₁ : List ℕ) (b : Builds form_at end tags values work (intern f (pool_of tags values n)) (Some ((term_at p), m)) tags₁ values₁ work₁) where
     stands-there : Stands (pool_of tags₁ values₁ m) f p
     stands-there =
         rw (b.puts.outcome.pool-is, b.puts.outcome.place_is) (intern-stands f (pool_of tags values n) (pool-good end n tags values s))
 
-    pub builds-kept : i < 16384 → Builds form_at end tags values work (intern f (pool_of tags values n)) (At (term_at p) m) tags₁ values₁ (set work₁ i (suc p))
+    pub builds-kept : i < 16384 → Builds form_at end tags values work (intern f (pool_of tags values n)) (Some ((term_at p), m)) tags₁ values₁ (set work₁ i (suc p))
     builds-kept h = record {
       puts = b.puts;
       memo-is = record {

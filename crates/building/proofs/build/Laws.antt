@@ -1,5 +1,6 @@
 -- Laws of the pool that two arrays hold: adding a description to the arrays puts it into the pool, or finds no room for it.
 -- Assumes nothing.
+use Rattle.std.specs.Prelude.{Option, Some, None}
 use Prim.Native.Nat.{ℕ, ◌+◌, ◌≤◌, ◌<◌}
 use mathlib.Core.Path.{◌≡◌, refl, sym, ◌∙◌}
 use mathlib.Core.Bool.{Bool, true, false, ◌&&◌, ◌||◌}
@@ -13,14 +14,11 @@ use Rattle.cells.specs.Place.{term_at}
 use Rattle.cells.specs.ByPlace.{by-test}
 use Rattle.cells.specs.Cell.{is_at}
 use Rattle.descriptions.specs.Description.{find, is_full, append, found_or, adding, Added-is}
-use Rattle.cells.specs.declared.Found.{Found}
-use Rattle.cells.specs.declared.Found.TheVariants.{At as FoundAt, Nothing}
 use Rattle.descriptions.specs.declared.description.Added.{Added}
 use Rattle.descriptions.specs.declared.description.Added.TheVariants.{There, New, Full as NoRoom}
 use Rattle.cells.proofs.Walks.{first-end, first_below}
 use Rattle.descriptions.proofs.description.Fills.{Fills, filled, or_else, fills-grown}
 use Rattle.descriptions.proofs.description.Growth.{Same, find-grown, new-grown}
-use Rattle.building.specs.declared.build.Built.TheVariants.{At, Full}
 use Rattle.formulas.specs.Built.{Pool, Placed, count, extend, place_at, put}
 use Rattle.building.specs.Arrays.{pool_of, fits}
 use Rattle.building.specs.Walk.{State, Left, Puts}
@@ -81,9 +79,9 @@ module _ (end n : ℕ) (tags values : List ℕ) (s : State end n tags values) wh
       (sym (find-grown n (take n tags) (take n values) tags values same n tag cells (omega arith) fills-part
       ∙ (rw (← first-end values n (λ q. is_at tags values q tag cells) _ n refl (omega arith)) (none (find (take n tags) (take n values) n tag cells)))))
     where
-      none : (f : Found) → or_else f Nothing ≡ f
-      none (FoundAt p) = refl
-      none Nothing = refl
+      none : (f : Option ℕ) → or_else f None ≡ f
+      none (Some p) = refl
+      none None = refl
 
 -- ---- stores from n on
 module _ (vs l : List ℕ) (n : ℕ) (h : n + length vs ≤ length l) where
@@ -117,9 +115,9 @@ module _ (tags values : List ℕ) (n k : ℕ) (size : length tags ≡ length val
       let (d, r) = or-false (ltb (length values) end) (ltb 8192 end) r in
       (ltb-false (length tags) end b, ltb-false 8192 end r)
 
-by-found : {P : Type 0} (f : Found) → ((p : ℕ) → f ≡ FoundAt p → P) → (f ≡ Nothing → P) → P
-by-found (FoundAt p) at nothing = at p refl
-by-found Nothing at nothing = nothing refl
+by-found : {P : Type 0} (f : Option ℕ) → ((p : ℕ) → f ≡ Some p → P) → (f ≡ None → P) → P
+by-found (Some p) at nothing = at p refl
+by-found None at nothing = nothing refl
 
 module _ (n : ℕ) (tags values : List ℕ) (s : State n n tags values) (tag : ℕ) (cells : List ℕ) where
   abbrev o : Placed
@@ -127,12 +125,12 @@ module _ (n : ℕ) (tags values : List ℕ) (s : State n n tags values) (tag : �
 
   -- what adding comes to: the description stands; or there is no room; or it is written after n
   data Case : Added → List ℕ → List ℕ → Type 0 where
-    stood : {p : ℕ} → find tags values n tag cells ≡ FoundAt p → Case (There p) tags values
-    refused : find tags values n tag cells ≡ Nothing → is_full tags values 8192 n (length cells) ≡ true → Case NoRoom tags values
-    written : find tags values n tag cells ≡ Nothing → is_full tags values 8192 n (length cells) ≡ false
+    stood : {p : ℕ} → find tags values n tag cells ≡ Some p → Case (There p) tags values
+    refused : find tags values n tag cells ≡ None → is_full tags values 8192 n (length cells) ≡ true → Case NoRoom tags values
+    written : find tags values n tag cells ≡ None → is_full tags values 8192 n (length cells) ≡ false
         → Case (New n (n + 1 + length cells)) (sets tags n (tag ∷ replicate (length cells) 0)) (sets values n (length cells ∷ cells))
 
-  module _ (f : Found) (e : find tags values n tag cells ≡ f) where
+  module _ (f : Option ℕ) (e : find tags values n tag cells ≡ f) where
     put_is : o ≡ place_at (pool_of tags values n) tag cells f
     unfolding put
     put_is = rw (pool-find n n tags values s tag cells, e)
@@ -140,16 +138,16 @@ module _ (n : ℕ) (tags values : List ℕ) (s : State n n tags values) (tag : �
   kept : Left n tags values tags values
   kept = record { tags-size = refl; values-size = refl; tags-kept = refl; values-kept = refl }
 
-  puts-stood : (p : ℕ) → find tags values n tag cells ≡ FoundAt p → Puts n tags values o (At (term_at p) n) tags values
+  puts-stood : (p : ℕ) → find tags values n tag cells ≡ Some p → Puts n tags values o (Some ((term_at p), n)) tags values
   unfolding find
   puts-stood p e = record {
-    outcome = rw (put_is (FoundAt p) e) (record { pool-is = refl; place_is = refl; below = first_below values n _ p e; state = s });
+    outcome = rw (put_is (Some p) e) (record { pool-is = refl; place_is = refl; below = first_below values n _ p e; state = s });
     left = kept;
   }
 
-  puts-refused : find tags values n tag cells ≡ Nothing → is_full tags values 8192 n (length cells) ≡ true → Puts n tags values o Full tags values
+  puts-refused : find tags values n tag cells ≡ None → is_full tags values 8192 n (length cells) ≡ true → Puts n tags values o None tags values
   puts-refused e y = record {
-    outcome = rw (put_is Nothing e)
+    outcome = rw (put_is None e)
         (by-test (fits (extend (pool_of tags values n) tag cells) (length tags))
         (λ w.
         let (a, b) = fits-room (extend (pool_of tags values n) tag cells) (length tags) w in
@@ -160,10 +158,10 @@ module _ (n : ℕ) (tags values : List ℕ) (s : State n n tags values) (tag : �
     left = kept;
   }
 
-  puts-written : (tags' values' : List ℕ) → find tags values n tag cells ≡ Nothing → is_full tags values 8192 n (length cells) ≡ false
+  puts-written : (tags' values' : List ℕ) → find tags values n tag cells ≡ None → is_full tags values 8192 n (length cells) ≡ false
       → tags' ≡ sets tags n (tag ∷ replicate (length cells) 0) → values' ≡ sets values n (length cells ∷ cells)
       → Fills values' (n + 1 + length cells) 0
-      → Puts n tags values o (At (term_at n) (n + 1 + length cells)) tags' values'
+      → Puts n tags values o (Some ((term_at n), (n + 1 + length cells))) tags' values'
   puts-written tags' values' e y te ve f =
       let (a, b) = room_for tags values n (length cells) s.size y in
       let lt : length tags' ≡ length tags = rw te (length-sets tags n (tag ∷ replicate (length cells) 0)) in
@@ -175,7 +173,7 @@ module _ (n : ℕ) (tags values : List ℕ) (s : State n n tags values) (tag : �
       let pv : take (n + 1 + length cells) values' ≡ take n values ++ (length cells ∷ cells) =
       rw ve (sets-whole (length cells ∷ cells) values n rv (n + 1 + length cells) (omega arith)) in
       record {
-        outcome = rw (put_is Nothing e) (record {
+        outcome = rw (put_is None e) (record {
           pool-is = rw (pt, pv);
           place_is = sym (counted n n tags values s);
           below = omega arith;
@@ -197,10 +195,10 @@ module _ (n : ℕ) (tags values : List ℕ) (s : State n n tags values) (tag : �
         (by-found (find tags values n tag cells) (λ p e. rw e (stood e))
         (λ e. by-test (is_full tags values 8192 n (length cells)) (λ b. rw (e, b) (refused e b)) (λ b. rw (e, b) (written e b))))
 
-    pub put-there : (p : ℕ) → a ≡ There p → Puts n tags values o (At (term_at p) n) tags' values'
+    pub put-there : (p : ℕ) → a ≡ There p → Puts n tags values o (Some ((term_at p), n)) tags' values'
     put-there p e = go (rw e at case)
       where
-        go : {t v : List ℕ} → Case (There p) t v → Puts n tags values o (At (term_at p) n) t v
+        go : {t v : List ℕ} → Case (There p) t v → Puts n tags values o (Some ((term_at p), n)) t v
         go (stood e) = puts-stood p e
 
     pub put-there-small : (p : ℕ) → a ≡ There p → p < n
@@ -209,10 +207,10 @@ module _ (n : ℕ) (tags values : List ℕ) (s : State n n tags values) (tag : �
         go : {t v : List ℕ} → Case (There p) t v → p < n
         go (stood e) = (puts-stood p e).outcome.below
 
-    pub put_full : a ≡ NoRoom → Puts n tags values o Full tags' values'
+    pub put_full : a ≡ NoRoom → Puts n tags values o None tags' values'
     put_full e = go (rw e at case)
       where
-        go : {t v : List ℕ} → Case NoRoom t v → Puts n tags values o Full t v
+        go : {t v : List ℕ} → Case NoRoom t v → Puts n tags values o None t v
         go (refused e y) = puts-refused e y
 
     pub put-new-small : (p m : ℕ) → a ≡ New p m → p ≡ n
@@ -221,10 +219,10 @@ module _ (n : ℕ) (tags values : List ℕ) (s : State n n tags values) (tag : �
         go : {x y : ℕ} {t v : List ℕ} → Case (New x y) t v → x ≡ n
         go (written e y) = refl
 
-    pub put-new : (p m : ℕ) → a ≡ New p m → Puts n tags values o (At (term_at p) m) tags' values'
+    pub put-new : (p m : ℕ) → a ≡ New p m → Puts n tags values o (Some ((term_at p), m)) tags' values'
     put-new p m e = go (rw e at case) (new-grown tags values 8192 n tag cells a tags' values' i s.fills p m e).fills
       where
-        go : {x y : ℕ} {t v : List ℕ} → Case (New x y) t v → Fills v y 0 → Puts n tags values o (At (term_at x) y) t v
+        go : {x y : ℕ} {t v : List ℕ} → Case (New x y) t v → Fills v y 0 → Puts n tags values o (Some ((term_at x), y)) t v
         go (written e y) f = puts-written _ _ e y refl refl f
 
 pub ruleset puttings = (put-there, put_full, put-new)

@@ -1,5 +1,7 @@
--- Laws of the two walks that build: the memo's entries, one step after another, a term, a run of operands, a connective, and the whole walk.
+-- Laws of the two walks that build: the memo's entries, one step after another, a term, a run of operands, a connective, and the whole
+-- walk.
 -- Assumes nothing.
+use Rattle.std.specs.Prelude.{Option, Some, None}
 use Prim.Native.Nat.{ℕ, zero, suc, ◌+◌, ◌-◌, ◌≤◌, ◌<◌}
 use mathlib.Core.Path.{◌≡◌, refl, sym, ap, ◌∙◌, fun_ext}
 use mathlib.Core.Bool.{Bool, true, false}
@@ -11,8 +13,6 @@ use native.Mathlib.Numerals.{add-one}
 use borrow.Author.Tests.{lt-ltb, le-ltb}
 use Rattle.cells.specs.Place.{term_at}
 use Rattle.cells.specs.declared.TermPlace.{TermPlace}
-use Rattle.building.specs.declared.build.Built.{Built}
-use Rattle.building.specs.declared.build.Built.TheVariants.{At, Full}
 use Rattle.formulas.specs.Normal.{Normal, Normals, nmany}
 use Rattle.formulas.specs.Built.{Pool, Placed, PlacedAll, count, put, intern, interns, normals_of}
 use Rattle.formulas.specs.Formula.{connective_tag}
@@ -41,11 +41,6 @@ module _ (w : Walk) (end n : ℕ) (tags values work : List ℕ) (ready : WalkRea
   pub slot-within : (polarity : Bool) → t < end → (i : ℕ) → i ≡ slot_of t polarity → i < 16384
   slot-within polarity h i e = omega (arith, slot_small t polarity (place-within h))
 
-pub own-ready : (w : Walk) (end n : ℕ) (tags values work : List ℕ) → WalkReady w end n tags values work → State n n tags values
-own-ready w end n tags values work ready =
-    let s = ready.state in
-    record { size = s.size; within = s.within; small = s.small; fills = s.fills; source = omega arith }
-
 -- ---- the source cells stay as they are
 module _ (end : ℕ) (tags values tags₁ values₁ : List ℕ) (l : Left end tags values tags₁ values₁) where
   pub form-same : (w : Walk) (t : ℕ) (polarity : Bool) → form_of w end tags₁ values₁ t polarity ≡ form_of w end tags values t polarity
@@ -63,25 +58,11 @@ module _ (end : ℕ) (tags values tags₁ values₁ : List ℕ) (l : Left end ta
   before_same : (t : ℕ) → Before end tags values t → Before end tags₁ values₁ t
   before_same t b = record { operand = λ i h. rw (run-same t) (b.operand i (rw (run-same t) at h)) }
 
-pub operand-before : (end : ℕ) (tags values : List ℕ) (t : ℕ) → Before end tags values t → (run : List ℕ) → run ≡ run_of end tags values t
-    → (i : ℕ) → i < length run → get_or run i 0 < t
-operand-before end tags values t b run e i h = rw e (b.operand i (rw e at h))
-
 -- ---- after a step
-module _ (w : Walk) (end : ℕ) (tags values work : List ℕ) (o : Placed) (r : Built) (tags₁ values₁ work₁ : List ℕ)
-    (b : Builds (entry_form w end tags values) end tags values work o r tags₁ values₁ work₁) (p : TermPlace) (m : ℕ) (e : r ≡ At p m) where
+module _ (w : Walk) (end : ℕ) (tags values work : List ℕ) (o : Placed) (r : Option (TermPlace × ℕ)) (tags₁ values₁ work₁ : List ℕ)
+    (b : Builds (entry_form w end tags values) end tags values work o r tags₁ values₁ work₁) (p : TermPlace) (m : ℕ) (e : r ≡ Some (p, m)) where
   pub state-after : State end m tags₁ values₁
   state-after = (builds-holds (entry_form w end tags values) end tags values work o r tags₁ values₁ work₁ b p m e).state
-
-  pub own-after : State m m tags₁ values₁
-  own-after =
-      let s = state-after in
-      record { size = s.size; within = s.within; small = s.small; fills = s.fills; source = omega arith }
-
-  pub place-small : p.0 < 8192
-  place-small =
-      let h = builds-holds (entry_form w end tags values) end tags values work o r tags₁ values₁ work₁ b p m e in
-      omega (arith, h.below, h.state.small)
 
   pub memo-long : length work₁ ≡ 24576
   memo-long = (builds-noted (entry_form w end tags values) end tags values work o r tags₁ values₁ work₁ b p m e).right.size
@@ -94,7 +75,7 @@ module _ (w : Walk) (end : ℕ) (tags values work : List ℕ) (o : Placed) (r : 
   }
 
   -- the next step, that of its own source, is one of the same source
-  pub then-builds : (o₂ : Placed) (r₂ : Built) (tags₂ values₂ work₂ : List ℕ)
+  pub then-builds : (o₂ : Placed) (r₂ : Option (TermPlace × ℕ)) (tags₂ values₂ work₂ : List ℕ)
       → Builds (entry_form w end tags₁ values₁) end tags₁ values₁ work₁ o₂ r₂ tags₂ values₂ work₂
       → Builds (entry_form w end tags values) end tags values work o₂ r₂ tags₂ values₂ work₂
   then-builds o₂ r₂ tags₂ values₂ work₂ b₂ =
@@ -102,7 +83,7 @@ module _ (w : Walk) (end : ℕ) (tags values work : List ℕ) (o : Placed) (r : 
       (rw (entry-same end tags values tags₁ values₁ b.puts.left w) at b₂)
 
   -- one more term after it
-  pub then-put : (tag : ℕ) (cells : List ℕ) (r₂ : Built) (tags₂ values₂ work₂ : List ℕ)
+  pub then-put : (tag : ℕ) (cells : List ℕ) (r₂ : Option (TermPlace × ℕ)) (tags₂ values₂ work₂ : List ℕ)
       → Puts m tags₁ values₁ (put (pool_of tags₁ values₁ m) tag cells) r₂ tags₂ values₂ → MemoKept work₁ work₂
       → Builds (entry_form w end tags values) end tags values work (put o.pool tag cells) r₂ tags₂ values₂ work₂
   then-put tag cells r₂ tags₂ values₂ work₂ y kept =
@@ -113,6 +94,15 @@ module _ (w : Walk) (end : ℕ) (tags values work : List ℕ) (o : Placed) (r : 
       (builds-put (entry_form w end tags values) end m tags₁ values₁ work₁ h.state k.right (put (pool_of tags₁ values₁ m) tag cells)
       (put-goes-on (pool_of tags₁ values₁ m) tag cells (pool-good end m tags₁ values₁ h.state)) r₂ tags₂ values₂ work₂ y kept))
 
+-- ---- the place of what is built
+place : Option (TermPlace × ℕ) → TermPlace
+place None = term_at 0
+place (Some r) = r.0
+
+place-is : (r s : TermPlace × ℕ) → Some r ≡ Some s → r.0 ≡ s.0
+unfolding place
+place-is r s e = ap (λ (o : Option (TermPlace × ℕ)). place o) e
+
 -- ---- one term: the memo has its form, or it is built and kept
 module _ (w : Walk) (end n : ℕ) (tags values work : List ℕ) (ready : WalkReady w end n tags values work) (t : ℕ) (polarity : Bool) (within : t < end) (i : ℕ) (is : i ≡ slot_of t polarity)
     (k : ℕ) (read : k ≡ get_or work i 0) where
@@ -122,25 +112,25 @@ module _ (w : Walk) (end n : ℕ) (tags values work : List ℕ) (ready : WalkRea
   entry_read : get_or (memo_of work) i 0 ≡ k
   entry_read = memo-read work i small ∙ sym read
 
-  pub form-known : (k ≡ 0 → ⊥) → Known w end n tags values work t polarity (At (term_at (k - 1)) n) tags values work
+  pub form-known : (k ≡ 0 → ⊥) → Known w end n tags values work t polarity (Some ((term_at (k - 1)), n)) tags values work
   form-known z =
       let q : get_or (memo_of work) (slot_of t polarity) 0 ≡ suc (k - 1) = rw (← is, entry_read) (let z : k ≡ suc (k - 1) = omega arith in z) in
       record {
         formed = builds-stood (entry_form w end tags values) end n tags values work ready.state ready.right (form_of w end tags values t polarity) (k - 1)
             (omega (arith, ready.right.below (slot_of t polarity) (k - 1) q, pool-count tags values n ready.state.within))
             (rw (slot-entry w end tags values t polarity (place-within w end n tags values work ready t within)) at (ready.right.entry (slot_of t polarity) (k - 1) q));
-        known = λ p m e. let v : term_at (k - 1) ≡ p = cc in rw (← ap (λ (x : TermPlace). x.0) v) q;
+        known = λ p m e. let v : term_at (k - 1) ≡ p = place-is _ _ e in rw (← ap (λ (x : TermPlace). x.0) v) q;
       }
 
-  module _ (r : Built) (tags₁ values₁ work₁ : List ℕ) (b : Formed w end n tags values work (form_of w end tags values t polarity) r tags₁ values₁ work₁) where
-    pub form-full : r ≡ Full → Known w end n tags values work t polarity Full tags₁ values₁ work₁
+  module _ (r : Option (TermPlace × ℕ)) (tags₁ values₁ work₁ : List ℕ) (b : Formed w end n tags values work (form_of w end tags values t polarity) r tags₁ values₁ work₁) where
+    pub form-full : r ≡ None → Known w end n tags values work t polarity None tags₁ values₁ work₁
     form-full e = record { formed = rw e at b; known = λ p m f. let z : ◌≡◌ {A = ℕ} 0 1 = cc in absurd (omega arith) }
 
-    pub form-kept : k ≡ 0 → (p : TermPlace) (m : ℕ) → r ≡ At p m → Known w end n tags values work t polarity (At p m) tags₁ values₁ (set work₁ i (p.0 + 1))
+    pub form-kept : k ≡ 0 → (p : TermPlace) (m : ℕ) → r ≡ Some (p, m) → Known w end n tags values work t polarity (Some (p, m)) tags₁ values₁ (set work₁ i (p.0 + 1))
     form-kept z p m e = record {
       formed = rw add-one (builds-kept (entry_form w end tags values) end n tags values work ready.state (form_of w end tags values t polarity) i
           (rw is (slot-entry w end tags values t polarity (place-within w end n tags values work ready t within))) (entry_read ∙ z) p.0 m tags₁ values₁ work₁ (rw e at b) small);
-      known = λ q l f. let v : p ≡ q = cc in rw (add-one, ← is, ← ap (λ (x : TermPlace). x.0) v)
+      known = λ q l f. let v : p ≡ q = place-is _ _ f in rw (add-one, ← is, ← ap (λ (x : TermPlace). x.0) v)
           (memo-here work₁ (memo-long w end tags values work _ r tags₁ values₁ work₁ b p m e) i small (suc p.0));
     }
 
@@ -148,7 +138,7 @@ pub ruleset one-term = (form-known, form-full, form-kept)
 
 -- ---- a run of operands
 module _ (w : Walk) (end n : ℕ) (tags values work : List ℕ) (t : ℕ) (polarity : Bool) (i : ℕ) (run : List ℕ) (are : run ≡ run_of end tags values t) where
-  operands_end : WalkReady w end n tags values work → t < end → length run ≤ i → OperandsKnown w end n tags values work t polarity i (At (term_at 0) n) tags values work
+  operands_end : WalkReady w end n tags values work → t < end → length run ≤ i → OperandsKnown w end n tags values work t polarity i (Some ((term_at 0), n)) tags values work
   unfolding interns
   operands_end ready h l =
       let e : drop i (run_of end tags values t) ≡ [] = rw (← are) (drop_of_length-le run l) in
@@ -163,7 +153,7 @@ module _ (w : Walk) (end n : ℕ) (tags values work : List ℕ) (t : ℕ) (polar
         places = λ p m q. rw e;
       }
 
-  module _ (h : i < length run) (u : ℕ) (at : u ≡ get_or run i 0) (r₁ : Built) (tags₁ values₁ work₁ : List ℕ)
+  module _ (h : i < length run) (u : ℕ) (at : u ≡ get_or run i 0) (r₁ : Option (TermPlace × ℕ)) (tags₁ values₁ work₁ : List ℕ)
       (j : Known w end n tags values work u polarity r₁ tags₁ values₁ work₁) where
     abbrev first : Placed
     first = intern (form_of w end tags values u polarity) (pool_of tags values n)
@@ -174,7 +164,7 @@ module _ (w : Walk) (end n : ℕ) (tags values work : List ℕ) (t : ℕ) (polar
     run-next : drop i (run_of end tags values t) ≡ u ∷ drop (i + 1) (run_of end tags values t)
     run-next = rw (← are, drop-cons run i 0 h, ← at, add-one i)
 
-    operands-full : r₁ ≡ Full → OperandsKnown w end n tags values work t polarity i Full tags₁ values₁ work₁
+    operands-full : r₁ ≡ None → OperandsKnown w end n tags values work t polarity i None tags₁ values₁ work₁
     unfolding interns
     operands-full e = record {
       builds = builds-full (entry_form w end tags values) end tags values work first r₁ tags₁ values₁ work₁ j.formed e _
@@ -182,7 +172,7 @@ module _ (w : Walk) (end n : ℕ) (tags values work : List ℕ) (t : ℕ) (polar
       places = λ p m f. let z : ◌≡◌ {A = ℕ} 0 1 = cc in absurd (omega arith);
     }
 
-    module _ (p : TermPlace) (m : ℕ) (e : r₁ ≡ At p m) (r₂ : Built) (tags₂ values₂ work₂ : List ℕ)
+    module _ (p : TermPlace) (m : ℕ) (e : r₁ ≡ Some (p, m)) (r₂ : Option (TermPlace × ℕ)) (tags₂ values₂ work₂ : List ℕ)
         (k : OperandsKnown w end m tags₁ values₁ work₁ t polarity (i + 1) r₂ tags₂ values₂ work₂) where
       h₂ : Holds end first p.0 m tags₁ values₁
       h₂ = builds-holds (entry_form w end tags values) end tags values work first r₁ tags₁ values₁ work₁ j.formed p m e
@@ -221,46 +211,50 @@ pub record OperandsLeft (w : Walk) (end n : ℕ) (tags values work : List ℕ) (
   pub values-size : length values₁ ≡ length values
   pub ready : WalkReady w end m tags₁ values₁ work₁
   pub before : Before end tags₁ values₁ t
-  pub whole : (r : Built) (tags' values' work' : List ℕ) → OperandsKnown w end m tags₁ values₁ work₁ t polarity i r tags' values' work'
+  pub count : length (run_of end tags₁ values₁ t) ≡ length (run_of end tags values t)
+  pub whole : (r : Option (TermPlace × ℕ)) (tags' values' work' : List ℕ) → OperandsKnown w end m tags₁ values₁ work₁ t polarity i r tags' values' work'
       → OperandsKnown w end n tags values work t polarity 0 r tags' values' work'
 
-module _ (w : Walk) (end n : ℕ) (tags values work : List ℕ) (t : ℕ) (polarity : Bool) where
-  pub loop-start : WalkReady w end n tags values work → Before end tags values t → OperandsLeft w end n tags values work t polarity n tags values work 0
-  loop-start ready before = record { tags-size = refl; values-size = refl; ready = ready; before = before; whole = λ r tags' values' work' k. k }
+-- `first` is the run as it was taken before the loop, and `run` as it is taken in it
+module _ (w : Walk) (end n : ℕ) (tags values work : List ℕ) (t : ℕ) (polarity : Bool)
+    (m : ℕ) (tags₁ values₁ work₁ : List ℕ) (i : ℕ) (s : OperandsLeft w end n tags values work t polarity m tags₁ values₁ work₁ i)
+    (first : List ℕ) (was : first ≡ run_of end tags values t) where
+  pub loop-end : t < end → length first ≤ i → OperandsKnown w end n tags values work t polarity 0 (Some ((term_at 0), m)) tags₁ values₁ work₁
+  loop-end h l = s.whole _ _ _ _ (operands_end w end m tags₁ values₁ work₁ t polarity i _ refl s.ready h (rw (s.count, ← was) l))
 
-  module _ (m : ℕ) (tags₁ values₁ work₁ : List ℕ) (i : ℕ) (s : OperandsLeft w end n tags values work t polarity m tags₁ values₁ work₁ i)
-      (run : List ℕ) (are : run ≡ run_of end tags₁ values₁ t) where
-    pub loop-end : t < end → length run ≤ i → OperandsKnown w end n tags values work t polarity 0 (At (term_at 0) m) tags₁ values₁ work₁
-    loop-end h l = s.whole _ _ _ _ (operands_end w end m tags₁ values₁ work₁ t polarity i run are s.ready h l)
+  module _ (run : List ℕ) (are : run ≡ run_of end tags₁ values₁ t) (h : i < length first) where
+    loop-within : i < length run
+    loop-within = rw (are, s.count, ← was) h
 
-    module _ (h : i < length run) (r : Built) (tags₂ values₂ work₂ : List ℕ) (j : Known w end m tags₁ values₁ work₁ (get_or run i 0) polarity r tags₂ values₂ work₂) where
-      pub loop-full : r ≡ Full → OperandsKnown w end n tags values work t polarity 0 Full tags₂ values₂ work₂
-      loop-full e = s.whole _ _ _ _ (operands-full w end m tags₁ values₁ work₁ t polarity i run are h _ refl r tags₂ values₂ work₂ j e)
+    module _ (r : Option (TermPlace × ℕ)) (tags₂ values₂ work₂ : List ℕ) (j : Known w end m tags₁ values₁ work₁ (get_or run i 0) polarity r tags₂ values₂ work₂) where
+      pub loop-full : r ≡ None → OperandsKnown w end n tags values work t polarity 0 None tags₂ values₂ work₂
+      loop-full e = s.whole _ _ _ _ (operands-full w end m tags₁ values₁ work₁ t polarity i run are loop-within _ refl r tags₂ values₂ work₂ j e)
 
-      pub loop-next : (p : TermPlace) (l : ℕ) → r ≡ At p l → OperandsLeft w end n tags values work t polarity l tags₂ values₂ work₂ (i + 1)
+      pub loop-next : (p : TermPlace) (l : ℕ) → r ≡ Some (p, l) → OperandsLeft w end n tags values work t polarity l tags₂ values₂ work₂ (i + 1)
       loop-next p l e = record {
         tags-size = j.formed.puts.left.tags-size ∙ s.tags-size;
         values-size = j.formed.puts.left.values-size ∙ s.values-size;
         ready = ready-after w end tags₁ values₁ work₁ _ r tags₂ values₂ work₂ j.formed p l e;
         before = before_same end tags₁ values₁ tags₂ values₂ j.formed.puts.left t s.before;
+        count = rw (run-same end tags₁ values₁ tags₂ values₂ j.formed.puts.left t) s.count;
         whole = λ r' tags' values' work' k.
-            s.whole r' tags' values' work' (operands_next w end m tags₁ values₁ work₁ t polarity i run are h _ refl r tags₂ values₂ work₂ j p l e r' tags' values' work' k);
+            s.whole r' tags' values' work' (operands_next w end m tags₁ values₁ work₁ t polarity i run are loop-within _ refl r tags₂ values₂ work₂ j p l e r' tags' values' work' k);
       }
 
 -- ---- a connective over its operands' forms
 module _ (w : Walk) (end n : ℕ) (tags values work : List ℕ) (t : ℕ) (polarity b : Bool) (is : form_of w end tags values t polarity ≡ nmany b (operand_forms w end tags values t polarity 0))
-    (r₁ : Built) (tags₁ values₁ work₁ : List ℕ) (j : OperandsKnown w end n tags values work t polarity 0 r₁ tags₁ values₁ work₁) where
+    (r₁ : Option (TermPlace × ℕ)) (tags₁ values₁ work₁ : List ℕ) (j : OperandsKnown w end n tags values work t polarity 0 r₁ tags₁ values₁ work₁) where
   abbrev built : PlacedAll
   built = interns (operand_forms w end tags values t polarity 0) (pool_of tags values n)
 
-  pub connective-full : r₁ ≡ Full → Formed w end n tags values work (form_of w end tags values t polarity) Full tags₁ values₁ work₁
+  pub connective-full : r₁ ≡ None → Formed w end n tags values work (form_of w end tags values t polarity) None tags₁ values₁ work₁
   unfolding intern
   connective-full f =
       rw is
       (builds-full (entry_form w end tags values) end tags values work _ r₁ tags₁ values₁ work₁ j.builds f (intern (nmany b (operand_forms w end tags values t polarity 0)) (pool_of tags values n))
       (becomes-longer _ _ (put-becomes built.pool (connective_tag b) (0 ∷ built.places))))
 
-  pub connective-put : (p : TermPlace) (m : ℕ) → r₁ ≡ At p m → (r₂ : Built) (tags₂ values₂ work₂ : List ℕ)
+  pub connective-put : (p : TermPlace) (m : ℕ) → r₁ ≡ Some (p, m) → (r₂ : Option (TermPlace × ℕ)) (tags₂ values₂ work₂ : List ℕ)
       → Puts m tags₁ values₁ (put (pool_of tags₁ values₁ m) (connective_tag b) (0 ∷ places_in (memo_of work₁) polarity (run_of end tags₁ values₁ t))) r₂ tags₂ values₂
       → MemoKept work₁ work₂ → Formed w end n tags values work (form_of w end tags values t polarity) r₂ tags₂ values₂ work₂
   unfolding intern
@@ -293,11 +287,11 @@ unfolding memo_of
 zeros-empty work e = rw e record { size = length-replicate {A = ℕ} 24576 0; none = take-zeros 16384 24576 }
 
 module _ (w : Walk) (n : ℕ) (tags values work : List ℕ) (t : ℕ) (polarity : Bool) where
-  pub whole-built : (r : Built) (tags' values' work' : List ℕ) → Known w n n tags values work t polarity r tags' values' work'
+  pub whole-built : (r : Option (TermPlace × ℕ)) (tags' values' work' : List ℕ) → Known w n n tags values work t polarity r tags' values' work'
       → NormalBuilt n tags values (intern (form_of w n tags values t polarity) (pool_of tags values n)) r tags' values'
-  whole-built (At p m) tags' values' work' j =
+  whole-built (Some (p, m)) tags' values' work' j =
       let h = j.formed.puts.outcome in
       let c = ap (λ (q : Pool). count q) h.pool-is in
       let k = pool-count tags' values' m h.state.within in
       (h, fits-true _ (length tags) (omega (arith, h.state.within, j.formed.puts.left.tags-size)) (omega (arith, h.state.small)))
-  whole-built Full tags' values' work' j = (j.formed.puts.left, j.formed.puts.outcome)
+  whole-built None tags' values' work' j = (j.formed.puts.left, j.formed.puts.outcome)

@@ -1,13 +1,12 @@
 -- Laws of the walkers that build the normal form of two operands.
 -- Assumes nothing.
+use Rattle.std.specs.Prelude.{Option, Some, None}
 use Prim.Native.Nat.{ℕ, ◌≤◌}
 use mathlib.Core.Path.{◌≡◌}
 use mathlib.Core.Bool.{Bool, not}
 use mathlib.Core.List.{List, [], ◌∷◌}
 use native.Mathlib.Omega.{arith}
 use Rattle.cells.specs.declared.TermPlace.{TermPlace}
-use Rattle.building.specs.declared.build.Built.{Built}
-use Rattle.building.specs.declared.build.Built.TheVariants.{At, Full}
 use Rattle.formulas.specs.Normal.{Normal, pair}
 use Rattle.formulas.specs.Built.{Placed, count, put, intern, interns}
 use Rattle.formulas.specs.Formula.{connective_tag}
@@ -18,7 +17,7 @@ use Rattle.building.proofs.build.Building.{memo-stays, builds-full, builds-holds
 use Rattle.building.proofs.build.Walks.{form-same, then-builds, then-put}
 
 -- ---- two operands
-module _ (end n : ℕ) (tags values work : List ℕ) (f : Normal (List ℕ) ℕ) (r₁ : Built) (tags₁ values₁ work₁ : List ℕ)
+module _ (end n : ℕ) (tags values work : List ℕ) (f : Normal (List ℕ) ℕ) (r₁ : Option (TermPlace × ℕ)) (tags₁ values₁ work₁ : List ℕ)
     (b₁ : Formed normal end n tags values work f r₁ tags₁ values₁ work₁) (both : Bool) (g : Normal (List ℕ) ℕ) where
   abbrev o₁ : Placed
   o₁ = intern f (pool_of tags values n)
@@ -30,12 +29,12 @@ module _ (end n : ℕ) (tags values work : List ℕ) (f : Normal (List ℕ) ℕ)
   unfolding intern interns
   put_last = becomes-longer _ _ (put-becomes o₂.pool (connective_tag both) (0 ∷ o₁.place ∷ o₂.place ∷ []))
 
-  left-full : r₁ ≡ Full → Formed normal end n tags values work (pair both f g) Full tags₁ values₁ work₁
+  left-full : r₁ ≡ None → Formed normal end n tags values work (pair both f g) None tags₁ values₁ work₁
   left-full e =
       builds-full (entry_form normal end tags values) end tags values work o₁ r₁ tags₁ values₁ work₁ b₁ e (intern (pair both f g) (pool_of tags values n))
       (omega (arith, put_last, becomes-longer _ _ (intern-becomes g o₁.pool)))
 
-  module _ (p : TermPlace) (m : ℕ) (e₁ : r₁ ≡ At p m) (r₂ : Built) (tags₂ values₂ work₂ : List ℕ) (b₂ : Formed normal end m tags₁ values₁ work₁ g r₂ tags₂ values₂ work₂) where
+  module _ (p : TermPlace) (m : ℕ) (e₁ : r₁ ≡ Some (p, m)) (r₂ : Option (TermPlace × ℕ)) (tags₂ values₂ work₂ : List ℕ) (b₂ : Formed normal end m tags₁ values₁ work₁ g r₂ tags₂ values₂ work₂) where
     h₁ : Holds end o₁ p.0 m tags₁ values₁
     h₁ = builds-holds (entry_form normal end tags values) end tags values work o₁ r₁ tags₁ values₁ work₁ b₁ p m e₁
 
@@ -43,11 +42,11 @@ module _ (end n : ℕ) (tags values work : List ℕ) (f : Normal (List ℕ) ℕ)
     second =
         rw (← h₁.pool-is) (then-builds normal end tags values work o₁ r₁ tags₁ values₁ work₁ b₁ p m e₁ (intern g (pool_of tags₁ values₁ m)) r₂ tags₂ values₂ work₂ b₂)
 
-    right-full : r₂ ≡ Full → Formed normal end n tags values work (pair both f g) Full tags₂ values₂ work₂
+    right-full : r₂ ≡ None → Formed normal end n tags values work (pair both f g) None tags₂ values₂ work₂
     right-full e =
         builds-full (entry_form normal end tags values) end tags values work o₂ r₂ tags₂ values₂ work₂ second e (intern (pair both f g) (pool_of tags values n)) put_last
 
-    both-put : (q : TermPlace) (l : ℕ) → r₂ ≡ At q l → (r₃ : Built) (tags₃ values₃ : List ℕ)
+    both-put : (q : TermPlace) (l : ℕ) → r₂ ≡ Some (q, l) → (r₃ : Option (TermPlace × ℕ)) (tags₃ values₃ : List ℕ)
         → Puts l tags₂ values₂ (put (pool_of tags₂ values₂ l) (connective_tag both) (0 ∷ p.0 ∷ q.0 ∷ [])) r₃ tags₃ values₃
         → Formed normal end n tags values work (pair both f g) r₃ tags₃ values₃ work₂
     unfolding intern interns
@@ -58,24 +57,24 @@ module _ (end n : ℕ) (tags values work : List ℕ) (f : Normal (List ℕ) ℕ)
 
 -- pair_of
 module _ (end n : ℕ) (tags values work : List ℕ) (both : Bool) (a : ℕ) (a-polarity : Bool) (b : ℕ) (b-polarity : Bool)
-    (r₁ : Built) (tags₁ values₁ work₁ : List ℕ) (j : Known normal end n tags values work a a-polarity r₁ tags₁ values₁ work₁) where
+    (r₁ : Option (TermPlace × ℕ)) (tags₁ values₁ work₁ : List ℕ) (j : Known normal end n tags values work a a-polarity r₁ tags₁ values₁ work₁) where
   abbrev f : Normal (List ℕ) ℕ
   f = normal_of end tags values a a-polarity
 
   abbrev g : Normal (List ℕ) ℕ
   g = normal_of end tags values b b-polarity
 
-  pub pair-left-full : r₁ ≡ Full → Formed normal end n tags values work (pair both (normal_of end tags values a a-polarity) (normal_of end tags values b b-polarity)) Full tags₁ values₁ work₁
+  pub pair-left-full : r₁ ≡ None → Formed normal end n tags values work (pair both (normal_of end tags values a a-polarity) (normal_of end tags values b b-polarity)) None tags₁ values₁ work₁
   pair-left-full e = left-full end n tags values work f r₁ tags₁ values₁ work₁ j.formed both g e
 
-  module _ (p : TermPlace) (m : ℕ) (e₁ : r₁ ≡ At p m) (r₂ : Built) (tags₂ values₂ work₂ : List ℕ) (k : Known normal end m tags₁ values₁ work₁ b b-polarity r₂ tags₂ values₂ work₂) where
+  module _ (p : TermPlace) (m : ℕ) (e₁ : r₁ ≡ Some (p, m)) (r₂ : Option (TermPlace × ℕ)) (tags₂ values₂ work₂ : List ℕ) (k : Known normal end m tags₁ values₁ work₁ b b-polarity r₂ tags₂ values₂ work₂) where
     b₂ : Formed normal end m tags₁ values₁ work₁ g r₂ tags₂ values₂ work₂
     b₂ = rw (form-same end tags values tags₁ values₁ j.formed.puts.left normal b b-polarity) at k.formed
 
-    pub pair-right-full : r₂ ≡ Full → Formed normal end n tags values work (pair both (normal_of end tags values a a-polarity) (normal_of end tags values b b-polarity)) Full tags₂ values₂ work₂
+    pub pair-right-full : r₂ ≡ None → Formed normal end n tags values work (pair both (normal_of end tags values a a-polarity) (normal_of end tags values b b-polarity)) None tags₂ values₂ work₂
     pair-right-full e = right-full end n tags values work f r₁ tags₁ values₁ work₁ j.formed both g p m e₁ r₂ tags₂ values₂ work₂ b₂ e
 
-    pub pair_put : (q : TermPlace) (l : ℕ) → r₂ ≡ At q l → (r₃ : Built) (tags₃ values₃ : List ℕ)
+    pub pair_put : (q : TermPlace) (l : ℕ) → r₂ ≡ Some (q, l) → (r₃ : Option (TermPlace × ℕ)) (tags₃ values₃ : List ℕ)
         → Puts l tags₂ values₂ (put (pool_of tags₂ values₂ l) (connective_tag both) (0 ∷ p.0 ∷ q.0 ∷ [])) r₃ tags₃ values₃
         → Formed normal end n tags values work (pair both (normal_of end tags values a a-polarity) (normal_of end tags values b b-polarity)) r₃ tags₃ values₃ work₂
     pair_put q l e₂ r₃ tags₃ values₃ y =
@@ -84,7 +83,7 @@ module _ (end n : ℕ) (tags values work : List ℕ) (both : Bool) (a : ℕ) (a-
 pub ruleset pairs = (pair-left-full, pair-right-full, pair_put)
 
 -- two_pairs
-module _ (end n : ℕ) (tags values work : List ℕ) (polarity : Bool) (a b c : ℕ) (c-polarity : Bool) (d : ℕ) (r₁ : Built) (tags₁ values₁ work₁ : List ℕ)
+module _ (end n : ℕ) (tags values work : List ℕ) (polarity : Bool) (a b c : ℕ) (c-polarity : Bool) (d : ℕ) (r₁ : Option (TermPlace × ℕ)) (tags₁ values₁ work₁ : List ℕ)
     (b₁ : Formed normal end n tags values work (pair (not polarity) (normal_of end tags values a (not polarity)) (normal_of end tags values b polarity)) r₁ tags₁ values₁ work₁) where
   abbrev one : Normal (List ℕ) ℕ
   one = pair (not polarity) (normal_of end tags values a (not polarity)) (normal_of end tags values b polarity)
@@ -92,18 +91,18 @@ module _ (end n : ℕ) (tags values work : List ℕ) (polarity : Bool) (a b c : 
   abbrev two : Normal (List ℕ) ℕ
   two = pair (not polarity) (normal_of end tags values c c-polarity) (normal_of end tags values d polarity)
 
-  pub two-left-full : r₁ ≡ Full → Formed normal end n tags values work (two_pairs polarity (λ t p. normal_of end tags values t p) a b c c-polarity d) Full tags₁ values₁ work₁
+  pub two-left-full : r₁ ≡ None → Formed normal end n tags values work (two_pairs polarity (λ t p. normal_of end tags values t p) a b c c-polarity d) None tags₁ values₁ work₁
   two-left-full e = left-full end n tags values work one r₁ tags₁ values₁ work₁ b₁ polarity two e
 
-  module _ (p : TermPlace) (m : ℕ) (e₁ : r₁ ≡ At p m) (r₂ : Built) (tags₂ values₂ work₂ : List ℕ)
+  module _ (p : TermPlace) (m : ℕ) (e₁ : r₁ ≡ Some (p, m)) (r₂ : Option (TermPlace × ℕ)) (tags₂ values₂ work₂ : List ℕ)
       (b₂ : Formed normal end m tags₁ values₁ work₁ (pair (not polarity) (normal_of end tags₁ values₁ c c-polarity) (normal_of end tags₁ values₁ d polarity)) r₂ tags₂ values₂ work₂) where
     same₂ : Formed normal end m tags₁ values₁ work₁ two r₂ tags₂ values₂ work₂
     same₂ = rw (form-same end tags values tags₁ values₁ b₁.puts.left normal c c-polarity, form-same end tags values tags₁ values₁ b₁.puts.left normal d polarity) at b₂
 
-    pub two-right-full : r₂ ≡ Full → Formed normal end n tags values work (two_pairs polarity (λ t p. normal_of end tags values t p) a b c c-polarity d) Full tags₂ values₂ work₂
+    pub two-right-full : r₂ ≡ None → Formed normal end n tags values work (two_pairs polarity (λ t p. normal_of end tags values t p) a b c c-polarity d) None tags₂ values₂ work₂
     two-right-full e = right-full end n tags values work one r₁ tags₁ values₁ work₁ b₁ polarity two p m e₁ r₂ tags₂ values₂ work₂ same₂ e
 
-    pub two-put : (q : TermPlace) (l : ℕ) → r₂ ≡ At q l → (r₃ : Built) (tags₃ values₃ : List ℕ)
+    pub two-put : (q : TermPlace) (l : ℕ) → r₂ ≡ Some (q, l) → (r₃ : Option (TermPlace × ℕ)) (tags₃ values₃ : List ℕ)
         → Puts l tags₂ values₂ (put (pool_of tags₂ values₂ l) (connective_tag polarity) (0 ∷ p.0 ∷ q.0 ∷ [])) r₃ tags₃ values₃
         → Formed normal end n tags values work (two_pairs polarity (λ t p. normal_of end tags values t p) a b c c-polarity d) r₃ tags₃ values₃ work₂
     two-put q l e₂ r₃ tags₃ values₃ y =

@@ -1,5 +1,6 @@
 -- Laws of the walkers that build the taken-out form: a term by how it is read, and the whole walk.
 -- Assumes nothing.
+use Rattle.std.specs.Prelude.{Option, Some, None}
 use Prim.Native.Nat.{ℕ, ◌<◌}
 use mathlib.Core.Path.{◌≡◌, refl, sym, ◌∙◌}
 use mathlib.Core.Bool.{Bool, true}
@@ -14,8 +15,6 @@ use Rattle.cells.specs.ByPlace.{by-test}
 use Rattle.cells.specs.Cell.{operands_of}
 use Rattle.formulas.specs.declared.view.NormalView.{NormalView}
 use Rattle.formulas.specs.declared.view.NormalView.TheVariants.{Literal, Connective, Forall}
-use Rattle.building.specs.declared.build.Built.{Built}
-use Rattle.building.specs.declared.build.Built.TheVariants.{At, Full}
 use Rattle.formulas.specs.Formula.{all_before, connective_tag}
 use Rattle.formulas.specs.Normal.{Normal, lit, nmany, prenex, prenexes}
 use Rattle.formulas.specs.Built.{put, intern, normals_of, normal_view, taken_out_form}
@@ -54,7 +53,7 @@ prenexes-are f (u ∷ us) = rw (prenexes-are f us)
 -- ---- take_out
 module _ (end n : ℕ) (tags values work : List ℕ) (ready : WalkReady taken_out end n tags values work) (x : ℕ) (within : x < end) (v : NormalView)
     (is : v ≡ normal_view (take end tags) (take end values) x) where
-  pub take-literal : v ≡ Literal → Formed taken_out end n tags values work (form_of taken_out end tags values x true) (At (term_at x) n) tags values work
+  pub take-literal : v ≡ Literal → Formed taken_out end n tags values work (form_of taken_out end tags values x true) (Some ((term_at x), n)) tags values work
   unfolding form_of intern
   take-literal e =
       rw (read-literal (take end tags) (take end values) x v is e)
@@ -64,7 +63,7 @@ module _ (end n : ℕ) (tags values work : List ℕ) (ready : WalkReady taken_ou
   pub forall_below : (body : TermPlace) → v ≡ Forall body → body.0 < x
   forall_below body e = body-before (take end tags) (take end values) x body (sym e ∙ is)
 
-  pub take-forall : (body : TermPlace) → v ≡ Forall body → (r : Built) (tags₁ values₁ work₁ : List ℕ) → Known taken_out end n tags values work body.0 true r tags₁ values₁ work₁
+  pub take-forall : (body : TermPlace) → v ≡ Forall body → (r : Option (TermPlace × ℕ)) (tags₁ values₁ work₁ : List ℕ) → Known taken_out end n tags values work body.0 true r tags₁ values₁ work₁
       → Formed taken_out end n tags values work (form_of taken_out end tags values x true) r tags₁ values₁ work₁
   unfolding form_of
   take-forall body e r tags₁ values₁ work₁ j =
@@ -78,11 +77,11 @@ module _ (end n : ℕ) (tags values work : List ℕ) (ready : WalkReady taken_ou
     unfolding form_of
     connective-is = rw (read-connective (take end tags) (take end values) x v is b e, prenexes-are)
 
-    module _ (r₁ : Built) (tags₁ values₁ work₁ : List ℕ) (j : OperandsKnown taken_out end n tags values work x true 0 r₁ tags₁ values₁ work₁) where
-      pub take-full : r₁ ≡ Full → Formed taken_out end n tags values work (form_of taken_out end tags values x true) Full tags₁ values₁ work₁
+    module _ (r₁ : Option (TermPlace × ℕ)) (tags₁ values₁ work₁ : List ℕ) (j : OperandsKnown taken_out end n tags values work x true 0 r₁ tags₁ values₁ work₁) where
+      pub take-full : r₁ ≡ None → Formed taken_out end n tags values work (form_of taken_out end tags values x true) None tags₁ values₁ work₁
       take-full = connective-full taken_out end n tags values work x true b connective-is r₁ tags₁ values₁ work₁ j
 
-      pub take_put : (p : TermPlace) (m : ℕ) → r₁ ≡ At p m → (r₂ : Built) (tags₂ values₂ work₂ : List ℕ)
+      pub take_put : (p : TermPlace) (m : ℕ) → r₁ ≡ Some (p, m) → (r₂ : Option (TermPlace × ℕ)) (tags₂ values₂ work₂ : List ℕ)
           → Puts m tags₁ values₁ (put (pool_of tags₁ values₁ m) (connective_tag b) (0 ∷ places_in (memo_of work₁) true (run_of end tags₁ values₁ x))) r₂ tags₂ values₂
           → MemoKept work₁ work₂ → Formed taken_out end n tags values work (form_of taken_out end tags values x true) r₂ tags₂ values₂ work₂
       take_put = connective-put taken_out end n tags values work x true b connective-is r₁ tags₁ values₁ work₁ j
@@ -90,7 +89,7 @@ module _ (end n : ℕ) (tags values work : List ℕ) (ready : WalkReady taken_ou
 pub ruleset takes = (take-literal, take-forall, take-full, take_put)
 
 -- ---- the whole
-pub taken-built : (n : ℕ) (tags values work : List ℕ) (x : ℕ) (r : Built) (tags' values' work' : List ℕ)
+pub taken-built : (n : ℕ) (tags values work : List ℕ) (x : ℕ) (r : Option (TermPlace × ℕ)) (tags' values' work' : List ℕ)
     → Known taken_out n n tags values work x true r tags' values' work' → NormalBuilt n tags values (taken_out_form (pool_of tags values n) x) r tags' values'
 unfolding taken_out_form form_of
 taken-built n tags values work x = whole-built taken_out n tags values work x true

@@ -1,53 +1,42 @@
 -- Laws of the memo made empty, of its indices, of gathering cells in the row, and of one new term.
 -- Assumes nothing.
-use Prim.Native.Nat.{ℕ, suc, ◌+◌, ◌-◌, ◌≤◌, ◌<◌}
+use Rattle.cells.specs.declared.TermPlace.{TermPlace}
+use Rattle.std.specs.Prelude.{Option, Some}
+use Prim.Native.Nat.{ℕ, zero, suc, ◌+◌, ◌-◌, ◌≤◌, ◌<◌}
 use mathlib.Core.Path.{◌≡◌, refl, sym, ap, ◌∙◌}
 use mathlib.Core.Bool.{Bool, true, false}
 use mathlib.Core.List.{List, [], ◌∷◌, ◌++◌, map}
-use lib.ListN.{length, get_or, take, drop, set, length-set, length-drop, length-take, get_or-eq_default}
-use lib.Seq.{get_or-set_same, get_or-set_other, get_or-take, take-suc, take-suc-set, take-set-le, take_all, get_or-drop, drop-set-add, length-take-le}
-use lib.Dec.{ltb, eqb}
+use lib.ListN.{replicate, length-replicate, drop_of_length-le, length, get_or, take, drop, set, length-set, length-drop, length-take}
+use lib.Seq.{take-suc, take-suc-set, take-set-le, take_all, drop-set-add, length-take-le}
+use lib.Dec.{ltb}
 use native.Mathlib.Omega.{arith}
 use native.Mathlib.Numerals.{add-one}
-use borrow.Author.Tests.{ltb-true, ltb-false, eqb-true, eqb-false}
+use borrow.Rule.Slice.PartMut.{put_mid, same_len_mid}
+use Rattle.std.proofs.lemmas.Slice.{take-put_mid, take-put_mid_below, between_is}
+use Rattle.std.proofs.lemmas.List.{take_at, length-append, drop-append-le}
 use Rattle.cells.specs.Place.{term_at}
 use Rattle.cells.specs.ByPlace.{by-test}
 use Rattle.cells.specs.Cell.{cells_of, operands_of}
-use Rattle.building.specs.declared.build.Built.{Built}
-use Rattle.building.specs.declared.build.Built.TheVariants.{At}
 use Rattle.formulas.specs.Normal.{lit, flip}
 use Rattle.formulas.specs.Built.{put, intern}
 use Rattle.formulas.specs.Formula.{quantifier_tag, connective_tag}
 use Rattle.building.specs.Arrays.{pool_of}
 use Rattle.building.specs.Walk.{State, Puts, memo_of, MemoEmpty, RowHolds, slot_of, places_in, run_of}
 
--- ---- the memo made empty: the cells before i are 0
-pub record Clearing (work : List ℕ) (i : ℕ) : Type 0 where
-  pub size : length work ≡ 24576
-  pub none : (j : ℕ) → j < i → get_or work j 0 ≡ 0
+-- ---- the memo made empty
+zero-at : (n i : ℕ) → get_or {A = ℕ} (replicate n 0) i 0 ≡ 0
+zero-at zero i = refl
+zero-at (suc n) zero = refl
+zero-at (suc n) (suc i) = zero-at n i
 
-pub clear-start : (work : List ℕ) → length work ≡ 24576 → Clearing work 0
-clear-start work e = record { size = e; none = λ j h. absurd (omega arith) }
-
-module _ (work : List ℕ) (i : ℕ) (c : Clearing work i) where
-  pub clear_next : i < 16384 → Clearing (set work i 0) (i + 1)
-  clear_next h = record {
-    size = length-set work i 0 ∙ c.size;
-    none = λ j l. by-test (eqb j i)
-        (λ q. rw (eqb-true j i q) (get_or-set_same work i 0 0 (omega (arith, c.size))))
-        (λ q. let n : j ≡ i → ⊥ = eqb-false j i q in rw (get_or-set_other work i j 0 0 n) (c.none j (omega arith)));
-  }
-
-  pub clear-end : 16384 ≤ i → MemoEmpty work
-  unfolding memo_of
-  clear-end h = record {
-    size = c.size;
-    none = λ j. by-test (ltb j 16384)
-        (λ q. let l : j < 16384 = ltb-true j 16384 q in rw (get_or-take 16384 work j 0 l) (c.none j (omega arith)))
-        (λ q. let l : 16384 ≤ j = ltb-false j 16384 q in get_or-eq_default (take 16384 work) 0 (rw (length-take 16384 work) (omega arith)));
-  }
-
-pub ruleset clears = (clear-start, clear_next, clear-end)
+pub memo-zeroed : (work zeros : List ℕ) → length work ≡ 24576 → (n : ℕ) → 16384 ≡ n → zeros ≡ replicate n 0 → MemoEmpty (zeros ++ drop 16384 work)
+unfolding memo_of
+memo-zeroed work zeros l n e z =
+    let m : length zeros ≡ 16384 = rw z (length-replicate n 0 ∙ sym e) in
+    record {
+      size = rw (length-append, length-drop) (omega arith);
+      none = λ i. rw (take_at zeros (drop 16384 work) 16384 m, z) (zero-at n i);
+    }
 
 -- ---- the memo's index
 module _ (t : ℕ) (polarity : Bool) where
@@ -77,6 +66,19 @@ row-memo : (work : List ℕ) (k p : ℕ) → 16384 ≤ k → memo_of (set work k
 unfolding memo_of
 row-memo work k p h = take-set-le 16384 work k p h
 
+memo-before : (work : List ℕ) (k n : ℕ) (ys : List ℕ) → 16384 ≤ k → k ≤ length work → memo_of (put_mid k n work ys) ≡ memo_of work
+unfolding memo_of
+memo-before work k n ys h l = take-put_mid_below k n work ys 16384 h l
+
+-- what is written from k on comes after what lies between m and k
+rows-joined : (m k n : ℕ) (xs ys : List ℕ) → m ≤ k → k ≤ length xs → length ys ≡ n
+    → take (k + n - m) (drop m (put_mid k n xs ys)) ≡ take (k - m) (drop m xs) ++ ys
+rows-joined m k n xs ys h l e =
+    between_is (put_mid k n xs ys) m (k + n)
+    ∙ ap (drop m) (take-put_mid k n xs ys (k + n) (rw e) l)
+    ∙ drop-append-le m (take k xs) ys (rw (length-take-le k xs l) h)
+    ∙ ap (λ (z : List ℕ). z ++ ys) (sym (between_is xs m k))
+
 -- the row's cells before k are these
 pub record Written (memo cells work : List ℕ) (k : ℕ) : Type 0 where
   pub long : length work ≡ 24576
@@ -102,6 +104,17 @@ module _ (memo cells work : List ℕ) (k : ℕ) (s : Written memo cells work k) 
         ap (λ (x : ℕ). drop 16384 (set work x p)) q ∙ drop-set-add 16384 work (k - 16384) p in
         rw (e, row, take-suc-set (drop 16384 work) (k - 16384) p (rw length-drop (omega (arith, s.started, s.long))), s.are);
   }
+
+  written-all : (n : ℕ) (ys : List ℕ) → length ys ≡ n → k + n ≤ 24576 → Written memo (cells ++ ys) (put_mid k n work ys) (k + n)
+  written-all n ys e h =
+      let w : k ≤ length work = omega (arith, s.long, s.within) in
+      record {
+        long = same_len_mid k n work ys (e ∙ sym (length-take-le n (drop k work) (rw length-drop (omega (arith, s.long))))) ∙ s.long;
+        started = omega (arith, s.started);
+        within = h;
+        memo-same = memo-before work k n ys s.started w ∙ s.memo-same;
+        are = rows-joined 16384 k n work ys s.started w e ∙ rw s.are;
+      }
 
   written-end : (work₀ : List ℕ) → length work₀ ≡ 24576 → memo ≡ memo_of work₀ → RowHolds cells k work₀ work
   written-end work₀ l e = record {
@@ -154,48 +167,22 @@ module _ (polarity : Bool) (run work : List ℕ) where
 pub ruleset gatherings = (gather-start, gather-more, gather-end)
 
 -- ---- a quantifier's body and pairs
--- the loop of `gather_pairs` at j: the row begins with the sort, the body and the cells of the run from the second to before j
-pub record Pairing (memo : List ℕ) (body : ℕ) (run work : List ℕ) (k j : ℕ) : Type 0 where
-  pub at : k ≡ 16385 + j
-  pub started : 1 ≤ j
-  pub room : length run < 8192
-  pub written : Written memo (0 ∷ body ∷ take (j - 1) (drop 1 run)) work k
+module _ (body : ℕ) (run work : List ℕ) (l : length work ≡ 24576) where
+  twice : memo_of (set (set work 16384 0) 16385 body) ≡ memo_of work
+  twice = row-memo (set work 16384 0) 16385 body (omega arith) ∙ row-memo work 16384 0 (omega arith)
 
-module _ (body : ℕ) (run work : List ℕ) where
-  module _ (l : length work ≡ 24576) where
-    twice : memo_of (set (set work 16384 0) 16385 body) ≡ memo_of work
-    twice = row-memo (set work 16384 0) 16385 body (omega arith) ∙ row-memo work 16384 0 (omega arith)
+  first-two : Written (memo_of work) (0 ∷ body ∷ []) (set (set work 16384 0) 16385 body) 16386
+  first-two = written-more _ _ _ 16385 (written-more _ [] work 16384 (written-first work l) (omega arith) 0) (omega arith) body
 
-    body-there : get_or (set (set work 16384 0) 16385 body) 16385 0 ≡ body
-    body-there = get_or-set_same (set work 16384 0) 16385 body 0 (omega (arith, length-set work 16384 0))
+  pub pairs-none : length run < 1 → RowHolds (0 ∷ body ∷ drop 1 run) 16386 work (set (set work 16384 0) 16385 body)
+  pairs-none h = rw (drop_of_length-le run {i = 1} (omega arith)) (written-end _ _ _ _ first-two work l refl)
 
-    pub pairs_start : length run < 8192
-        → Pairing (memo_of (set (set work 16384 0) 16385 body)) (get_or (set (set work 16384 0) 16385 body) 16385 0) run (set (set work 16384 0) 16385 body) 16386 1
-    pairs_start h = record {
-      at = refl;
-      started = omega arith;
-      room = h;
-      written = rw (twice, body-there) (written-more _ _ _ 16385 (written-more _ [] work 16384 (written-first work l) (omega arith) 0) (omega arith) body);
-    }
-
-    pub pairs_end : (work' : List ℕ) (k j : ℕ) → Pairing (memo_of (set (set work 16384 0) 16385 body)) (get_or (set (set work 16384 0) 16385 body) 16385 0) run work' k j
-        → length run ≤ j → RowHolds (0 ∷ body ∷ drop 1 run) k work work'
-    pairs_end work' k j s h =
-        written-end _ _ work' k (rw (take_all (j - 1) (drop 1 run) (rw length-drop (omega arith)), body-there) at s.written) work l twice
-
-  pub pairs-more : (memo : List ℕ) (k j : ℕ) → Pairing memo body run work k j → j < length run → Pairing memo body run (set work k (get_or run j 0)) (k + 1) (j + 1)
-  pairs-more memo k j s h = record {
-    at = omega (arith, s.at);
-    started = omega arith;
-    room = s.room;
-    written =
-        let i : j + 1 - 1 ≡ suc (j - 1) = omega (arith, s.started) in
-        let l : 1 + (j - 1) ≡ j = omega (arith, s.started) in
-        rw (i, take-suc (drop 1 run) (j - 1) 0 (rw length-drop (omega (arith, s.started))), get_or-drop 1 run (j - 1) 0, l)
-        (written-more memo _ work k s.written (omega (arith, s.at, s.room)) (get_or run j 0));
-  }
-
-pub ruleset pairings = (pairs_start, pairs-more, pairs_end)
+  pub pairs-all : length run < 8192 → (pairs : List ℕ) → pairs ≡ take (length run - 1) (drop 1 run) → (n m : ℕ) → n ≡ length (take (length run - 1) (drop 1 run)) → m ≡ n
+      → RowHolds (0 ∷ body ∷ drop 1 run) (16386 + n) work (put_mid 16386 m (set (set work 16384 0) 16385 body) pairs)
+  pairs-all h pairs p n m e f =
+      let all : take (length run - 1) (drop 1 run) ≡ drop 1 run = take_all (length run - 1) (drop 1 run) (rw length-drop (omega arith)) in
+      let d : length pairs < 8191 = rw (p, all, length-drop 1 run) (omega arith) in
+      rw (f, ← all, ← p) (written-end _ _ _ _ (written-all _ _ _ 16386 first-two n pairs (rw p (sym e)) (omega (arith, ap length p))) work l refl)
 
 -- ---- parts of the arrays
 pub memo-part : (work : List ℕ) → length work ≡ 24576 → 16384 ≡ length (take 16384 work)
@@ -219,14 +206,14 @@ module _ (end n : ℕ) (tags values : List ℕ) (s : State end n tags values) wh
 pub ruleset parts = (tags-part, values-part, memo-part, run_short)
 
 -- ---- one new term
-pub put-tag : (n : ℕ) (tags values : List ℕ) (tag tag' : ℕ) → tag ≡ tag' → (cells : List ℕ) (r : Built) (tags' values' : List ℕ)
+pub put-tag : (n : ℕ) (tags values : List ℕ) (tag tag' : ℕ) → tag ≡ tag' → (cells : List ℕ) (r : Option (TermPlace × ℕ)) (tags' values' : List ℕ)
     → Puts n tags values (put (pool_of tags values n) tag cells) r tags' values'
     → Puts n tags values (put (pool_of tags values n) tag' cells) r tags' values'
 put-tag n tags values tag tag' is cells r tags' values' s = rw (← is) s
 
 module _ (end n : ℕ) (tags values : List ℕ) (t tag : ℕ) (b polarity flipped : Bool) (is-flip : flipped ≡ flip b polarity)
     (run : List ℕ) (are : run ≡ run_of end tags values t) (k : ℕ) (work work' : List ℕ)
-    (r : Built) (tags' values' : List ℕ) (s : Puts n tags values (put (pool_of tags values n) tag (take (k - 16384) (drop 16384 work'))) r tags' values') where
+    (r : Option (TermPlace × ℕ)) (tags' values' : List ℕ) (s : Puts n tags values (put (pool_of tags values n) tag (take (k - 16384) (drop 16384 work'))) r tags' values') where
   pub put-places : tag ≡ connective_tag flipped → RowHolds (0 ∷ places_in (memo_of work) polarity run) k work work'
       → Puts n tags values (put (pool_of tags values n) (connective_tag (flip b polarity)) (0 ∷ places_in (memo_of work) polarity (run_of end tags values t))) r tags' values'
   put-places is c = rw (← is-flip, ← is, ← are, ← c.are) s
@@ -237,7 +224,7 @@ module _ (end n : ℕ) (tags values : List ℕ) (t tag : ℕ) (b polarity flippe
 
 module _ (n : ℕ) (tags values : List ℕ) (t : ℕ) (polarity : Bool) where
   pub literal-true : polarity ≡ true → State n n tags values → t < n
-      → Puts n tags values (intern (lit polarity t) (pool_of tags values n)) (At (term_at t) n) tags values
+      → Puts n tags values (intern (lit polarity t) (pool_of tags values n)) (Some ((term_at t), n)) tags values
   unfolding intern
   literal-true e s h =
       rw e (record {
@@ -245,7 +232,7 @@ module _ (n : ℕ) (tags values : List ℕ) (t : ℕ) (polarity : Bool) where
         left = record { tags-size = refl; values-size = refl; tags-kept = refl; values-kept = refl };
       })
 
-  pub literal-false : polarity ≡ false → (r : Built) (tags' values' : List ℕ)
+  pub literal-false : polarity ≡ false → (r : Option (TermPlace × ℕ)) (tags' values' : List ℕ)
       → Puts n tags values (put (pool_of tags values n) 34 (0 ∷ t ∷ [])) r tags' values'
       → Puts n tags values (intern (lit polarity t) (pool_of tags values n)) r tags' values'
   unfolding intern

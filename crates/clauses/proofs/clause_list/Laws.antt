@@ -5,7 +5,7 @@ use mathlib.Core.Path.{◌≡◌, refl, sym, ap, ap₂, ◌∙◌}
 use mathlib.Core.Bool.{Bool, true, false}
 use mathlib.Core.List.{List, [], ◌∷◌, ◌++◌, append_assoc, append-nil}
 use lib.ListN.{length, get_or, take, set, replicate, length-set, length-append, length-replicate}
-use lib.Seq.{sets, length-sets, take-suc, take_all, append_snoc, set-append_seam, length-take-le}
+use lib.Seq.{sets, length-sets, take-suc, append_snoc, set-append_seam, length-take-le}
 use lib.Dec.{eqb}
 use native.Mathlib.Omega.{arith}
 use native.Mathlib.Numerals.{add-one}
@@ -105,76 +105,58 @@ module _ (tags values memo : List ℕ) (x : ℕ) (literals₀ ends₀ : List ℕ
   abbrev list : Clauses
   list = cnf (form_at tags values x)
 
-  pub wrote-start : Wrote (cnf (form_at tags values x)) literals₀ ends₀ i₀ at₀ literals₀ ends₀ 0 i₀ at₀
-  wrote-start = record { within = omega arith; i-is = omega arith; at-is = omega arith; literals-are = refl; ends-are = refl; literals-size = refl; ends-size = refl }
-
   module _ (total : ℕ) (all : total ≡ length (cnf (form_at tags values x))) (literals ends : List ℕ) (k i at : ℕ)
-      (w : Wrote (cnf (form_at tags values x)) literals₀ ends₀ i₀ at₀ literals ends k i at) where
-    pub wrote-end : total ≤ k → Adds (cnf (form_at tags values x)) literals₀ ends₀ i₀ at₀ literals ends (record { 0 = i; 1 = at })
-    wrote-end h =
-        let e : take k list ≡ list = take_all k list (omega (arith, all)) in
-        record {
-          ends-up-to = omega (arith, all, w.i-is, w.within);
-          literals-up-to = rw e at w.at-is;
-          literals-are = rw e at w.literals-are;
-          ends-are = rw e at w.ends-are;
-        }
+      (w : Wrote (cnf (form_at tags values x)) literals₀ ends₀ i₀ at₀ literals ends k i at)
+      (h : k < total) where
+    inside : k < length list
+    inside = omega (arith, all)
 
-    module _ (h : k < total) where
-      inside : k < length list
-      inside = omega (arith, all)
+    pub wrote-ask : Ask tags values memo (x ∷ []) (cnf (form_at tags values x)) k literals at
+    wrote-ask = record {
+      counted = ask.counted;
+      small = ask.clauses;
+      index = inside;
+      room = omega (arith, total-before list k inside, w.at-is, w.literals-size, ask.literals_room);
+    }
 
-      pub wrote-ask : Ask tags values memo (x ∷ []) (cnf (form_at tags values x)) k literals at
-      wrote-ask = record {
-        counted = ask.counted;
-        small = ask.clauses;
-        index = inside;
-        room = omega (arith, total-before list k inside, w.at-is, w.literals-size, ask.literals_room);
+    module _ (after : List ℕ) (r : ℕ) (p : Written (get_or (cnf (form_at tags values x)) k []) literals at after r) where
+      pub wrote-fits : r < 2 ^ 32
+      wrote-fits = omega (arith, p.end, total-before list k inside, w.at-is, ask.literals-small)
+
+      more : take (k + 1) list ≡ take k list ++ (get_or list k [] ∷ [])
+      more = ap (λ (n : ℕ). take n list) (add-one k) ∙ take-suc list k [] inside
+
+      end_is : at₀ + literal_total (take k list) + length (get_or list k []) ≡ r
+      end_is = omega (arith, p.end, w.at-is)
+
+      literals-next : after ≡ sets literals₀ at₀ (literal_places (take (k + 1) list))
+      literals-next =
+          let z : at ≡ at₀ + length (literal_places (take k list)) = w.at-is ∙ ap (λ (n : ℕ). at₀ + n) (sym (places-total (take k list))) in
+          p.array
+          ∙ (ap₂ (λ (l : List ℕ) (n : ℕ). sets l n (clause_places (get_or list k []))) w.literals-are z
+          ∙ (sets-join (literal_places (take k list)) (clause_places (get_or list k [])) literals₀ at₀
+          ∙ ap (λ (l : List ℕ). sets literals₀ at₀ l) (sym (ap literal_places more ∙ places-more (get_or list k []) (take k list)))))
+
+      ends_next : set ends i r ≡ sets ends₀ i₀ (clause_ends at₀ (take (k + 1) list))
+      ends_next =
+          let z : i ≡ i₀ + length (clause_ends at₀ (take k list)) =
+          w.i-is ∙ ap (λ (n : ℕ). i₀ + n) (sym (ends-length at₀ (take k list) ∙ length-take-le k list w.within)) in
+          ap₂ (λ (l : List ℕ) (n : ℕ). sets l n (r ∷ [])) w.ends-are z
+          ∙ (sets-join (clause_ends at₀ (take k list)) (r ∷ []) ends₀ i₀
+          ∙ ap (λ (l : List ℕ). sets ends₀ i₀ l)
+          (sym (ap (clause_ends at₀) more
+          ∙ (ends_more (get_or list k []) at₀ (take k list) ∙ ap (λ (n : ℕ). clause_ends at₀ (take k list) ++ (n ∷ [])) end_is))))
+
+      pub wrote-next : Wrote (cnf (form_at tags values x)) literals₀ ends₀ i₀ at₀ after (set ends i r) (k + 1) (i + 1) r
+      wrote-next = record {
+        within = omega (arith, inside);
+        i-is = omega (arith, w.i-is);
+        at-is = sym (ap (λ (l : Clauses). at₀ + literal_total l) more ∙ (ap (λ (n : ℕ). at₀ + n) (total-more (get_or list k []) (take k list)) ∙ omega (arith, end_is)));
+        literals-are = literals-next;
+        ends-are = ends_next;
+        literals-size = ap length p.array ∙ (length-sets literals at (clause_places (get_or list k [])) ∙ w.literals-size);
+        ends-size = length-set ends i r ∙ w.ends-size;
       }
-
-      pub wrote-place : i < length ends
-      wrote-place = omega (arith, inside, w.i-is, w.ends-size, ask.clauses-room)
-
-      module _ (after : List ℕ) (r : ℕ) (p : Written (get_or (cnf (form_at tags values x)) k []) literals at after r) where
-        pub wrote-fits : r < 2 ^ 32
-        wrote-fits = omega (arith, p.end, total-before list k inside, w.at-is, ask.literals-small)
-
-        more : take (k + 1) list ≡ take k list ++ (get_or list k [] ∷ [])
-        more = ap (λ (n : ℕ). take n list) (add-one k) ∙ take-suc list k [] inside
-
-        end_is : at₀ + literal_total (take k list) + length (get_or list k []) ≡ r
-        end_is = omega (arith, p.end, w.at-is)
-
-        literals-next : after ≡ sets literals₀ at₀ (literal_places (take (k + 1) list))
-        literals-next =
-            let z : at ≡ at₀ + length (literal_places (take k list)) = w.at-is ∙ ap (λ (n : ℕ). at₀ + n) (sym (places-total (take k list))) in
-            p.array
-            ∙ (ap₂ (λ (l : List ℕ) (n : ℕ). sets l n (clause_places (get_or list k []))) w.literals-are z
-            ∙ (sets-join (literal_places (take k list)) (clause_places (get_or list k [])) literals₀ at₀
-            ∙ ap (λ (l : List ℕ). sets literals₀ at₀ l) (sym (ap literal_places more ∙ places-more (get_or list k []) (take k list)))))
-
-        ends_next : set ends i r ≡ sets ends₀ i₀ (clause_ends at₀ (take (k + 1) list))
-        ends_next =
-            let z : i ≡ i₀ + length (clause_ends at₀ (take k list)) =
-            w.i-is ∙ ap (λ (n : ℕ). i₀ + n) (sym (ends-length at₀ (take k list) ∙ length-take-le k list w.within)) in
-            ap₂ (λ (l : List ℕ) (n : ℕ). sets l n (r ∷ [])) w.ends-are z
-            ∙ (sets-join (clause_ends at₀ (take k list)) (r ∷ []) ends₀ i₀
-            ∙ ap (λ (l : List ℕ). sets ends₀ i₀ l)
-            (sym (ap (clause_ends at₀) more
-            ∙ (ends_more (get_or list k []) at₀ (take k list) ∙ ap (λ (n : ℕ). clause_ends at₀ (take k list) ++ (n ∷ [])) end_is))))
-
-        pub wrote-next : Wrote (cnf (form_at tags values x)) literals₀ ends₀ i₀ at₀ after (set ends i r) (k + 1) (i + 1) r
-        wrote-next = record {
-          within = omega (arith, inside);
-          i-is = omega (arith, w.i-is);
-          at-is = sym (ap (λ (l : Clauses). at₀ + literal_total l) more ∙ (ap (λ (n : ℕ). at₀ + n) (total-more (get_or list k []) (take k list)) ∙ omega (arith, end_is)));
-          literals-are = literals-next;
-          ends-are = ends_next;
-          literals-size = ap length p.array ∙ (length-sets literals at (clause_places (get_or list k [])) ∙ w.literals-size);
-          ends-size = length-set ends i r ∙ w.ends-size;
-        }
-
-pub ruleset wrotes = (wrote-start, wrote-end, wrote-next)
 
 -- ---- the answers
 pub zero-all : (l : List ℕ) → zero_from 0 l ≡ replicate (length l) 0
@@ -195,23 +177,23 @@ module _ (tags values : List ℕ) (x : ℕ) (literals ends : List ℕ) (ready : 
   literals-are-cut : t.literals ≡ min 8193 (literal_total (cnf (form_at tags values x)))
   literals-are-cut = literals-cut tags values x t is.is
 
-  pub many-clauses : 2048 < t.clauses → (r : Answer) → r ≡ too_many_clauses
-      → ListAnswered (count_answer (cnf (form_at tags values x))) (cnf (form_at tags values x)) (length literals) (length ends) r literals ends
+  pub many-clauses : 2048 < t.clauses
+      → ListAnswered (count_answer (cnf (form_at tags values x))) (cnf (form_at tags values x)) (length literals) (length ends) too_many_clauses literals ends
   unfolding count_answer
-  many-clauses h r e =
-      refused _ _ _ _ _ _ _ (rw (e, lt-leb (length (cnf (form_at tags values x))) 2048 (omega (arith, clauses-are-cut)))) (rw e) ready.literals-zero ready.ends-zero
+  many-clauses h =
+      refused _ _ _ _ _ _ _ (rw (lt-leb (length (cnf (form_at tags values x))) 2048 (omega (arith, clauses-are-cut)))) refl ready.literals-zero ready.ends-zero
 
   module _ (h : t.clauses ≤ 2048) where
     clauses-are : t.clauses ≡ length (cnf (form_at tags values x))
     clauses-are = omega (arith, clauses-are-cut)
 
-    pub many-literals : 8192 < t.literals → (r : Answer) → r ≡ too_many_clauses
-        → ListAnswered (count_answer (cnf (form_at tags values x))) (cnf (form_at tags values x)) (length literals) (length ends) r literals ends
+    pub many-literals : 8192 < t.literals
+        → ListAnswered (count_answer (cnf (form_at tags values x))) (cnf (form_at tags values x)) (length literals) (length ends) too_many_clauses literals ends
     unfolding count_answer
-    many-literals g r e =
+    many-literals g =
         refused _ _ _ _ _ _ _
-        (rw (e, le-leb (length (cnf (form_at tags values x))) 2048 (omega (arith, clauses-are)), lt-leb (literal_total (cnf (form_at tags values x))) 8192 (omega (arith, literals-are-cut))))
-        (rw e) ready.literals-zero ready.ends-zero
+        (rw (le-leb (length (cnf (form_at tags values x))) 2048 (omega (arith, clauses-are)), lt-leb (literal_total (cnf (form_at tags values x))) 8192 (omega (arith, literals-are-cut))))
+        refl ready.literals-zero ready.ends-zero
 
     module _ (g : t.literals ≤ 8192) where
       literals-are : t.literals ≡ literal_total (cnf (form_at tags values x))
@@ -240,22 +222,19 @@ module _ (tags values : List ℕ) (x : ℕ) (literals ends : List ℕ) (ready : 
       }
 
       pub fits-answer : (literals' ends' : List ℕ) (f : Filled) → Adds (cnf (form_at tags values x)) literals ends 0 0 literals' ends' f
-          → (r : Answer) → r ≡ accepted t.clauses t.literals
-          → ListAnswered (count_answer (cnf (form_at tags values x))) (cnf (form_at tags values x)) (length literals) (length ends) r literals' ends'
+          → ListAnswered (count_answer (cnf (form_at tags values x))) (cnf (form_at tags values x)) (length literals) (length ends)
+          (accepted t.clauses t.literals) literals' ends'
       unfolding count_answer held
-      fits-answer literals' ends' f a r e = record {
+      fits-answer literals' ends' f a = record {
         answer = rw (
-          e,
           le-leb (length (cnf (form_at tags values x))) 2048 (omega (arith, clauses-are)),
           le-leb (literal_total (cnf (form_at tags values x))) 8192 (omega (arith, literals-are)),
           ← clauses-are,
           ← literals-are,
         );
-        literals-are = rw e (listed literals' ends' f a).literals-are;
-        ends-are = rw e (listed literals' ends' f a).ends-are;
+        literals-are = (listed literals' ends' f a).literals-are;
+        ends-are = (listed literals' ends' f a).ends-are;
       }
-
-pub ruleset counted-answers = (many-clauses, many-literals, fits-answer)
 
 module _ (literals₀ ends₀ literals ends : List ℕ) (cut : Cut 0 literals₀ ends₀ literals ends) where
   size-literals : length literals ≡ length literals₀
@@ -272,10 +251,10 @@ module _ (literals₀ ends₀ literals ends : List ℕ) (cut : Cut 0 literals₀
   }
 
   module _ (tags values : List ℕ) (x : ℕ) (b : Bool) (is : b ≡ empty_or (form_at tags values x)) where
-    pub empty-answer : b ≡ true → (r : Answer) → r ≡ empty_or_reached
-        → ListAnswered (list_answer (form_at tags values x)) (cnf (form_at tags values x)) (length literals₀) (length ends₀) r literals ends
+    pub empty-answer : b ≡ true
+        → ListAnswered (list_answer (form_at tags values x)) (cnf (form_at tags values x)) (length literals₀) (length ends₀) empty_or_reached literals ends
     unfolding list_answer
-    empty-answer e r q = refused _ _ _ _ _ _ _ (rw (q, ← is, e)) (rw q) (cut.tags-are ∙ zero-all literals₀) (cut.values-are ∙ zero-all ends₀)
+    empty-answer e = refused _ _ _ _ _ _ _ (rw (← is, e)) refl (cut.tags-are ∙ zero-all literals₀) (cut.values-are ∙ zero-all ends₀)
 
     pub list-answer : b ≡ false → (r : Answer) (literals' ends' : List ℕ)
         → ListAnswered (count_answer (cnf (form_at tags values x))) (cnf (form_at tags values x)) (length literals) (length ends) r literals' ends'

@@ -1,12 +1,13 @@
 -- Laws of the walk that writes a list: one list after another.
 -- Assumes nothing.
-use Prim.Native.Nat.{ℕ, ◌+◌, ◌-◌}
+use Prim.Native.Nat.{ℕ, ◌+◌, ◌≤◌, ◌<◌}
 use mathlib.Core.Path.{◌≡◌, refl, sym, ap, ap₂, subst, ◌∙◌}
 use mathlib.Core.Bool.{Bool, true}
 use mathlib.Core.List.{List, [], ◌∷◌, ◌++◌, append_assoc}
-use lib.ListN.{length, get_or, take, drop, length-append}
-use lib.Seq.{sets, length-sets}
+use lib.ListN.{length, get_or, drop, drop_of_length-le, length-append}
+use lib.Seq.{sets, length-sets, drop-cons}
 use native.Mathlib.Omega.{arith}
+use native.Mathlib.Numerals.{add-one}
 use Rattle.cells.specs.declared.TermPlace.{TermPlace}
 use Rattle.cells.specs.Cell.{operands_of}
 use Rattle.formulas.specs.declared.view.NormalView.{NormalView}
@@ -18,7 +19,7 @@ use Rattle.formulas.specs.ClauseLists.{clause_places, literal_places, clause_end
 use Rattle.clauses.specs.ClauseWalk.{clauses_at}
 use Rattle.clauses.specs.ClauseList.{run_of, AskMore, AskLists, Adds}
 use Rattle.clauses.specs.declared.clause_list.Filled.{Filled}
-use Rattle.formulas.proofs.Reading.{before-tail, read-literal, read-forall, read-connective, run-before, connective-within, run-split}
+use Rattle.formulas.proofs.Reading.{before-tail, read-literal, read-forall, read-connective, run-before, connective-within}
 use Rattle.clauses.proofs.conjunctive_normal_form.Laws.{exact, counts-head, counts-tail, counts-operands}
 use Rattle.clauses.proofs.clause_list.Laws.{Clauses, sets-join, places-total, ends-length}
 
@@ -79,10 +80,6 @@ module _ (tags values memo : List ℕ) (x : ℕ) (literals ends : List ℕ) (i a
       and-added literals' ends' r a = rw and_is a
 
 -- ---- the run
-pub none-added : (tags values run literals ends : List ℕ) (f : Filled) → length run ≡ 0 → Adds (cnf_and (run_of tags values run)) literals ends f.0 f.1 literals ends f
-none-added tags values [] literals ends f e = no-clause [] refl literals ends f
-none-added tags values (u ∷ us) literals ends f e = absurd (omega arith)
-
 module _ (tags values memo : List ℕ) (x u : ℕ) (us literals ends : List ℕ) (i at : ℕ) (ask : AskLists tags values memo x (u ∷ us) literals ends i at) where
   abbrev first : Clauses
   first = cnf (form_at tags values u)
@@ -140,24 +137,38 @@ module _ (tags values memo : List ℕ) (x u : ℕ) (us literals ends : List ℕ)
               ∙ ap (λ (l : List ℕ). sets ends i l) (ap (λ (n : ℕ). clause_ends at first ++ clause_ends n rest) a.literals-up-to ∙ sym (ends_join at first rest))));
         }
 
--- the same of a run that is not empty
-module _ (tags values memo : List ℕ) (x : ℕ) (run literals ends : List ℕ) (i at : ℕ) (ask : AskLists tags values memo x run literals ends i at)
-    (some : length run ≡ 0 → ⊥) where
-  abbrev after : List ℕ
-  after = take (length run - 1) (drop 1 run)
+-- the walk along a run, at k: what is left is asked for, and writing it completes the whole
+pub record ListsLeft (tags values memo : List ℕ) (x : ℕ) (run literals₀ ends₀ : List ℕ) (from : Filled) (literals ends : List ℕ) (f : Filled) (k : ℕ) : Type 0 where
+  pub ask : AskLists tags values memo x (drop k run) literals ends f.0 f.1
+  pub then : (literals' ends' : List ℕ) (g : Filled) → Adds (cnf_and (run_of tags values (drop k run))) literals ends f.0 f.1 literals' ends' g
+      → Adds (cnf_and (run_of tags values run)) literals₀ ends₀ from.0 from.1 literals' ends' g
 
-  split : AskLists tags values memo x (get_or run 0 0 ∷ after) literals ends i at
-  split = subst (λ (l : List ℕ). AskLists tags values memo x l literals ends i at) (run-split run some) ask
+module _ (tags values memo : List ℕ) (x : ℕ) (run literals₀ ends₀ : List ℕ) (from : Filled) (literals ends : List ℕ) (f : Filled) (k : ℕ)
+    (w : ListsLeft tags values memo x run literals₀ ends₀ from literals ends f k) where
+  pub lists-added : length run ≤ k → Adds (cnf_and (run_of tags values run)) literals₀ ends₀ from.0 from.1 literals ends f
+  lists-added h =
+      let none : [] ≡ drop k run = sym (drop_of_length-le run h) in
+      w.then literals ends f (subst (λ (l : List ℕ). Adds (cnf_and (run_of tags values l)) literals ends f.0 f.1 literals ends f) none (no-clause [] refl literals ends f))
 
-  pub list-ask : AskMore tags values memo (get_or run 0 0 ∷ []) (cnf (form_at tags values (get_or run 0 0))) literals ends i at
-  list-ask = head-ask tags values memo x (get_or run 0 0) after literals ends i at split
+  module _ (h : k < length run) where
+    abbrev after : List ℕ
+    after = drop (k + 1) run
 
-  module _ (literals₁ ends₁ : List ℕ) (f : Filled) (a : Adds (cnf (form_at tags values (get_or run 0 0))) literals ends i at literals₁ ends₁ f) where
-    pub lists-ask : AskLists tags values memo x (take (length run - 1) (drop 1 run)) literals₁ ends₁ f.0 f.1
-    lists-ask = tail-ask tags values memo x (get_or run 0 0) after literals ends i at split literals₁ ends₁ f a
+    rest-is : drop k run ≡ get_or run k 0 ∷ drop (k + 1) run
+    rest-is = rw (add-one k) (drop-cons run k 0 h)
 
-    pub lists-added : (literals₂ ends₂ : List ℕ) (g : Filled) → Adds (cnf_and (run_of tags values (take (length run - 1) (drop 1 run)))) literals₁ ends₁ f.0 f.1 literals₂ ends₂ g
-        → Adds (cnf_and (run_of tags values run)) literals ends i at literals₂ ends₂ g
-    lists-added literals₂ ends₂ g b =
-        subst (λ (l : List ℕ). Adds (cnf_and (run_of tags values l)) literals ends i at literals₂ ends₂ g) (sym (run-split run some))
-        (both-added tags values memo x (get_or run 0 0) after literals ends i at split literals₁ ends₁ f a literals₂ ends₂ g b)
+    split : AskLists tags values memo x (get_or run k 0 ∷ after) literals ends f.0 f.1
+    split = subst (λ (l : List ℕ). AskLists tags values memo x l literals ends f.0 f.1) rest-is w.ask
+
+    pub list-ask : AskMore tags values memo (get_or run k 0 ∷ []) (cnf (form_at tags values (get_or run k 0))) literals ends f.0 f.1
+    list-ask = head-ask tags values memo x (get_or run k 0) after literals ends f.0 f.1 split
+
+    pub lists-next : (literals₁ ends₁ : List ℕ) (g : Filled) → Adds (cnf (form_at tags values (get_or run k 0))) literals ends f.0 f.1 literals₁ ends₁ g
+        → ListsLeft tags values memo x run literals₀ ends₀ from literals₁ ends₁ g (k + 1)
+    lists-next literals₁ ends₁ g a = record {
+      ask = tail-ask tags values memo x (get_or run k 0) after literals ends f.0 f.1 split literals₁ ends₁ g a;
+      then = λ literals₂ ends₂ m b.
+          w.then literals₂ ends₂ m
+          (subst (λ (l : List ℕ). Adds (cnf_and (run_of tags values l)) literals ends f.0 f.1 literals₂ ends₂ m) (sym rest-is)
+          (both-added tags values memo x (get_or run k 0) after literals ends f.0 f.1 split literals₁ ends₁ g a literals₂ ends₂ m b));
+    }

@@ -1,10 +1,10 @@
 -- Laws of the writing of a clause, one for each way out of the code.
 -- Assumes nothing.
-use Prim.Native.Nat.{ℕ, zero, suc, ◌+◌, ◌-◌, ◌*◌, ◌/◌, ◌%◌, ◌^◌, ◌≤◌, ◌<◌, min}
+use Prim.Native.Nat.{ℕ, zero, suc, ◌+◌, ◌-◌, ◌*◌, ◌/◌, ◌%◌, ◌≤◌, ◌<◌, min}
 use mathlib.Core.Path.{◌≡◌, refl, sym, ap, subst, ◌∙◌}
 use mathlib.Core.Bool.{Bool, true, false}
 use mathlib.Core.List.{List, [], ◌∷◌, ◌++◌}
-use lib.ListN.{length, get_or, take, drop, set, length-append, drop_of_length-le}
+use lib.ListN.{length, get_or, drop, set, length-append, length-drop, drop_of_length-le}
 use lib.Seq.{sets, length-sets, drop-cons}
 use lib.Dec.{ltb}
 use native.Mathlib.Nat.{le-mul_of_pos_right, mul-div_cancel_left, mul_comm, mod-lt, div-lt_iff_lt-mul, mul-zero, zero-mul}
@@ -28,7 +28,7 @@ use Rattle.formulas.specs.ClauseLists.{literal_place, clause_places}
 use Rattle.clauses.specs.ClauseWalk.{clauses_at, Memo}
 use Rattle.clauses.specs.ClauseList.{run_of, choose, ClauseCounts, Ask, AskRun, Written}
 use Rattle.clauses.proofs.ClauseAt.{append_left, append_right, product_at, clauses-and, clauses-or}
-use Rattle.formulas.proofs.Reading.{before_head, before-tail, run-split, read-literal, read-forall, read-connective, run-before, connective-within}
+use Rattle.formulas.proofs.Reading.{before_head, before-tail, read-literal, read-forall, read-connective, run-before, connective-within}
 
 -- ---- the walk along the operands of an `and`: w is what it finds, from j on, for the number left
 module _ (w : Chosen) (memo run : List ℕ) (j left : ℕ) (inv : w ≡ choose memo (drop j run) left) where
@@ -166,7 +166,7 @@ module _ (tags values memo : List ℕ) (x i : ℕ) (out : List ℕ) (at : ℕ) (
             (found tags values memo x within run run-counts run-here i (omega (arith, ask.small, ap length and_is)) (omega (arith, ask.index, ap length and_is)))
 
         -- the measure falls
-        pub and-falls : (m : ℕ) → x * 2 ^ 65 + 2 ^ 64 ≡ m → c.place.0 * 2 ^ 65 + 2 ^ 64 < m
+        pub and-falls : (m : ℕ) → x * 2 + 1 ≡ m → c.place.0 * 2 + 1 < m
         and-falls m q = omega (arith, chosen.below)
 
         pub and-ask : Ask tags values memo (c.place.0 ∷ []) (cnf (form_at tags values c.place.0)) c.index out at
@@ -323,15 +323,28 @@ module _ (tags values memo : List ℕ) (x u : ℕ) (us : List ℕ) (total i : �
         → Written (get_or (cnf_or (run_of tags values (u ∷ us))) i []) out at after r
     both-written after r q = rw clause-is (written_both _ _ out at mid next after r w q)
 
--- the same of a run, whose rest is `&run[1..]`
-module _ (tags values memo : List ℕ) (x : ℕ) (run : List ℕ) (total i : ℕ) (out : List ℕ) (at : ℕ)
-    (ask : AskRun tags values memo x run total i out at) where
-  pub run_none : length run ≡ 0 → Written (get_or (cnf_or (run_of tags values run)) i []) out at out at
-  run_none e = rw (no_operand tags values run i e ask.ask.index) record { end = omega arith; array = refl }
+-- the walk along a run, at k: what is left is asked for, and writing it completes the whole
+pub record OperandsLeft (tags values memo : List ℕ) (x : ℕ) (run : List ℕ) (i₀ : ℕ) (out₀ : List ℕ) (at₀ total i : ℕ) (out : List ℕ) (at k : ℕ) : Type 0 where
+  pub ask : AskRun tags values memo x (drop k run) total i out at
+  pub then : (after : List ℕ) (r : ℕ) → Written (get_or (cnf_or (run_of tags values (drop k run))) i []) out at after r
+      → Written (get_or (cnf_or (run_of tags values run)) i₀ []) out₀ at₀ after r
 
-  module _ (some : length run ≡ 0 → ⊥) (here : ℕ) (is : here ≡ clauses_at memo (get_or run 0 0)) where
-    split-ask : AskRun tags values memo x (get_or run 0 0 ∷ take (length run - 1) (drop 1 run)) total i out at
-    split-ask = subst (λ (l : List ℕ). AskRun tags values memo x l total i out at) (run-split run some) ask
+module _ (tags values memo : List ℕ) (x : ℕ) (run : List ℕ) (i₀ : ℕ) (out₀ : List ℕ) (at₀ total i : ℕ) (out : List ℕ) (at k : ℕ)
+    (w : OperandsLeft tags values memo x run i₀ out₀ at₀ total i out at k) where
+  pub run-all : length run ≤ k → Written (get_or (cnf_or (run_of tags values run)) i₀ []) out₀ at₀ out at
+  run-all h =
+      let none : length (drop k run) ≡ 0 = rw (length-drop k run) (omega arith) in
+      w.then out at (rw (no_operand tags values (drop k run) i none w.ask.ask.index) record { end = omega arith; array = refl })
+
+  module _ (h : k < length run) (here : ℕ) (is : here ≡ clauses_at memo (get_or run k 0)) where
+    abbrev after-u : List ℕ
+    after-u = drop (k + 1) run
+
+    run-is : drop k run ≡ get_or run k 0 ∷ drop (k + 1) run
+    run-is = rw (add-one k) (drop-cons run k 0 h)
+
+    split-ask : AskRun tags values memo x (get_or run k 0 ∷ after-u) total i out at
+    split-ask = subst (λ (l : List ℕ). AskRun tags values memo x l total i out at) run-is w.ask
 
     pub run-here-some : 0 < here
     run-here-some = omega (arith, some-here tags values memo x _ _ total i out at split-ask here is, here-is tags values memo x _ _ total i out at split-ask here is)
@@ -339,27 +352,23 @@ module _ (tags values memo : List ℕ) (x : ℕ) (run : List ℕ) (total i : ℕ
     pub run-rest-some : 0 < total / here
     run-rest-some = rw (rest-is tags values memo x _ _ total i out at split-ask here is) (some-rest tags values memo x _ _ total i out at split-ask here is)
 
-    pub run-falls : (m : ℕ) → x * 2 ^ 65 + length run ≡ m → get_or run 0 0 * 2 ^ 65 + 2 ^ 64 < m
-    run-falls m q = let less : get_or run 0 0 < x = before_head x _ _ split-ask.before in omega arith
-
     -- a, d: the clause's number in the first list, and in the rest
     module _ (a : ℕ) (is-a : a ≡ i / (total / here)) where
-      pub run-first : Ask tags values memo (get_or run 0 0 ∷ []) (cnf (form_at tags values (get_or run 0 0))) a out at
+      pub run-first : Ask tags values memo (get_or run k 0 ∷ []) (cnf (form_at tags values (get_or run k 0))) a out at
       run-first = rw is-a (first-ask tags values memo x _ _ total i out at split-ask here is)
 
-      module _ (mid : List ℕ) (next : ℕ) (w : Written (get_or (cnf (form_at tags values (get_or run 0 0))) a []) out at mid next)
+      module _ (mid : List ℕ) (next : ℕ) (v : Written (get_or (cnf (form_at tags values (get_or run k 0))) a []) out at mid next)
           (d : ℕ) (is-d : d ≡ i % (total / here)) where
-        first-written : Written (get_or (cnf (form_at tags values (get_or run 0 0))) (i / (total / here)) []) out at mid next
-        first-written = rw is-a at w
+        first-written : Written (get_or (cnf (form_at tags values (get_or run k 0))) (i / (total / here)) []) out at mid next
+        first-written = rw is-a at v
 
-        pub run-rest : (rest : ℕ) → rest ≡ total / here → AskRun tags values memo x (take (length run - 1) (drop 1 run)) rest d mid next
-        run-rest rest e = rw (e, is-d) (rest-ask tags values memo x _ _ total i out at split-ask here is mid next first-written)
+        pub run-next : (rest : ℕ) → rest ≡ total / here → OperandsLeft tags values memo x run i₀ out₀ at₀ rest d mid next (k + 1)
+        run-next rest e = record {
+          ask = rw (e, is-d) (rest-ask tags values memo x _ _ total i out at split-ask here is mid next first-written);
+          then = λ after r q.
+              w.then after r
+              (subst (λ (l : List ℕ). Written (get_or (cnf_or (run_of tags values l)) i []) out at after r) (sym run-is)
+              (both-written tags values memo x _ _ total i out at split-ask here is mid next first-written after r (rw is-d at q)));
+        }
 
-        pub run-written : (after : List ℕ) (r : ℕ)
-            → Written (get_or (cnf_or (run_of tags values (take (length run - 1) (drop 1 run)))) d []) mid next after r
-            → Written (get_or (cnf_or (run_of tags values run)) i []) out at after r
-        run-written after r q =
-            subst (λ (l : List ℕ). Written (get_or (cnf_or (run_of tags values l)) i []) out at after r) (sym (run-split run some))
-            (both-written tags values memo x _ _ total i out at split-ask here is mid next first-written after r (rw is-d at q))
-
-pub ruleset writes = (literal-written, forall-written, and-written, or-written, run_none, run-written)
+pub ruleset writes = (literal-written, forall-written, and-written, or-written)

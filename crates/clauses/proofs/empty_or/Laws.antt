@@ -1,10 +1,10 @@
--- Laws of the walk for an empty `or` and of its memo, one for each way out of the code.
+-- Laws of the walk for an empty `or` and of its memo.
 -- Assumes nothing.
-use Prim.Native.Nat.{ℕ, ◌-◌}
-use mathlib.Core.Path.{◌≡◌, refl, sym, ap, ◌∙◌}
+use Prim.Native.Nat.{ℕ}
+use mathlib.Core.Path.{◌≡◌, refl, sym, ◌∙◌}
 use mathlib.Core.Bool.{Bool, true, false, not, ◌||◌}
 use mathlib.Core.List.{List, [], ◌∷◌}
-use lib.ListN.{length, get_or, take, drop, set, replicate}
+use lib.ListN.{length, drop, set, replicate}
 use lib.Seq.{get_or-set_other}
 use lib.Dec.{eqb}
 use native.Mathlib.Omega.{arith}
@@ -20,7 +20,7 @@ use Rattle.formulas.specs.Clauses.{empty_or, empty_ors, is_empty_or}
 use Rattle.formulas.specs.Built.{normal_view, normals_of, form_at}
 use Rattle.cells.specs.Marks.{MarkNoted}
 use Rattle.clauses.specs.ClauseWalk.{NoneReached, Reached}
-use Rattle.formulas.proofs.Reading.{read-literal, read-forall, read-connective, run-before, run-split, zeros}
+use Rattle.formulas.proofs.Reading.{read-literal, read-forall, read-connective, run-before, zeros}
 
 -- ---- operands
 none-empty : (f : ℕ → Normal (List ℕ) ℕ) (b : Bool) (run : List ℕ) → length run ≡ 0
@@ -36,30 +36,26 @@ some-empty f true (u ∷ run) n = refl
 some-empty f false (u ∷ run) n = refl
 
 -- ---- the term at x
-module _ (tags values : List ℕ) (x : ℕ) (memo : List ℕ) where
-  pub term-noted : NoneReached tags values memo → (m : ℕ) → m ≡ get_or memo x 0 → m ≡ 1 → Reached tags values memo false (empty_or (form_at tags values x))
-  term-noted right m is e = record { is = right.at x (sym is ∙ e); right = right }
+module _ (tags values : List ℕ) (x : ℕ) (memo : List ℕ) (v : NormalView) (is : v ≡ normal_view tags values x) where
+  pub term-literal : NoneReached tags values memo → v ≡ Literal → Reached tags values memo false (empty_or (form_at tags values x))
+  term-literal right e = record { is = rw (read-literal tags values x v is e); right = right }
 
-  module _ (v : NormalView) (is : v ≡ normal_view tags values x) where
-    pub term-literal : NoneReached tags values memo → v ≡ Literal → Reached tags values memo false (empty_or (form_at tags values x))
-    term-literal right e = record { is = rw (read-literal tags values x v is e); right = right }
+  pub term-forall : NoneReached tags values memo → (body : TermPlace) → v ≡ Forall body → Reached tags values memo false (empty_or (form_at tags values x))
+  term-forall right body e = record { is = rw (read-forall tags values x v is body e); right = right }
 
-    pub term-forall : NoneReached tags values memo → (body : TermPlace) → v ≡ Forall body → Reached tags values memo false (empty_or (form_at tags values x))
-    term-forall right body e = record { is = rw (read-forall tags values x v is body e); right = right }
+  module _ (b : Bool) (e : v ≡ Connective b) (run : List ℕ) (o : run ≡ operands_of tags values x) where
+    reached-is : is_empty_or b (normals_of (form_at tags values) run) || empty_ors (normals_of (form_at tags values) run) ≡ empty_or (form_at tags values x)
+    reached-is = rw (read-connective tags values x v is b e, o)
 
-    module _ (b : Bool) (e : v ≡ Connective b) (run : List ℕ) (o : run ≡ operands_of tags values x) where
-      reached-is : is_empty_or b (normals_of (form_at tags values) run) || empty_ors (normals_of (form_at tags values) run) ≡ empty_or (form_at tags values x)
-      reached-is = rw (read-connective tags values x v is b e, o)
+    pub term-before : all_before x run ≡ true
+    term-before = rw o (run-before tags values x v is b e)
 
-      pub term-before : all_before x run ≡ true
-      term-before = rw o (run-before tags values x v is b e)
+    pub term-empty : NoneReached tags values memo → length run ≡ 0 → Reached tags values memo (not b) (empty_or (form_at tags values x))
+    term-empty right z = record { is = none-empty _ b run z ∙ reached-is; right = right }
 
-      pub term-empty : NoneReached tags values memo → length run ≡ 0 → Reached tags values memo (not b) (empty_or (form_at tags values x))
-      term-empty right z = record { is = none-empty _ b run z ∙ reached-is; right = right }
-
-      pub term-run : (length run ≡ 0 → ⊥) → (s : Bool) → Reached tags values memo s (empty_ors (normals_of (form_at tags values) run))
-          → Reached tags values memo s (empty_or (form_at tags values x))
-      term-run some s a = record { is = a.is ∙ (sym (some-empty _ b run some) ∙ reached-is); right = a.right }
+    pub term-run : (length run ≡ 0 → ⊥) → (s : Bool) → Reached tags values memo s (empty_ors (normals_of (form_at tags values) run))
+        → Reached tags values memo s (empty_or (form_at tags values x))
+    term-run some s a = record { is = a.is ∙ (sym (some-empty _ b run some) ∙ reached-is); right = a.right }
 
 module _ (tags values : List ℕ) (x : ℕ) (memo : List ℕ) (s : Bool) (a : Reached tags values memo s (empty_or (form_at tags values x))) where
   -- a right no keeps the memo right
@@ -76,30 +72,12 @@ module _ (tags values : List ℕ) (x : ℕ) (memo : List ℕ) (s : Bool) (a : Re
     right = rw n.kept (by-test s (λ e. rw e a.right) (λ e. rw e (more-right e)));
   }
 
--- ---- the walk along a run
-reached-none : (f : ℕ → Normal (List ℕ) ℕ) (run : List ℕ) → length run ≡ 0 → false ≡ empty_ors (normals_of f run)
-reached-none f [] e = refl
-reached-none f (u ∷ run) e = absurd (omega arith)
+-- ---- the walk along a run, at i: what is left says what all says
+pub record RunLeft (tags values run memo : List ℕ) (i : ℕ) : Type 0 where
+  pub right : NoneReached tags values memo
+  pub left : empty_ors (normals_of (form_at tags values) run) ≡ empty_ors (normals_of (form_at tags values) (drop i run))
 
-module _ (tags values run : List ℕ) where
-  pub run_end : (memo : List ℕ) → NoneReached tags values memo → length run ≡ 0
-      → Reached tags values memo false (empty_ors (normals_of (form_at tags values) run))
-  run_end memo right e = record { is = reached-none _ run e; right = right }
-
-  module _ (some : length run ≡ 0 → ⊥) (memo : List ℕ) (s : Bool) (a : Reached tags values memo s (empty_or (form_at tags values (get_or run 0 0)))) where
-    run_is : empty_ors (normals_of (form_at tags values) run) ≡ s || empty_ors (normals_of (form_at tags values) (take (length run - 1) (drop 1 run)))
-    run_is =
-        rw a.is (ap (λ (l : List ℕ). empty_ors (normals_of (form_at tags values) l)) (run-split run some))
-
-    pub run-found : s ≡ true → Reached tags values memo true (empty_ors (normals_of (form_at tags values) run))
-    run-found e = record { is = rw (run_is, e); right = a.right }
-
-    pub run_on : s ≡ false → (memo' : List ℕ) (r : Bool)
-        → Reached tags values memo' r (empty_ors (normals_of (form_at tags values) (take (length run - 1) (drop 1 run))))
-        → Reached tags values memo' r (empty_ors (normals_of (form_at tags values) run))
-    run_on e memo' r b = record { is = rw (run_is, e) b.is; right = b.right }
-
-pub ruleset walks = (term-noted, term-literal, term-forall, term-empty, term-run, noted, run_end, run-found, run_on)
+pub ruleset walks = (term-literal, term-forall, term-empty, term-run, noted)
 
 -- ---- a fresh memo
 pub fresh : (tags values : List ℕ) (k : ℕ) → NoneReached tags values (replicate k 0)

@@ -1,13 +1,14 @@
--- Laws of the totals and of their memo, one for each way out of the code.
+-- Laws of the totals and of their memo.
 -- Assumes nothing.
 use Prim.Native.Nat.{ℕ, suc, ◌+◌, ◌-◌, ◌*◌, ◌/◌, ◌%◌, ◌^◌, ◌≤◌, ◌<◌, min}
 use mathlib.Core.Path.{◌≡◌, refl, sym, ap, ap₂, ◌∙◌}
 use mathlib.Core.Bool.{Bool, true, false}
-use mathlib.Core.List.{List, [], ◌∷◌}
+use mathlib.Core.List.{List, [], ◌∷◌, reverse}
 use lib.ListN.{length, get_or, drop, set, replicate, length-set, length-replicate, get_or-eq_default}
 use lib.Seq.{drop-cons, drop-length, get_or-set_same, get_or-set_other, set_out}
 use lib.Dec.{leb, eqb}
 use native.Mathlib.Nat.{mul-le-mul}
+use Rattle.std.proofs.lemmas.List.{get_or-reverse, length-reverse}
 use native.Mathlib.Omega.{arith}
 use borrow.Author.Tests.{leb-true, leb-false, eqb-true, eqb-false}
 use Rattle.cells.specs.declared.TermPlace.{TermPlace}
@@ -57,27 +58,23 @@ pub record Folded (b : Bool) (at : ℕ → Totals) (run : List ℕ) (i : ℕ) (t
   pub is : t ≡ run_totals b at (drop i run)
 
 module _ (b : Bool) (at : ℕ → Totals) (run : List ℕ) where
-  pub fold_start : (s : code.Totals) → as_totals s ≡ cap 8193 (start_of b) → Folded b at run (length run) (as_totals s)
+  pub fold_start : (n : ℕ) → n ≡ length run → (s : code.Totals) → as_totals s ≡ cap 8193 (start_of b) → Folded b at run n (as_totals s)
   unfolding run_totals
-  fold_start s e = record { within = omega arith; is = rw (drop-length run) e }
+  fold_start n h s e = record { within = omega arith; is = rw (h, drop-length run) e }
 
-  module _ (i : ℕ) (s : code.Totals) (f : Folded b at run i (as_totals s)) where
-    pub fold_next : 0 < i → (m : code.Totals) → as_totals m ≡ at (get_or run (i - 1) 0)
-        → (r : code.Totals) → as_totals r ≡ cap 8193 (combine b (as_totals m) (as_totals s)) → Folded b at run (i - 1) (as_totals r)
-    unfolding run_totals
-    fold_next h m em r er =
-        let n : suc (i - 1) ≡ i = omega arith in
-        let d : drop (i - 1) run ≡ get_or run (i - 1) 0 ∷ drop i run =
-        drop-cons run (i - 1) 0 (omega (arith, f.within)) ∙ ap (λ (k : ℕ). get_or run (i - 1) 0 ∷ drop k run) n in
-        record { within = omega (arith, f.within); is = rw (d, ← f.is, ← em) er }
-
-    pub fold-counted : 0 < i → (memo : List ℕ) → AllCounted memo run → 0 < get_or memo (get_or run (i - 1) 0) 0
-    fold-counted h memo all = all.at (i - 1) (omega (arith, f.within))
-
-    pub fold_end : i ≤ 0 → as_totals s ≡ run_totals b at run
-    fold_end h = let z : i ≡ 0 = omega arith in rw z at f.is
-
-pub ruleset folds = (fold_start, fold_next, fold_end)
+  -- u is the k-th from the end
+  pub fold_next : (k : ℕ) (s : code.Totals) → Folded b at run (length run - k) (as_totals s) → (u : ℕ) → (k < length (reverse run)) × (u ≡ get_or (reverse run) k u)
+      → (m : code.Totals) → as_totals m ≡ at u → (r : code.Totals) → as_totals r ≡ cap 8193 (combine b (as_totals m) (as_totals s))
+      → (j : ℕ) → j ≡ k + 1 → Folded b at run (length run - j) (as_totals r)
+  unfolding run_totals
+  fold_next k s f u t m em r er j e =
+      let h : k < length run = rw (length-reverse run) at t.0 in
+      let n : suc (length run - j) ≡ length run - k = omega arith in
+      let i : length run - 1 - k ≡ length run - j = omega arith in
+      let d : drop (length run - j) run ≡ u ∷ drop (length run - k) run =
+      drop-cons run (length run - j) u (omega arith)
+      ∙ ap₂ (λ (y o : ℕ). y ∷ drop o run) (ap (λ (o : ℕ). get_or run o u) (sym i) ∙ sym (t.1 ∙ get_or-reverse run k u h)) n in
+      record { within = omega arith; is = rw (d, ← f.is, ← em) er }
 
 -- ---- an entry, read back
 module _ (c l : ℕ) (small : l ≤ 8193) where
@@ -204,14 +201,7 @@ module _ (tags values : List ℕ) (x : ℕ) (v : NormalView) (is : v ≡ normal_
         (rw (read-connective tags values x v is b e) (rw o at q ∙ run-counted tags values memo a.right b (operands_of tags values x) a.all))
         (λ c p. a.all) memo₀ a.kept memo' r n
 
-pub operands-all : (tags values : List ℕ) (x : ℕ) (memo₀ memo : List ℕ) → OperandsCounted tags values x memo₀ memo
-    → (run : List ℕ) → run ≡ operands_of tags values x → AllCounted memo run
-operands-all tags values x memo₀ memo a run o = rw o a.all
-
 -- ---- totals fit an entry
-pub one-fits : (t : code.Totals) → as_totals t ≡ one_literal → (t.clauses ≤ 8193) × (t.literals ≤ 8193)
-one-fits t e = (omega (arith, ap (λ (a : Totals). a.clauses) e), omega (arith, ap (λ (a : Totals). a.literals) e))
-
 pub run_fits : (b : Bool) (at : ℕ → Totals) (run : List ℕ) (t : code.Totals) → as_totals t ≡ run_totals b at run → (t.clauses ≤ 8193) × (t.literals ≤ 8193)
 unfolding run_totals
 run_fits b at [] t e = (omega (arith, ap (λ (a : Totals). a.clauses) e), omega (arith, ap (λ (a : Totals). a.literals) e))
@@ -223,39 +213,30 @@ pub record CountedTo (tags values run memo₀ memo : List ℕ) (i : ℕ) : Type 
   pub at : (j : ℕ) → j < i → 0 < get_or memo (get_or run j 0) 0
   pub kept : CountedKept memo₀ memo
 
-module _ (tags values memo₀ : List ℕ) (x : ℕ) (ask : AskOperands tags values memo₀ x) (run : List ℕ) (o : run ≡ operands_of tags values x) where
-  pub operands-start : CountedTo tags values run memo₀ memo₀ 0
-  operands-start = record { right = ask.right; at = λ j h. absurd (omega arith); kept = kept_same memo₀ }
+module _ (tags values memo₀ : List ℕ) (x : ℕ) (ask : AskOperands tags values memo₀ x) (run : List ℕ) (o : run ≡ operands_of tags values x)
+    (memo : List ℕ) (i : ℕ) (w : CountedTo tags values run memo₀ memo i)
+    (h : i < length run) where
+  operand-before : get_or run i 0 < x
+  operand-before = before_at x run (rw o ask.before) i h
 
-  module _ (memo : List ℕ) (i : ℕ) (w : CountedTo tags values run memo₀ memo i) where
-    pub operands_end : length run ≤ i → OperandsCounted tags values x memo₀ memo
-    operands_end h = let all : AllCounted memo run = record { at = λ j l. w.at j (omega arith) } in record { right = w.right; all = rw o at all; kept = w.kept }
+  -- m is the walk's measure at x
+  pub operand-falls : (m : ℕ) → x * 2 ≡ m → get_or run i 0 * 2 + 1 < m
+  operand-falls m q = omega (arith, operand-before)
 
-    module _ (h : i < length run) where
-      operand-before : get_or run i 0 < x
-      operand-before = before_at x run (rw o ask.before) i h
+  one_more : (memo' : List ℕ) → CountedKept memo memo' → 0 < get_or memo' (get_or run i 0) 0 → (j : ℕ) → j < i + 1 → 0 < get_or memo' (get_or run j 0) 0
+  one_more memo' kept here j l =
+      by-test (eqb j i)
+      (λ q. rw (eqb-true j i q) here)
+      (λ q. let n : j ≡ i → ⊥ = eqb-false j i q in kept.at _ (w.at j (omega arith)))
 
-      -- m is the walk's measure at x
-      pub operand-falls : (m : ℕ) → x * 2 ≡ m → get_or run i 0 * 2 + 1 < m
-      operand-falls m q = omega (arith, operand-before)
+  pub operand-counted : (memo' : List ℕ) (t : code.Totals) → TermCounted tags values (get_or run i 0) memo memo' t → CountedTo tags values run memo₀ memo' (i + 1)
+  operand-counted memo' t a = record {
+    right = a.right;
+    at = one_more memo' a.kept (a.here (omega (arith, operand-before, ask.within)));
+    kept = kept-both memo₀ memo memo' w.kept a.kept;
+  }
 
-      one_more : (memo' : List ℕ) → CountedKept memo memo' → 0 < get_or memo' (get_or run i 0) 0 → (j : ℕ) → j < i + 1 → 0 < get_or memo' (get_or run j 0) 0
-      one_more memo' kept here j l =
-          by-test (eqb j i)
-          (λ q. rw (eqb-true j i q) here)
-          (λ q. let n : j ≡ i → ⊥ = eqb-false j i q in kept.at _ (w.at j (omega arith)))
-
-      pub operand_known : (e : ℕ) → e ≡ get_or memo (get_or run i 0) 0 → (e ≡ 0 → ⊥) → CountedTo tags values run memo₀ memo (i + 1)
-      operand_known e p n = record { right = w.right; at = one_more memo (kept_same memo) (omega arith); kept = w.kept }
-
-      pub operand-counted : (memo' : List ℕ) (t : code.Totals) → TermCounted tags values (get_or run i 0) memo memo' t → CountedTo tags values run memo₀ memo' (i + 1)
-      operand-counted memo' t a = record {
-        right = a.right;
-        at = one_more memo' a.kept (a.here (omega (arith, operand-before, ask.within)));
-        kept = kept-both memo₀ memo memo' w.kept a.kept;
-      }
-
-pub ruleset walks = (term-literal, term-forall, term-connective, operands-start, operands_end, operand_known, operand-counted)
+pub ruleset walks = (term-literal, term-forall, term-connective, operand-counted)
 
 -- ---- a memo in which nothing is counted
 pub fresh : (tags values : List ℕ) (k : ℕ) → length tags ≤ k → Memo tags values (replicate k 0)

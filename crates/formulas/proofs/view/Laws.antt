@@ -1,13 +1,13 @@
 -- Laws of how a term is read, one for each way out of the code.
 -- Assumes nothing.
-use Prim.Native.Nat.{ℕ, ◌+◌, ◌≤◌, ◌<◌}
-use mathlib.Core.Path.{◌≡◌}
+use Prim.Native.Nat.{ℕ, ◌≤◌, ◌<◌}
+use mathlib.Core.Path.{◌≡◌, refl}
 use mathlib.Core.Bool.{Bool, true, false, not}
-use mathlib.Core.List.{List}
-use lib.ListN.{length, get_or, drop, drop_of_length-le}
-use lib.Seq.{drop-cons}
+use mathlib.Core.List.{List, [], ◌∷◌}
+use lib.ListN.{length, get_or}
 use native.Mathlib.Omega.{arith}
-use native.Mathlib.Numerals.{add-one}
+use lib.Dec.{ltb}
+use Rattle.std.specs.List.{list_all}
 use borrow.Author.Tests.{lt-ltb, le-ltb, eq-eqb, ne_eqb, not-true, not-false}
 use Rattle.cells.specs.Cell.{sort_of, operands_of}
 use Rattle.cells.specs.Place.{term_at}
@@ -17,22 +17,10 @@ use Rattle.formulas.specs.declared.view.View.{View}
 use Rattle.formulas.specs.declared.view.View.TheVariants.{Opaque, Not, AndOr, Implies, Ite, Iff, Quantifier}
 use Rattle.formulas.specs.declared.view.NormalView.TheVariants.{Literal, Connective, Forall}
 
--- w says whether the operands from i on stand before t
-module _ (w : Bool) (t : ℕ) (os : List ℕ) (i : ℕ) (inv : w ≡ all_before t (drop i os)) where
-  pub before-end : length os ≤ i → true ≡ w
-  unfolding all_before
-  before-end h = rw (inv, drop_of_length-le os h)
-
-  module _ (h : i < length os) where
-    pub before-not : t ≤ get_or os i 0 → false ≡ w
-    unfolding all_before
-    before-not l = rw (inv, drop-cons os i 0 h, le-ltb _ _ l)
-
-    pub before-next : get_or os i 0 < t → w ≡ all_before t (drop (i + 1) os)
-    unfolding all_before
-    before-next l = rw (inv, drop-cons os i 0 h, lt-ltb _ _ l, add-one i)
-
-pub ruleset befores = (before-end, before-not, before-next)
+pub all_before-all : (t : ℕ) (os : List ℕ) → all_before t os ≡ list_all (λ o. ltb o t) os
+unfolding all_before
+all_before-all t [] = refl
+all_before-all t (o ∷ os) = rw (all_before-all t os)
 
 module _ (values os : List ℕ) where
   pub equality-count : (length os ≡ 2 → ⊥) → Opaque ≡ equality values os

@@ -8,7 +8,7 @@ use Prim.Native.Nat.{ℕ, ◌≤◌, ◌<◌}
 use mathlib.Core.Path.{◌≡◌, refl, sym, ap, ap₂, ◌∙◌}
 use mathlib.Core.Bool.{Bool, true, false}
 use mathlib.Core.List.{List, [], ◌∷◌}
-use mathlib.Core.Option.{some, none}
+use Rattle.std.specs.Prelude.{Some, None}
 use lib.ListN.{length, get_or}
 use lib.Dec.{eqb}
 use native.Mathlib.Omega.{arith}
@@ -57,7 +57,7 @@ module _ {tags values rules : List ℕ} {n : ℕ} (c : Passed tags values rules 
   -- ---- forms
   pub record QuantifierBack (x : ℕ) (b : Bool) (vs : Vars) (t : Term) : Type 0 where
     pub q : Quantifier
-    pub found : quantifier tags values x ≡ some q
+    pub found : quantifier tags values x ≡ Some q
     pub kind : q.kind ≡ b
     pub list : vars_at tags values q.list ≡ vs
     pub body_is : tree tags values q.body ≡ t
@@ -68,7 +68,7 @@ module _ {tags values rules : List ℕ} {n : ℕ} (c : Passed tags values rules 
   unfolding head_tag quantifier
   quantifier-back x k b s vs t e = by_kind b (sym (head-tag x k) ∙ ap head_tag e) e
     where
-      is : (b : Bool) (q : Quantifier) → quantifier tags values x ≡ some q → tree tags values x ≡ quant b s vs t → QuantifierBack x b vs t
+      is : (b : Bool) (q : Quantifier) → quantifier tags values x ≡ Some q → tree tags values x ≡ quant b s vs t → QuantifierBack x b vs t
       is b q f e =
           let i = quantifier-tree c x k q f in
           let d : quant q.kind bool (vars_at tags values q.list) (tree tags values q.body) ≡ quant b s vs t = sym i.tree_is ∙ e in
@@ -80,7 +80,7 @@ module _ {tags values rules : List ℕ} {n : ℕ} (c : Passed tags values rules 
 
   pub record OperatorBack (tag x : ℕ) (ts : Terms) : Type 0 where
     pub os : List ℕ
-    pub found : operator tags values tag x ≡ some os
+    pub found : operator tags values tag x ≡ Some os
     pub terms : terms_of (tree tags values) os ≡ ts
     pub operands : AllTerms tags n os
 
@@ -88,14 +88,14 @@ module _ {tags values rules : List ℕ} {n : ℕ} (c : Passed tags values rules 
   unfolding operator head_tag
   operator-back tag x l m k s ts e =
       let z : get_or tags x 0 ≡ tag = sym (head-tag x k) ∙ ap head_tag e in
-      let f : operator tags values tag x ≡ some (operands_of tags values x) = rw (eq-eqb (get_or tags x 0) tag z) in
+      let f : operator tags values tag x ≡ Some (operands_of tags values x) = rw (eq-eqb (get_or tags x 0) tag z) in
       let i = operator-tree c tag x l m k (operands_of tags values x) f in
       let d : op tag i.sort (terms_of (tree tags values) (operands_of tags values x)) ≡ op tag s ts = sym i.tree_is ∙ e in
       record { os = operands_of tags values x; found = f; terms = cc; operands = i.operands }
 
   pub record TwoBack (tag x : ℕ) (l r : Term) : Type 0 where
     pub p : ℕ × ℕ
-    pub found : and_then (operator tags values tag x) two_of ≡ some p
+    pub found : and_then (operator tags values tag x) two_of ≡ Some p
     pub left_is : tree tags values p.0 ≡ l
     pub right_is : tree tags values p.1 ≡ r
     pub left : is_term tags n p.0 ≡ true
@@ -107,7 +107,7 @@ module _ {tags values rules : List ℕ} {n : ℕ} (c : Passed tags values rules 
       let o = operator-back tag x low high k s _ e in
       two o.os o.found o.terms o.operands
     where
-      two : (os : List ℕ) → operator tags values tag x ≡ some os → terms_of (tree tags values) os ≡ tcons l (tcons r tnil) → AllTerms tags n os → TwoBack tag x l r
+      two : (os : List ℕ) → operator tags values tag x ≡ Some os → terms_of (tree tags values) os ≡ tcons l (tcons r tnil) → AllTerms tags n os → TwoBack tag x l r
       two [] f d a = let z : ◌≡◌ {A = ℕ} 0 1 = cc in absurd (omega arith)
       two (u ∷ []) f d a = let z : ◌≡◌ {A = ℕ} 0 1 = cc in absurd (omega arith)
       two (u ∷ (v ∷ [])) f d a = record { p = (u, v); found = rw f refl; left_is = cc; right_is = cc; left = a.0; right = a.1.0 }
@@ -116,7 +116,7 @@ module _ {tags values rules : List ℕ} {n : ℕ} (c : Passed tags values rules 
   pub equality-back : (x : ℕ) → is_term tags n x ≡ true → (s : Sort) (l r : Term) → tree tags values x ≡ op 39 s (tcons l (tcons r tnil)) → TwoBack 39 x l r
   equality-back x k s l r e = two_back 39 x (omega arith) (omega arith) k s l r e
 
-  pub equality-found : (x : ℕ) (p : ℕ × ℕ) → and_then (operator tags values 39 x) two_of ≡ some p → equality tags values x ≡ some p
+  pub equality-found : (x : ℕ) (p : ℕ × ℕ) → and_then (operator tags values 39 x) two_of ≡ Some p → equality tags values x ≡ Some p
   unfolding equality
   equality-found x p e = e
 
@@ -150,7 +150,7 @@ module _ {tags values rules : List ℕ} {n : ℕ} (c : Passed tags values rules 
 
   -- ---- no variable of a list is free
   pub list-unfree-back : (t : ℕ) → is_term tags n t ≡ true → (as' : List Binding) → Sorted tags n as'
-      → Unfree (vars_at tags values as') (free (tree tags values t)) → first_of (binding_free tags values n t) as' ≡ none
+      → Unfree (vars_at tags values as') (free (tree tags values t)) → first_of (binding_free tags values n t) as' ≡ None
   list-unfree-back t k as' s u =
       first-is-none (binding_free tags values n t) as'
       (λ a m. binding-free c t k a (sorted-has tags n as' s a m) ∙ u (var_of tags values a) (has-at tags values as' a m))

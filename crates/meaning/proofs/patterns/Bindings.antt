@@ -10,7 +10,7 @@ use Prim.Native.Nat.{ℕ}
 use mathlib.Core.Path.{◌≡◌, refl, ap, ap₂}
 use mathlib.Core.Bool.{Bool, true, false, ◌||◌, or_assoc}
 use mathlib.Core.List.{List, [], ◌∷◌, ◌++◌}
-use mathlib.Core.Option.{some, none}
+use Rattle.std.specs.Prelude.{Some, None}
 use lib.Dec.{eqb}
 use native.Mathlib.Omega.{arith}
 use borrow.Author.Tests.{eqb-true, eq-eqb}
@@ -45,24 +45,24 @@ unfolding same_all
 list_same [] = refl
 list_same (a ∷ as') = rw (same_self a) (list_same as')
 
-pub first-none : (test : Binding → Bool) (as' : List Binding) → first_of test as' ≡ none → (a : Binding) → has as' a ≡ true → test a ≡ false
+pub first-none : (test : Binding → Bool) (as' : List Binding) → first_of test as' ≡ None → (a : Binding) → has as' a ≡ true → test a ≡ false
 unfolding first_of has
 first-none test [] e a h = cc
 first-none test (b ∷ bs) e a h =
-    by-test (test b) (λ o. let d : some b ≡ none = rw o at e in cc)
+    by-test (test b) (λ o. let d : Some b ≡ None = rw o at e in cc)
     (λ o. or_cases (same b a) (has bs a) h (λ s. rw (← binding-eq b a s) o) (λ r. first-none test bs (rw o at e) a r))
 
-pub first-is-none : (test : Binding → Bool) (as' : List Binding) → ((a : Binding) → has as' a ≡ true → test a ≡ false) → first_of test as' ≡ none
+pub first-is-none : (test : Binding → Bool) (as' : List Binding) → ((a : Binding) → has as' a ≡ true → test a ≡ false) → first_of test as' ≡ None
 unfolding first_of has
 first-is-none test [] h = refl
 first-is-none test (b ∷ bs) h = rw (h b (or_left (same b b) _ (same_self b))) (first-is-none test bs (λ a m. h a (or_right (same b a) _ m)))
 
-pub first_some : (test : Binding → Bool) (as' : List Binding) (a : Binding) → first_of test as' ≡ some a → (has as' a ≡ true) × (test a ≡ true)
+pub first_some : (test : Binding → Bool) (as' : List Binding) (a : Binding) → first_of test as' ≡ Some a → (has as' a ≡ true) × (test a ≡ true)
 unfolding first_of has
 first_some test [] a e = let z : ◌≡◌ {A = ℕ} 0 1 = cc in absurd (omega arith)
 first_some test (b ∷ bs) a e =
     by-test (test b)
-    (λ o. let d : some b ≡ some a = rw o at e in
+    (λ o. let d : Some b ≡ Some a = rw o at e in
     let z : b ≡ a = cc in
     (or_left (same b a) _ (rw z (same_self a)), rw (← z) o))
     (λ o. let (h, k) = first_some test bs a (rw o at e) in (or_right (same b a) _ h, k))

@@ -9,7 +9,7 @@ use Prim.Native.Nat.{ℕ, suc, ◌+◌, ◌≤◌, ◌<◌, ◌%◌}
 use mathlib.Core.Path.{◌≡◌, refl, sym, ap, ap₂, ◌∙◌}
 use mathlib.Core.Bool.{Bool, true, false}
 use mathlib.Core.List.{List, [], ◌∷◌, ◌++◌}
-use mathlib.Core.Option.{some, none}
+use Rattle.std.specs.Prelude.{Option, Some, None}
 use lib.ListN.{length, get_or, drop}
 use lib.Dec.{eqb, ltb}
 use native.Mathlib.Omega.{arith}
@@ -23,8 +23,6 @@ use Rattle.meaning.specs.Sort.{Sort, bool}
 use Rattle.meaning.specs.Term.{Var, Vars, quant, op, tnil, tcons, stated}
 use Rattle.meaning.specs.Tree.{sort_from, sort_tree, terms_of, term_from, tree}
 use Rattle.meaning.specs.FreeTree.{free, var_at}
-use Rattle.cells.specs.declared.Found.{Found}
-use Rattle.cells.specs.declared.Found.TheVariants.{At, Nothing}
 use Rattle.headers.specs.declared.well_formed.Shape.TheVariants.{Binder, Operator}
 use Rattle.headers.specs.declared.well_formed.CellKind.TheVariants.{OfSort, OfTerm}
 use Rattle.meaning.proofs.trees.Header.{both, Each, Described, sort-cell, term-cell, term-tagged}
@@ -95,18 +93,18 @@ module _ (tags values : List ℕ) (n : ℕ) where
     pub right : is_term tags n r ≡ true
 
 -- lists of so many
-pub one-are : (os : List ℕ) (a : ℕ) → one_of os ≡ some a → os ≡ a ∷ []
+pub one-are : (os : List ℕ) (a : ℕ) → one_of os ≡ Some a → os ≡ a ∷ []
 one-are [] a e = cc
 one-are (b ∷ []) a e = cc
 one-are (b ∷ (d ∷ os)) a e = cc
 
-pub two-are : (os : List ℕ) (p : ℕ × ℕ) → two_of os ≡ some p → os ≡ p.0 ∷ p.1 ∷ []
+pub two-are : (os : List ℕ) (p : ℕ × ℕ) → two_of os ≡ Some p → os ≡ p.0 ∷ p.1 ∷ []
 two-are [] p e = cc
 two-are (a ∷ []) p e = cc
 two-are (a ∷ (b ∷ [])) p e = cc
 two-are (a ∷ (b ∷ (d ∷ os))) p e = cc
 
-pub three-are : (os : List ℕ) (p : ℕ × ℕ × ℕ) → three_of os ≡ some p → os ≡ p.0 ∷ p.1 ∷ p.2 ∷ []
+pub three-are : (os : List ℕ) (p : ℕ × ℕ × ℕ) → three_of os ≡ Some p → os ≡ p.0 ∷ p.1 ∷ p.2 ∷ []
 three-are [] p e = cc
 three-are (a ∷ []) p e = cc
 three-are (a ∷ (b ∷ [])) p e = cc
@@ -192,16 +190,16 @@ module _ {tags values rules : List ℕ} {n : ℕ} (c : Passed tags values rules 
       late true = omega arith
       late false = omega arith
 
-  pub quantifier-tree : (x : ℕ) → is_term tags n x ≡ true → (q : Quantifier) → quantifier tags values x ≡ some q → IsQuantifier tags values n x q
+  pub quantifier-tree : (x : ℕ) → is_term tags n x ≡ true → (q : Quantifier) → quantifier tags values x ≡ Some q → IsQuantifier tags values n x q
   unfolding quantifier
   quantifier-tree x t q e =
       by-test (eqb (get_or tags x 0) 23)
       (λ o. is true (eqb-true _ 23 o) (rw o at e))
       (λ o. by-test (eqb (get_or tags x 0) 24)
       (λ p. is false (eqb-true _ 24 p) (rw (o, p) at e))
-      (λ p. let d : none ≡ some q = rw (o, p) at e in let z : ◌≡◌ {A = ℕ} 0 1 = cc in absurd (omega arith)))
+      (λ p. let d : None ≡ Some q = rw (o, p) at e in let z : ◌≡◌ {A = ℕ} 0 1 = cc in absurd (omega arith)))
     where
-      is : (b : Bool) → get_or tags x 0 ≡ quantifier_tag b → some (of_run b (operands_of tags values x)) ≡ some q → IsQuantifier tags values n x q
+      is : (b : Bool) → get_or tags x 0 ≡ quantifier_tag b → Some (of_run b (operands_of tags values x)) ≡ Some q → IsQuantifier tags values n x q
       is b k d = let z : of_run b (operands_of tags values x) ≡ q = cc in rw z at (quantifier-at b x t k)
 
   -- ---- operators
@@ -211,7 +209,7 @@ module _ {tags values rules : List ℕ} {n : ℕ} (c : Passed tags values rules 
   all-terms x j (u ∷ cs) h l f =
       (is-term x u h (term-cell tags x u (rw (not_first OfSort OfTerm j l) at f.0)), all-terms x (suc j) cs h (omega arith) f.1)
 
-  pub operator-tree : (tag x : ℕ) → 32 ≤ tag → tag < 167 → is_term tags n x ≡ true → (os : List ℕ) → operator tags values tag x ≡ some os
+  pub operator-tree : (tag x : ℕ) → 32 ≤ tag → tag < 167 → is_term tags n x ≡ true → (os : List ℕ) → operator tags values tag x ≡ Some os
       → IsOperator tags values n tag x os
   unfolding operator count_fits
   operator-tree tag x l m t os e =
@@ -229,7 +227,7 @@ module _ {tags values rules : List ℕ} {n : ℕ} (c : Passed tags values rules 
             (cells_of values x) (leb-true 1 _ (rw shape at (here x t).count)) (rw shape at (here x t).each-cell));
       }
 
-  pub equality-tree : (x : ℕ) → is_term tags n x ≡ true → (p : ℕ × ℕ) → equality tags values x ≡ some p → IsEquality tags values n x p.0 p.1
+  pub equality-tree : (x : ℕ) → is_term tags n x ≡ true → (p : ℕ × ℕ) → equality tags values x ≡ Some p → IsEquality tags values n x p.0 p.1
   unfolding equality terms_of
   equality-tree x t p e =
       then_some (operator tags values 39 x) two_of p e λ os e₁ e₂.
@@ -254,7 +252,7 @@ module _ {tags values rules : List ℕ} {n : ℕ} (c : Passed tags values rules 
         cells : List ℕ
         cells = a.sort ∷ a.name ∷ []
 
-        at : (v : ℕ) → find tags values n 21 cells ≡ At v → var_at tags values v ≡ var_of tags values a
+        at : (v : ℕ) → find tags values n 21 cells ≡ Some v → var_at tags values v ≡ var_of tags values a
         at v e =
             let (l, tag, same-cells) = found_at c 21 cells v e in
             let both-cells = sym (cells-of-var c v l tag) ∙ same-cells in
@@ -262,7 +260,7 @@ module _ {tags values rules : List ℕ} {n : ℕ} (c : Passed tags values rules 
             let q : get_or values (v + 2) 0 ≡ a.name = cc in
             λ i. record { name = q i; sort = sort_tree tags values (p i) }
 
-        nowhere : find tags values n 21 cells ≡ Nothing → free (tree tags values t) (var_of tags values a) ≡ true → ⊥
+        nowhere : find tags values n 21 cells ≡ None → free (tree tags values t) (var_of tags values a) ≡ true → ⊥
         nowhere e f =
             let w = free-stands c (var_of tags values a) t (below t k) (tagged t k) f in
             let (l, m) = sort-place-of c w.place w.below (var-tag _ w.tag) in
@@ -272,14 +270,14 @@ module _ {tags values rules : List ℕ} {n : ℕ} (c : Passed tags values rules 
             found_none c 21 cells e w.place w.below (λ z. omega arith) w.tag
             (cells-of-var c w.place w.below w.tag ∙ ap₂ (λ (a b : ℕ). a ∷ b ∷ []) p q)
 
-        found : (f : Found) → find tags values n 21 cells ≡ f → free_at tags values t f ≡ free (tree tags values t) (var_of tags values a)
-        found (At v) e =
+        found : (f : Option ℕ) → find tags values n 21 cells ≡ f → free_at tags values t f ≡ free (tree tags values t) (var_of tags values a)
+        found (Some v) e =
             let (l, tag, same-cells) = found_at c 21 cells v e in
             free-of-tree c v l tag t (below t k) (tagged t k) ∙ ap (free (tree tags values t)) (at v e)
-        found Nothing e = bool_cases (free (tree tags values t) (var_of tags values a)) (λ f. absurd (nowhere e f)) (λ f. sym f)
+        found None e = bool_cases (free (tree tags values t) (var_of tags values a)) (λ f. absurd (nowhere e f)) (λ f. sym f)
 
     -- no pair of a list is free in the term
-    pub list-unfree : (as' : List Binding) → Sorted tags n as' → first_of (binding_free tags values n t) as' ≡ none
+    pub list-unfree : (as' : List Binding) → Sorted tags n as' → first_of (binding_free tags values n t) as' ≡ None
         → Unfree (vars_at tags values as') (free (tree tags values t))
     list-unfree as' s e v h =
         has-pair tags values as' v h

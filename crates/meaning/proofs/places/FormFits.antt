@@ -1,6 +1,7 @@
 -- The formula of a term of a pool that passes check 14 names places of terms, and its binding lists are pairs of a name and a place of a
 -- sort; so does its normal form.
 -- Assumes nothing.
+use Rattle.std.specs.Prelude.{None}
 use Prim.Native.Nat.{ℕ, zero, suc, ◌≤◌, ◌<◌, ◌%◌}
 use mathlib.Core.Path.{◌≡◌, refl}
 use mathlib.Core.Bool.{Bool, true, false, not, cond}
@@ -12,7 +13,6 @@ use borrow.Author.Tests.{lt-ltb, le-ltb, eqb-true, leb-true}
 use Rattle.cells.specs.ByPlace.{by_place-is}
 use Rattle.cells.specs.Place.{term_at}
 use Rattle.cells.specs.Cell.{cells_of, sort_of, operands_of}
-use Rattle.cells.specs.declared.Found.TheVariants.{Nothing}
 use Rattle.headers.specs.WellFormed.{shape_of, count_fits, kind_at, pair_kind, is_term_tag, value_fits, first_bad}
 use Rattle.headers.specs.declared.well_formed.Shape.{Shape}
 use Rattle.headers.specs.declared.well_formed.Shape.TheVariants.{Binder, Operator}
@@ -187,7 +187,7 @@ module _ (tags values : List ℕ) (t : ℕ) where
     by-view (Iff u v) os a = (fits u.0 a.0, fits v.0 a.1)
     by-view (Quantifier b body) os a = let h = here.0 in ((a.1.0, each_more tags t n (omega arith) Binder 2 (drop 1 os) a.1.1), fits body.0 a.0)
 
-module _ (tags values : List ℕ) (n : ℕ) (whole : n ≤ length values) (formed : first_bad tags values n ≡ Nothing) where
+module _ (tags values : List ℕ) (n : ℕ) (whole : n ≤ length values) (formed : first_bad tags values n ≡ None) where
   view-seen : (t : ℕ) → IsTerm tags n t → Seen tags values t (view_of tags values t) (operands_of tags values t)
   unfolding view_of operands_of
   view-seen t (h, k) =

@@ -4,6 +4,7 @@
 -- `=` is read as a connective where its left states the sort at place 0, and of a tree where the left states Bool: Bool stands at place 0
 -- alone.
 -- Assumes nothing.
+use Rattle.std.specs.Prelude.{None}
 use Prim.Native.Nat.{ℕ, zero, suc, ◌≤◌, ◌<◌}
 use mathlib.Core.Path.{◌≡◌, refl, ap, ap₂, sym, ◌∙◌}
 use mathlib.Core.Bool.{Bool, true, false, not, cond, decide}
@@ -16,7 +17,6 @@ use Rattle.cells.specs.ByPlace.{by_place-is}
 use Rattle.cells.specs.Place.{term_at}
 use Rattle.cells.specs.Cell.{cells_of, sort_of, operands_of}
 use Rattle.cells.specs.Headers.{first_header}
-use Rattle.cells.specs.declared.Found.TheVariants.{Nothing}
 use Rattle.headers.specs.WellFormed.{shape_of, count_fits, kind_at, pair_kind, is_sort_tag, is_term_tag, bool_first, header_fits, first_bad}
 use Rattle.headers.specs.declared.well_formed.Shape.TheVariants.{Operator}
 use Rattle.meaning.specs.Sort.{Sort-discrete, bool}
@@ -55,16 +55,16 @@ decides true (no n) f g = absurd (n (f refl))
 decides false (no n) f g = refl
 
 -- "Cell 0 is the sort Bool."
-pub first-bool : (tags values : List ℕ) (n : ℕ) → first_bad tags values n ≡ Nothing → 0 < n → get_or tags 0 0 ≡ 1
+pub first-bool : (tags values : List ℕ) (n : ℕ) → first_bad tags values n ≡ None → 0 < n → get_or tags 0 0 ≡ 1
 unfolding first_bad first_header header_fits bool_first
 first-bool tags values n formed h = eqb-true _ 1 (both (eqb (get_or tags 0 0) 1) _ (not-false _ (passes values n (λ p. not (header_fits tags values n p)) 0 h formed))).0
 
-module _ (tags values : List ℕ) (n : ℕ) (whole : n ≤ length values) (formed : first_bad tags values n ≡ Nothing) where
+module _ (tags values : List ℕ) (n : ℕ) (whole : n ≤ length values) (formed : first_bad tags values n ≡ None) where
   pub bool-tree : (s : ℕ) → s < n → get_or tags s 0 ≡ 1 → sort_tree tags values s ≡ bool
   unfolding sort_from is_sort_tag
   bool-tree s h e = rw (sort-is tags values n whole formed s h (rw e), e)
 
-module _ (tags values : List ℕ) (n : ℕ) (whole : n ≤ length values) (formed : first_bad tags values n ≡ Nothing)
+module _ (tags values : List ℕ) (n : ℕ) (whole : n ≤ length values) (formed : first_bad tags values n ≡ None)
     (one_bool : (s : ℕ) → s < n → get_or tags s 0 ≡ 1 → s ≡ 0) where
   -- a term states the sort at place 0 exactly where it states Bool
   left_is : (u : ℕ) → u < n → is_term_tag (get_or tags u 0) ≡ true → eqb (sort_of values u) 0 ≡ decide (Sort-discrete (stated (tree tags values u)) bool)

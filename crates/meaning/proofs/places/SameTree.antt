@@ -4,6 +4,7 @@
 --     every-same      a test at every position of a range, where two tests agree
 --     made-same       a tag and cells make the same term where the sorts and terms that the cells name have the same trees
 -- Assumes nothing.
+use Rattle.std.specs.Prelude.{None}
 use Prim.Native.Nat.{ℕ, zero, suc, ◌+◌, ◌-◌, ◌≤◌, ◌<◌, ◌%◌}
 use mathlib.Core.Path.{◌≡◌, refl, sym, ap, ap₂, ◌∙◌}
 use mathlib.Core.Bool.{Bool, true, false, not, ◌&&◌, cond}
@@ -16,7 +17,6 @@ use Rattle.cells.specs.Bounded.{every_in, every}
 use Rattle.cells.specs.ByPlace.{by-test, by_place-is}
 use Rattle.cells.specs.Cell.{cells_of, is_at}
 use Rattle.cells.specs.Headers.{first_from}
-use Rattle.cells.specs.declared.Found.TheVariants.{Nothing}
 use Rattle.cells.proofs.Cells.{same_refl, same-eq}
 use Rattle.headers.specs.WellFormed.{shape_of, count_fits, kind_at, pair_kind, is_sort_tag, is_term_tag, value_fits, cell_fits, bool_first, header_fits, first_bad}
 use Rattle.headers.specs.declared.well_formed.Shape.{Shape}
@@ -166,8 +166,8 @@ module _ (n : ℕ) (tags values tags' values' : List ℕ) (s : Same n tags value
               (λ i l. cell-kept (shape_of (get_or tags p 0)) i (omega arith)),
         )
 
-  module _ (formed : first_bad tags values n ≡ Nothing) where
-    pub formed-kept : (n' : ℕ) → n ≤ n' → first_from values' n' (λ p. not (header_fits tags' values' n' p)) n ≡ Nothing → first_bad tags' values' n' ≡ Nothing
+  module _ (formed : first_bad tags values n ≡ None) where
+    pub formed-kept : (n' : ℕ) → n ≤ n' → first_from values' n' (λ p. not (header_fits tags' values' n' p)) n ≡ None → first_bad tags' values' n' ≡ None
     unfolding first_bad
     formed-kept n' g after =
         header-grown values n values' n' g s.values_same (λ p. not (header_fits tags values n p)) (λ p. not (header_fits tags' values' n' p))

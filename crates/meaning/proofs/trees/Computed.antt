@@ -1,11 +1,11 @@
--- A sort that `compute_sort` gives, as a tree: in a pool that passes checks 14 and 15, the sort at a place is the computed one exactly where
--- its tree is.
+-- A sort that `compute_sort` gives, as a tree: in a pool that passes checks 14 and 15, the sort at a place is the computed one exactly
+-- where its tree is.
 -- Assumes nothing.
 use Prim.Native.Nat.{ℕ, ◌+◌, ◌≤◌}
 use mathlib.Core.Path.{◌≡◌, refl, sym, ap, ◌∙◌}
 use mathlib.Core.Bool.{Bool, true, false, cond}
 use mathlib.Core.List.{List, [], ◌∷◌}
-use mathlib.Core.Option.{Option, none, some}
+use Rattle.std.specs.Prelude.{Option, None, Some}
 use lib.ListN.{length, get_or}
 use lib.Dec.{eqb}
 use borrow.Author.Tests.{eqb-true, eq-eqb}
@@ -16,7 +16,6 @@ use Rattle.meaning.specs.Sort.{Sort, set, tuple}
 use Rattle.sorts.specs.SortRule.{Computed, place, made, relation, no_answer, is_sort}
 use Rattle.meaning.specs.SortTree.{form_of, part}
 use Rattle.meaning.specs.Tree.{sorts_of, sort_from, sort_tree}
-use Rattle.cells.specs.declared.Found.TheVariants.{Nothing}
 use Rattle.cells.proofs.Cells.{same_refl, same-eq}
 use Rattle.meaning.proofs.trees.Header.{both, Each}
 use Rattle.meaning.proofs.trees.Sorts.{sort-is, sort-one, made_one}
@@ -25,10 +24,10 @@ use Rattle.meaning.proofs.trees.Forms.{IsSort, AllSorts, sorts-fit, tag_of, set_
 module _ (tags values : List ℕ) (n : ℕ) where
   -- the computed sort as a tree
   abbrev pub answer : Computed → Option Sort
-  answer (place q) = some (sort_tree tags values q)
-  answer (made k cells) = some (sort_from k cells (sort_tree tags values))
-  answer (relation cells) = some (set (tuple (sorts_of (sort_tree tags values) cells)))
-  answer no_answer = none
+  answer (place q) = Some (sort_tree tags values q)
+  answer (made k cells) = Some (sort_from k cells (sort_tree tags values))
+  answer (relation cells) = Some (set (tuple (sorts_of (sort_tree tags values) cells)))
+  answer no_answer = None
 
   -- its parts are places of sorts, and it has as many as its tag demands
   abbrev pub Right : Computed → Type 0
@@ -57,24 +56,24 @@ module _ (tags values : List ℕ) (n : ℕ) where
   unfolding is_at
   true-at p k cells e f = rw (eq-eqb _ _ e, f, same_refl)
 
-  module _ (whole : n ≤ length values) (formed : first_bad tags values n ≡ Nothing) where
+  module _ (whole : n ≤ length values) (formed : first_bad tags values n ≡ None) where
     sort-at : (s k : ℕ) (cells : List ℕ) → IsSort tags n s → is_at tags values s k cells ≡ true → sort_from k cells (sort_tree tags values) ≡ sort_tree tags values s
     sort-at s k cells (h, l) e =
         let (a, b) = at_true s k cells e in
         rw (sort-is tags values n whole formed s h l, a, b)
 
-    pub tree_of : (s : ℕ) → IsSort tags n s → (c : Computed) → is_sort tags values s c ≡ true → answer c ≡ some (sort_tree tags values s)
+    pub tree_of : (s : ℕ) → IsSort tags n s → (c : Computed) → is_sort tags values s c ≡ true → answer c ≡ Some (sort_tree tags values s)
     unfolding is_sort sort_from
-    tree_of s is (place q) e = ap (λ (x : ℕ). some (sort_tree tags values x)) (sym (eqb-true s q e))
-    tree_of s is (made k cells) e = ap some (sort-at s k cells is e)
+    tree_of s is (place q) e = ap (λ (x : ℕ). Some (sort_tree tags values x)) (sym (eqb-true s q e))
+    tree_of s is (made k cells) e = ap Some (sort-at s k cells is e)
     tree_of s is (relation cells) e =
         let (a, b) = both (is_at tags values s 12 (get_or values (s + 1) 0 ∷ [])) _ e in
         let (p, q, c) = set_at tags values n whole formed s is (at_true s 12 _ a).0 in
-        ap some (ap set (sort-at (get_or values (s + 1) 0) 13 cells q b) ∙ sort-at s 12 (get_or values (s + 1) 0 ∷ []) is a)
+        ap Some (ap set (sort-at (get_or values (s + 1) 0) 13 cells q b) ∙ sort-at s 12 (get_or values (s + 1) 0 ∷ []) is a)
     tree_of s is no_answer e = cc
 
-    module _ (single : first_repeat tags values n ≡ Nothing) where
-      pub of_tree : (s : ℕ) → IsSort tags n s → (c : Computed) → Right c → answer c ≡ some (sort_tree tags values s) → is_sort tags values s c ≡ true
+    module _ (single : first_repeat tags values n ≡ None) where
+      pub of_tree : (s : ℕ) → IsSort tags n s → (c : Computed) → Right c → answer c ≡ Some (sort_tree tags values s) → is_sort tags values s c ≡ true
       unfolding is_sort sort_from form_of is_sort_tag shape_of count_fits
       of_tree s is (place q) r e = eq-eqb s q (sort-one tags values n whole formed single s q is.0 r.0 is.1 r.1 (cc))
       of_tree s is (made k cells) r e =

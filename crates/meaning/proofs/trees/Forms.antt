@@ -1,5 +1,7 @@
--- The sort at a place taken apart, in a pool that passes check 14: its tag, its width and the sorts that it is applied to are those of its cells.
+-- The sort at a place taken apart, in a pool that passes check 14: its tag, its width and the sorts that it is applied to are those of its
+-- cells.
 -- Assumes nothing.
+use Rattle.std.specs.Prelude.{None}
 use Prim.Native.Nat.{ℕ, suc, ◌+◌, ◌≤◌, ◌<◌}
 use mathlib.Core.Path.{◌≡◌, refl, ap, ◌∙◌}
 use mathlib.Core.Bool.{true}
@@ -13,7 +15,6 @@ use Rattle.headers.specs.WellFormed.{shape_of, count_fits, kind_at, value_fits, 
 use Rattle.meaning.specs.Sort.{Sort, scons}
 use Rattle.meaning.specs.Tree.{sorts_of, sort_from, sort_tree}
 use Rattle.meaning.specs.SortTree.{entries, sorts_from, form_of, part}
-use Rattle.cells.specs.declared.Found.TheVariants.{Nothing}
 use Rattle.headers.specs.declared.well_formed.Shape.TheVariants.{Sorts as SortList}
 use Rattle.headers.specs.declared.well_formed.CellKind.TheVariants.{OfSort}
 use Rattle.meaning.proofs.trees.Header.{Each, Header, header, cells-length, described, sort-cell, sort-tagged}
@@ -67,7 +68,7 @@ unfolding cells_of
 cell_at values p j l = rw (get_or-take, get_or-drop)
 
 -- ---- the sort at s
-module _ (tags values : List ℕ) (n : ℕ) (whole : n ≤ length values) (formed : first_bad tags values n ≡ Nothing) where
+module _ (tags values : List ℕ) (n : ℕ) (whole : n ≤ length values) (formed : first_bad tags values n ≡ None) where
   module _ (s : ℕ) (is : IsSort tags n s) where
     fits : Header tags values n s
     fits = header tags values n s (place-fits tags values n formed s is.0 (sort-tagged _ is.1))

@@ -1,6 +1,7 @@
 -- Free variables by place are those of the tree: for a pool that passes checks 14 and 15, a variable's place v and a term's place t,
 -- `is_free tags values v t` says whether the variable at v is free in the tree at t.
 -- Assumes nothing.
+use Rattle.std.specs.Prelude.{None}
 use Prim.Native.Nat.{ℕ, zero, suc, ◌+◌, ◌≤◌, ◌<◌, ◌%◌}
 use mathlib.Core.Path.{◌≡◌, refl, sym, ap, ap₂, ◌∙◌}
 use mathlib.Core.Bool.{Bool, true, false, not, ◌&&◌, ◌||◌, cond}
@@ -17,7 +18,6 @@ use Rattle.free_variables.specs.Free.{pair_in, bound_by, let_binds, any_of, valu
 use Rattle.meaning.specs.Term.{Var, Var-discrete, var}
 use Rattle.meaning.specs.Tree.{sort_tree, vars_of, terms_of, lets_of, term_from, tree}
 use Rattle.meaning.specs.FreeTree.{is_yes, same, has, let_vars, free, frees, free_values, var_at}
-use Rattle.cells.specs.declared.Found.TheVariants.{Nothing}
 use Rattle.headers.specs.declared.well_formed.Shape.{Shape}
 use Rattle.headers.specs.declared.well_formed.Shape.TheVariants.{Application, Binder, Let, Operator}
 use Rattle.headers.specs.declared.well_formed.CellKind.TheVariants.{OfSort, OfTerm}
@@ -55,7 +55,7 @@ module _ (values : List ℕ) (v : ℕ) (rec : ℕ → Bool) where
   unfolding free_step below operands_of
   step_is tags t = by-test (ltb (get_or tags t 0) 22) (λ e. rw e) (λ e. rw e)
 
-module _ (tags values : List ℕ) (n : ℕ) (whole : n ≤ length values) (formed : first_bad tags values n ≡ Nothing) (single : first_repeat tags values n ≡ Nothing)
+module _ (tags values : List ℕ) (n : ℕ) (whole : n ≤ length values) (formed : first_bad tags values n ≡ None) (single : first_repeat tags values n ≡ None)
     (v : ℕ) (hv : v < n) (is_var : get_or tags v 0 ≡ 21) where
   -- a pair of the variable's name and sort
   pair_same : (a s : ℕ) → s < n → is_sort_tag (get_or tags s 0) ≡ true

@@ -5,6 +5,7 @@
 --     list-starts          no place in the list is 0, so that a list that is written before zeroes ends at its first 0
 --     list-fits            the list has at most n places
 -- Assumes nothing.
+use Rattle.std.specs.Prelude.{None}
 use Prim.Native.Nat.{ℕ, zero, suc, ◌≤◌, ◌<◌, ◌%◌}
 use mathlib.Core.Path.{◌≡◌, refl, sym, ap, ap₂, ◌∙◌}
 use mathlib.Core.Bool.{Bool, true, cond}
@@ -25,7 +26,6 @@ use Rattle.meaning.specs.Term.{Var, Vars, Term}
 use Rattle.meaning.specs.Tree.{sort_tree, vars_of, terms_of, lets_of, term_from, tree}
 use Rattle.meaning.specs.FreeTree.{same, has, let_vars, free, var_at}
 use Rattle.meaning.specs.Occurrences.{occurrences, occurrences_of, occurrences_in, appearing}
-use Rattle.cells.specs.declared.Found.TheVariants.{Nothing}
 use Rattle.headers.specs.declared.well_formed.Shape.{Shape}
 use Rattle.headers.specs.declared.well_formed.Shape.TheVariants.{Application, Binder, Let, Operator}
 use Rattle.headers.specs.declared.well_formed.CellKind.TheVariants.{OfTerm}
@@ -86,7 +86,7 @@ module _ (tags values : List ℕ) (n : ℕ) where
   agrees-without test vs is {ps} a =
       record { places = all-leave_out test (has vs) is ps a.places; vars = map-leave_out test (has vs) is ps a.places ∙ ap (leave_out (has vs)) a.vars }
 
-module _ (tags values : List ℕ) (n : ℕ) (whole : n ≤ length values) (formed : first_bad tags values n ≡ Nothing) (single : first_repeat tags values n ≡ Nothing) where
+module _ (tags values : List ℕ) (n : ℕ) (whole : n ≤ length values) (formed : first_bad tags values n ≡ None) (single : first_repeat tags values n ≡ None) where
   abbrev Agree : List ℕ → Vars → Type 0
   Agree ps xs = Agrees tags values n ps xs
 

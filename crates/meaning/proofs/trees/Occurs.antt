@@ -14,7 +14,7 @@ use Rattle.headers.specs.WellFormed.{shape_of, count_fits, kind_at, pair_kind, v
 use Rattle.meaning.specs.Term.{Var, Vars, Var-discrete}
 use Rattle.meaning.specs.Tree.{sort_tree, vars_of, terms_of, lets_of, term_from, tree}
 use Rattle.meaning.specs.FreeTree.{is_yes, same, has, let_vars, free, frees, free_values, var_at}
-use Rattle.cells.specs.declared.Found.TheVariants.{Nothing}
+use Rattle.std.specs.Prelude.{None}
 use Rattle.headers.specs.declared.well_formed.Shape.{Shape}
 use Rattle.headers.specs.declared.well_formed.Shape.TheVariants.{Application, Let, Operator}
 use Rattle.headers.specs.declared.well_formed.CellKind.TheVariants.{OfTerm}
@@ -40,7 +40,7 @@ unfolding is_yes
 same-yes (yes a) e = a
 same-yes (no n) e = never e
 
-module _ (tags values : List ℕ) (n : ℕ) (whole : n ≤ length values) (formed : first_bad tags values n ≡ Nothing) (v : Var) where
+module _ (tags values : List ℕ) (n : ℕ) (whole : n ≤ length values) (formed : first_bad tags values n ≡ None) (v : Var) where
   abbrev Found : Type 0
   Found = Stands tags values n v
 

@@ -3,9 +3,9 @@
 use Prim.Native.Nat.{ℕ, ◌+◌, ◌≤◌, ◌<◌}
 use mathlib.Core.Path.{◌≡◌, refl, sym, ap, ap₂}
 use mathlib.Core.Bool.{Bool, true, false, ◌||◌, cond}
-use mathlib.Core.List.{List, [], ◌∷◌, map, get_last?}
-use mathlib.Core.Option.{none, some}
-use lib.ListN.{length, get_or, drop, get_elem?}
+use mathlib.Core.List.{List, [], ◌∷◌, map}
+use Rattle.std.specs.Prelude.{None, Some, slice_get}
+use lib.ListN.{length, get_or, drop}
 use lib.Dec.{ltb, eqb}
 use native.Mathlib.Omega.{arith}
 use borrow.Author.Tests.{eqb-true}
@@ -14,8 +14,7 @@ use Rattle.headers.specs.WellFormed.{shape_of, count_fits, kind_at, value_fits, 
 use Rattle.meaning.specs.Sort.{Sort, int, real, param_bit_vec, bit_vec, tuple}
 use Rattle.sorts.specs.SortRule.{made, no_answer, first_sort, last_sort, sort_tag, any_real, selected, bit_vector, concat_from, rare_list, singleton}
 use Rattle.meaning.specs.Tree.{sort_from, sort_tree, terms_of, tree}
-use Rattle.meaning.specs.SortTree.{sorts_from, form_of, stated_sorts, any_real_sort, select_sort, bit_vector_sort, concat_sort, rare_list_sort, singleton_sort}
-use Rattle.cells.specs.declared.Found.TheVariants.{Nothing}
+use Rattle.meaning.specs.SortTree.{last_of, sorts_from, form_of, stated_sorts, any_real_sort, select_sort, bit_vector_sort, concat_sort, rare_list_sort, singleton_sort}
 use Rattle.meaning.proofs.trees.Stated.{sort-place, stated-is}
 use Rattle.meaning.proofs.trees.Forms.{sorts-are, IsSort, AllSorts, sort-fits, sorts-fit, tag_of, width_of, array_at}
 use Rattle.meaning.proofs.trees.Computed.{Gives, gives-cond}
@@ -36,7 +35,7 @@ Stated tags values n os = AllSorts tags n (map (sort_of values) os)
 abbrev pub sorts_at : List ℕ → List ℕ → List ℕ → List Sort
 sorts_at tags values os = map (sort_tree tags values) (map (sort_of values) os)
 
-module _ (tags values : List ℕ) (n : ℕ) (whole : n ≤ length values) (formed : first_bad tags values n ≡ Nothing) where
+module _ (tags values : List ℕ) (n : ℕ) (whole : n ≤ length values) (formed : first_bad tags values n ≡ None) where
   -- ---- operands
   pub stated-at : (o : ℕ) → IsTerm tags n o → IsSort tags n (sort_of values o)
   stated-at o (h, k) = let (l, m) = sort-place tags values n whole formed o h k in (omega arith, m)
@@ -55,24 +54,24 @@ module _ (tags values : List ℕ) (n : ℕ) (whole : n ≤ length values) (forme
   test-tag q k is = ap (λ (x : ℕ). eqb x k) (sym (tag_of tags values n whole formed q is))
 
   -- ---- one operand's sort
-  pub first_gives : (os : List ℕ) → Stated tags values n os → Gives tags values n (first_sort values os) (get_elem? (sorts_at tags values os) 0)
+  pub first_gives : (os : List ℕ) → Stated tags values n os → Gives tags values n (first_sort values os) (slice_get (sorts_at tags values os) 0)
   unfolding first_sort
   first_gives [] a = (refl, tt)
   first_gives (o ∷ os) a = (refl, a.0)
 
-  pub second-gives : (os : List ℕ) → Stated tags values n os → Gives tags values n (first_sort values (drop 1 os)) (get_elem? (sorts_at tags values os) 1)
+  pub second-gives : (os : List ℕ) → Stated tags values n os → Gives tags values n (first_sort values (drop 1 os)) (slice_get (sorts_at tags values os) 1)
   unfolding first_sort
   second-gives [] a = (refl, tt)
   second-gives (o ∷ []) a = (refl, tt)
   second-gives (o ∷ (p ∷ os)) a = (refl, a.1.0)
 
-  pub last-gives : (os : List ℕ) → Stated tags values n os → Gives tags values n (last_sort values os) (get_last? (sorts_at tags values os))
+  pub last-gives : (os : List ℕ) → Stated tags values n os → Gives tags values n (last_sort values os) (last_of (sorts_at tags values os))
   unfolding last_sort
   last-gives [] a = (refl, tt)
   last-gives (o ∷ []) a = (refl, a.0)
   last-gives (o ∷ (p ∷ os)) a = last-gives (p ∷ os) a.1
 
-  pub rare-gives : (os : List ℕ) → Stated tags values n os → Gives tags values n (rare_list values os) (some (rare_list_sort (sorts_at tags values os)))
+  pub rare-gives : (os : List ℕ) → Stated tags values n os → Gives tags values n (rare_list values os) (Some (rare_list_sort (sorts_at tags values os)))
   unfolding rare_list rare_list_sort sort_from is_sort_tag shape_of count_fits value_fits kind_at
   rare-gives [] a = (refl, (refl, refl, (refl, tt)))
   rare-gives (o ∷ os) a = (refl, a.0)
@@ -87,7 +86,7 @@ module _ (tags values : List ℕ) (n : ℕ) (whole : n ≤ length values) (forme
   select_gives [] a = (refl, tt)
   select_gives (o ∷ os) a =
       gives-cond tags values n _ _ _ _ _ _ (test-tag (sort_of values o) 11 a.0)
-      (λ e. let (p, i) = array_at tags values n whole formed (sort_of values o) a.0 (eqb-true _ _ e) in (ap some (sym p), i))
+      (λ e. let (p, i) = array_at tags values n whole formed (sort_of values o) a.0 (eqb-true _ _ e) in (ap Some (sym p), i))
       (λ e. (refl, tt))
 
   -- ---- all operands' sorts
@@ -96,16 +95,16 @@ module _ (tags values : List ℕ) (n : ℕ) (whole : n ≤ length values) (forme
   any-real [] a = refl
   any-real (o ∷ os) a = ap₂ ◌||◌ (test-tag (sort_of values o) 3 a.0) (any-real os a.1)
 
-  pub arithmetic-gives : (b c : Bool) → b ≡ c → Gives tags values n (made (cond b 3 2) []) (some (cond c real int))
+  pub arithmetic-gives : (b c : Bool) → b ≡ c → Gives tags values n (made (cond b 3 2) []) (Some (cond c real int))
   unfolding sort_from is_sort_tag shape_of count_fits
   arithmetic-gives true c e = rw (← e) (refl, (refl, refl, tt))
   arithmetic-gives false c e = rw (← e) (refl, (refl, refl, tt))
 
-  pub param-gives : Gives tags values n (made 6 []) (some param_bit_vec)
+  pub param-gives : Gives tags values n (made 6 []) (Some param_bit_vec)
   unfolding sort_from is_sort_tag shape_of count_fits
   param-gives = (refl, (refl, refl, tt))
 
-  pub bits-give : (w : ℕ) → Gives tags values n (made 7 (w ∷ [])) (some (bit_vec w))
+  pub bits-give : (w : ℕ) → Gives tags values n (made 7 (w ∷ [])) (Some (bit_vec w))
   unfolding sort_from is_sort_tag shape_of count_fits kind_at value_fits
   bits-give w = (refl, (refl, refl, (refl, tt)))
 
@@ -121,12 +120,12 @@ module _ (tags values : List ℕ) (n : ℕ) (whole : n ≤ length values) (forme
   unfolding concat_from concat_sort sort_tag
   concat-gives width true [] a = param-gives
   concat-gives width false [] a =
-      gives-cond tags values n (ltb width 4294967296) (ltb width 4294967296) (made 7 (width ∷ [])) no_answer (some (bit_vec width)) none refl (λ e. bits-give width) (λ e. (refl, tt))
+      gives-cond tags values n (ltb width 4294967296) (ltb width 4294967296) (made 7 (width ∷ [])) no_answer (Some (bit_vec width)) None refl (λ e. bits-give width) (λ e. (refl, tt))
   concat-gives width param (o ∷ os) a =
       gives-cond tags values n _ _ _ _ _ _ (test-tag (sort_of values o) 7 a.0)
       (λ e. rw (width_of tags values n whole formed (sort_of values o) a.0 (eqb-true _ _ e)) (concat-gives (width + get_or values (sort_of values o + 1) 0) param os a.1))
       (λ e. gives-cond tags values n _ _ _ _ _ _ (test-tag (sort_of values o) 6 a.0) (λ f. concat-gives width true os a.1) (λ f. (refl, tt)))
 
-  pub tuple-gives : (qs : List ℕ) → AllSorts tags n qs → Gives tags values n (made 13 qs) (some (tuple (sorts_from (map (sort_tree tags values) qs))))
+  pub tuple-gives : (qs : List ℕ) → AllSorts tags n qs → Gives tags values n (made 13 qs) (Some (tuple (sorts_from (map (sort_tree tags values) qs))))
   unfolding sort_from is_sort_tag shape_of count_fits
   tuple-gives qs a = (rw (sorts-are (sort_tree tags values) qs), (refl, refl, sorts-fit tags n 0 qs a))

@@ -4,7 +4,7 @@ use Prim.Native.Nat.{ℕ, suc, ◌+◌, ◌≤◌, ◌<◌}
 use mathlib.Core.Path.{◌≡◌, refl, sym, ap, ◌∙◌}
 use mathlib.Core.Bool.{Bool, true, false, not, ◌&&◌, cond}
 use mathlib.Core.List.{List, [], ◌∷◌}
-use mathlib.Core.Option.{Option}
+use Rattle.std.specs.Prelude.{Option, Some, None}
 use lib.ListN.{length, get_or}
 use lib.Dec.{eqb, leb}
 use native.Mathlib.Omega.{arith}
@@ -23,8 +23,6 @@ use Rattle.meaning.specs.FreeTree.{free, var_at}
 use Rattle.meaning.specs.Tree.{sort_from, sort_tree, term_from, tree}
 use Rattle.meaning.specs.SortTree.{sort_of_term}
 use Rattle.answers.specs.declared.Answer.{Answer}
-use Rattle.cells.specs.declared.Found.{Found}
-use Rattle.cells.specs.declared.Found.TheVariants.{At, Nothing}
 use Rattle.cells.proofs.Cells.{same_refl, same-eq}
 use Rattle.cells.proofs.Walks.{first_below, found-holds}
 use Rattle.meaning.proofs.trees.Header.{Header, header, term-tagged}
@@ -43,9 +41,9 @@ pub record Passed (tags values rules : List ℕ) (n : ℕ) : Type 0 where
   pub limit : n ≤ 8192
   pub loaded : (table_answer rules).code ≡ 0
   pub some : n ≡ 0 → ⊥
-  pub formed : first_bad tags values n ≡ Nothing
-  pub single : first_repeat tags values n ≡ Nothing
-  pub sorted : first_wrong_sort tags values rules n ≡ Nothing
+  pub formed : first_bad tags values n ≡ None
+  pub single : first_repeat tags values n ≡ None
+  pub sorted : first_wrong_sort tags values rules n ≡ None
 
 -- an answer with another number is no acceptance
 refused : {A : Type 0} (a : Answer) → (a.code ≡ 0 → ⊥) → a ≡ accepted 0 0 → A
@@ -55,9 +53,9 @@ both : (a b : Bool) → a && b ≡ true → (a ≡ true) × (b ≡ true)
 both true b e = (refl, e)
 both false b e = let y : ◌≡◌ {A = ℕ} 0 1 = cc in absurd (omega arith)
 
-passes : (refusal : ℕ → Answer) → ((p : ℕ) → (refusal p).code ≡ 0 → ⊥) → (w : Found) (next : Answer) → refuse_at refusal w next ≡ accepted 0 0 → (w ≡ Nothing) × (next ≡ accepted 0 0)
-passes refusal h (At p) next e = refused (refusal p) (h p) e
-passes refusal h Nothing next e = (refl, e)
+passes : (refusal : ℕ → Answer) → ((p : ℕ) → (refusal p).code ≡ 0 → ⊥) → (w : Option ℕ) (next : Answer) → refuse_at refusal w next ≡ accepted 0 0 → (w ≡ None) × (next ≡ accepted 0 0)
+passes refusal h (Some p) next e = refused (refusal p) (h p) e
+passes refusal h None next e = (refl, e)
 
 holds : (b : Bool) (x y : Answer) → (y.code ≡ 0 → ⊥) → cond b x y ≡ accepted 0 0 → (b ≡ true) × (x ≡ accepted 0 0)
 holds true x y h e = (refl, e)
@@ -128,9 +126,9 @@ module _ (tags values rules : List ℕ) (n : ℕ) where
       other : (k : ℕ) → suc k ≡ 0 → ⊥
       other k z = omega arith
 
-      after : (refusal : ℕ → Answer) → ((p : ℕ) → (refusal p).code ≡ 0 → ⊥) → (w : Found) (next : Answer) → (next.code ≡ 0 → next ≡ accepted 0 0) → (refuse_at refusal w next).code ≡ 0 → refuse_at refusal w next ≡ accepted 0 0
-      after refusal h (At p) next f e = absurd (h p e)
-      after refusal h Nothing next f e = f e
+      after : (refusal : ℕ → Answer) → ((p : ℕ) → (refusal p).code ≡ 0 → ⊥) → (w : Option ℕ) (next : Answer) → (next.code ≡ 0 → next ≡ accepted 0 0) → (refuse_at refusal w next).code ≡ 0 → refuse_at refusal w next ≡ accepted 0 0
+      after refusal h (Some p) next f e = absurd (h p e)
+      after refusal h None next f e = f e
 
   pub term-accepts : (t : ℕ) → (check_term tags values rules n t).code ≡ 0 → check_term tags values rules n t ≡ accepted 0 0
   unfolding check_term and_then
@@ -154,7 +152,8 @@ module _ (tags values rules : List ℕ) (n : ℕ) where
 
 -- ---- the trees of a pool that passes
 module _ {tags values rules : List ℕ} {n : ℕ} (c : Passed tags values rules n) where
-  -- a place with a tag is a header with its cells below n, each with tag 0 and holding what it must: an earlier sort or term where it names one
+  -- a place with a tag is a header with its cells below n, each with tag 0 and holding what it must: an earlier sort or term where it names
+  -- one
   pub header_at : (t : ℕ) → t < n → (get_or tags t 0 ≡ 0 → ⊥) → Header tags values n t
   header_at t h tag = header tags values n t (place-fits tags values n c.formed t h tag)
 
@@ -181,7 +180,7 @@ module _ {tags values rules : List ℕ} {n : ℕ} (c : Passed tags values rules 
   free-of-tree = free-is tags values n c.whole c.formed c.single
 
   -- every term states the sort that is computed of its tree
-  pub computed-sort : (t : ℕ) → t < n → is_term_tag (get_or tags t 0) ≡ true → sort_of_term rules (tree tags values t) ≡ Option.some (stated (tree tags values t))
+  pub computed-sort : (t : ℕ) → t < n → is_term_tag (get_or tags t 0) ≡ true → sort_of_term rules (tree tags values t) ≡ Some (stated (tree tags values t))
   computed-sort = sorted-computed tags values rules n c.whole c.formed n (omega arith) c.sorted
 
   pub sort-place-of : (t : ℕ) → t < n → is_term_tag (get_or tags t 0) ≡ true → (sort_of values t < t) × (is_sort_tag (get_or tags (sort_of values t) 0) ≡ true)
@@ -202,13 +201,13 @@ module _ {tags values rules : List ℕ} {n : ℕ} (c : Passed tags values rules 
       (place-passes tags values n c.formed (λ u. is_term_tag (get_or tags u 0) && not (states_sort tags values rules u)) n (omega arith) c.sorted t h (term-tagged _ k)))
 
   -- the place that `find` gives has the description, and where it gives none no place has it
-  pub found_at : (tag : ℕ) (cells : List ℕ) (p : ℕ) → find tags values n tag cells ≡ At p → (p < n) × (get_or tags p 0 ≡ tag) × (cells_of values p ≡ cells)
+  pub found_at : (tag : ℕ) (cells : List ℕ) (p : ℕ) → find tags values n tag cells ≡ Some p → (p < n) × (get_or tags p 0 ≡ tag) × (cells_of values p ≡ cells)
   unfolding find is_at
   found_at tag cells p e =
       let (t, k) = both (eqb (get_or tags p 0) tag) _ (found-holds values n (λ q. is_at tags values q tag cells) p e) in
       (first_below values n (λ q. is_at tags values q tag cells) p e, eqb-true _ _ t, same-eq _ _ k)
 
-  pub found_none : (tag : ℕ) (cells : List ℕ) → find tags values n tag cells ≡ Nothing
+  pub found_none : (tag : ℕ) (cells : List ℕ) → find tags values n tag cells ≡ None
       → (p : ℕ) → p < n → (tag ≡ 0 → ⊥) → get_or tags p 0 ≡ tag → cells_of values p ≡ cells → ⊥
   unfolding find is_at
   found_none tag cells e p h tagged t k =

@@ -2,10 +2,11 @@
 -- Assumes nothing.
 use Prim.Native.Nat.{ℕ, zero, suc, ◌+◌}
 use mathlib.Core.Path.{◌≡◌, refl, ap}
-use mathlib.Core.List.{List, [], ◌∷◌, ◌++◌, map, reverse, reverse_aux, drop_last, get_last?}
-use mathlib.Core.Option.{some}
+use mathlib.Core.List.{List, [], ◌∷◌, ◌++◌, map, reverse, reverse_aux, drop_last}
+use Rattle.std.specs.Prelude.{Some}
 use lib.ListN.{length, get_or, drop}
 use native.Mathlib.Omega.{arith}
+use Rattle.meaning.specs.SortTree.{last_of}
 use Rattle.meaning.proofs.trees.Forms.{IsSort, AllSorts}
 
 -- ---- the images of a list
@@ -28,7 +29,7 @@ module _ {A B : Type 0} (f : A → B) where
   map-drop (suc i) (x ∷ l) = map-drop i l
 
   -- the last of m + 1
-  pub map_last : (l : List A) (m : ℕ) (d : A) → m + 1 ≡ length l → some (f (get_or l m d)) ≡ get_last? (map f l)
+  pub map_last : (l : List A) (m : ℕ) (d : A) → m + 1 ≡ length l → Some (f (get_or l m d)) ≡ last_of (map f l)
   map_last [] m d e = absurd (omega arith)
   map_last (x ∷ []) zero d e = refl
   map_last (x ∷ []) (suc m) d e = absurd (omega arith)

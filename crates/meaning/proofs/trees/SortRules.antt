@@ -5,7 +5,7 @@ use Prim.Native.Nat.{ℕ, suc, ◌+◌, ◌-◌, ◌≤◌, ◌<◌, ◌%◌}
 use mathlib.Core.Path.{◌≡◌, refl, sym, ap, ◌∙◌}
 use mathlib.Core.Bool.{true, cond}
 use mathlib.Core.List.{List, [], ◌∷◌, ◌++◌, map, map-append}
-use mathlib.Core.Option.{some}
+use Rattle.std.specs.Prelude.{Some, None}
 use lib.ListN.{length, length-map, get_or, drop}
 use lib.Dec.{ltb, leb, eqb}
 use native.Mathlib.Omega.{arith}
@@ -19,7 +19,6 @@ use Rattle.sorts.specs.SortRule.{Computed, place, made, pair_sorts, first_sort, 
 use Rattle.meaning.specs.Term.{stated}
 use Rattle.meaning.specs.Tree.{sort_from, sort_tree, vars_of, terms_of, term_from, tree}
 use Rattle.meaning.specs.SortTree.{sorts_from, constant_sort, apply_sort, application_sort, sorts_of_vars, binder_sort, sort_of_term}
-use Rattle.cells.specs.declared.Found.TheVariants.{Nothing}
 use Rattle.headers.specs.declared.well_formed.Shape.{Shape}
 use Rattle.headers.specs.declared.well_formed.Shape.TheVariants.{Application, Binder, Operator}
 use Rattle.headers.specs.declared.well_formed.CellKind.TheVariants.{OfSort, OfTerm}
@@ -53,9 +52,9 @@ module _ (tags values rules : List ℕ) where
   unfolding compute_sort operands_of by_tag
   compute-is t = by-test (ltb (get_or tags t 0) 22) (λ e. rw e) (λ e. rw e)
 
-module _ (tags values : List ℕ) (n : ℕ) (whole : n ≤ length values) (formed : first_bad tags values n ≡ Nothing) where
+module _ (tags values : List ℕ) (n : ℕ) (whole : n ≤ length values) (formed : first_bad tags values n ≡ None) where
   -- ---- functions
-  function-gives : (qs : List ℕ) → AllSorts tags n qs → Gives tags values n (made 10 qs) (some (function (sorts_from (map (sort_tree tags values) qs))))
+  function-gives : (qs : List ℕ) → AllSorts tags n qs → Gives tags values n (made 10 qs) (Some (function (sorts_from (map (sort_tree tags values) qs))))
   unfolding sort_from is_sort_tag shape_of count_fits
   function-gives qs a = (rw (sorts-are (sort_tree tags values) qs), (refl, refl, sorts-fit tags n 0 qs a))
 
@@ -157,7 +156,7 @@ module _ (tags values : List ℕ) (n : ℕ) (whole : n ≤ length values) (forme
           (λ q c f. (refl, (refl, refl, tt)))
           (λ q c. from-two (RightAt 25) (λ s b cs f. choice-gives b cs f.1.1) cells (even-rest _ c).0)
           (λ q c. from-two (RightAt 26) (λ s b cs f. lambda-gives b cs (term-below b f.1.0) f.1.1) cells (even-rest _ c).0)
-          (λ q c. from-two (RightAt 27) (λ s b cs f. let is = term-below b f.1.0 in (ap some (sym (stated-is tags values n whole formed b is.0 is.1)), stated-at tags values n whole formed b is)) cells (even-rest _ c).0)
+          (λ q c. from-two (RightAt 27) (λ s b cs f. let is = term-below b f.1.0 in (ap Some (sym (stated-is tags values n whole formed b is.0 is.1)), stated-at tags values n whole formed b is)) cells (even-rest _ c).0)
           (λ k l m q. right-op cells k l m)
           k (length cells) m c q c
 
@@ -190,16 +189,16 @@ module _ (tags values : List ℕ) (n : ℕ) (whole : n ≤ length values) (forme
         (right-at t h rules (get_or values (t + 2) 0) (cells_of values t) (get_or tags t 0) k width-cell here.count here.each-cell)
 
     -- a term that passes check 16 states the sort of its tree
-    pub states-computed : states_sort tags values rules t ≡ true → sort_of_term rules (tree tags values t) ≡ some (stated (tree tags values t))
+    pub states-computed : states_sort tags values rules t ≡ true → sort_of_term rules (tree tags values t) ≡ Some (stated (tree tags values t))
     unfolding states_sort
     states-computed e =
         sym sort-given.0
         ∙ (tree_of tags values n whole formed (sort_of values t) (stated-at tags values n whole formed t (h, k)) (compute_sort tags values rules t) e
-        ∙ ap some (sym (stated-is tags values n whole formed t h k)))
+        ∙ ap Some (sym (stated-is tags values n whole formed t h k)))
 
     -- and a term whose tree states its sort passes
-    pub computed-states : first_repeat tags values n ≡ Nothing → sort_of_term rules (tree tags values t) ≡ some (stated (tree tags values t)) → states_sort tags values rules t ≡ true
+    pub computed-states : first_repeat tags values n ≡ None → sort_of_term rules (tree tags values t) ≡ Some (stated (tree tags values t)) → states_sort tags values rules t ≡ true
     unfolding states_sort
     computed-states single e =
         of_tree tags values n whole formed single (sort_of values t) (stated-at tags values n whole formed t (h, k)) (compute_sort tags values rules t) sort-given.1
-        (sort-given.0 ∙ (e ∙ ap some (stated-is tags values n whole formed t h k)))
+        (sort-given.0 ∙ (e ∙ ap Some (stated-is tags values n whole formed t h k)))

@@ -4,6 +4,7 @@
 --     made_one       a place with the sort of a tag and cells has that tag and those cells
 -- A sort's tag and parts are read off its tree again.
 -- Assumes nothing.
+use Rattle.std.specs.Prelude.{None}
 use Prim.Native.Nat.{ℕ, zero, suc, ◌≤◌, ◌<◌}
 use mathlib.Core.Path.{◌≡◌, refl, sym, ap, ap₂, ◌∙◌}
 use mathlib.Core.Bool.{true, cond}
@@ -18,7 +19,6 @@ use Rattle.headers.specs.WellFormed.{shape_of, count_fits, kind_at, value_fits, 
 use Rattle.descriptions.specs.Description.{first_repeat}
 use Rattle.meaning.specs.Sort.{Sort, Sorts, bool, int, real, string, reglan, param_bit_vec, bit_vec, sort_var, atom, function, array, set, tuple, no_sort, snil, scons}
 use Rattle.meaning.specs.Tree.{sorts_of, sort_from, sort_step, sort_tree}
-use Rattle.cells.specs.declared.Found.TheVariants.{Nothing}
 use Rattle.headers.specs.declared.well_formed.Shape.{Shape}
 use Rattle.headers.specs.declared.well_formed.Shape.TheVariants.{Named, Sorts as SortList}
 use Rattle.headers.specs.declared.well_formed.CellKind.TheVariants.{OfSort}
@@ -128,7 +128,7 @@ module _ (tags : List ℕ) (p : ℕ) (before sort_at : ℕ → Sort) (agree : (c
       (λ e h. ap tuple (list-agrees SortList 0 cells (λ i l. refl) h))
 
 -- ---- the theorems
-module _ (tags values : List ℕ) (n : ℕ) (whole : n ≤ length values) (formed : first_bad tags values n ≡ Nothing) where
+module _ (tags values : List ℕ) (n : ℕ) (whole : n ≤ length values) (formed : first_bad tags values n ≡ None) where
   at : (s : ℕ) → s < n → is_sort_tag (get_or tags s 0) ≡ true → Described tags values s
   at s h k = place-described tags values n formed whole s h (sort-tagged _ k)
 
@@ -144,7 +144,7 @@ module _ (tags values : List ℕ) (n : ℕ) (whole : n ≤ length values) (forme
       let (t, p) = reads (sort_tree tags values) (cells_of values s) (get_or tags s 0) k (at s h k).count in
       record { tag_is = rw (sort-is s h k) t; parts_are = rw (sort-is s h k) p }
 
-  module _ (single : first_repeat tags values n ≡ Nothing) where
+  module _ (single : first_repeat tags values n ≡ None) where
     same-sort : (d s u : ℕ) → s < d → s < n → u < n → is_sort_tag (get_or tags s 0) ≡ true → is_sort_tag (get_or tags u 0) ≡ true
         → sort_tree tags values s ≡ sort_tree tags values u → s ≡ u
     same-sort zero s u f h l k m e = absurd (omega arith)

@@ -1,12 +1,12 @@
--- The rules of relations and of BvConst, and so the rule of every operator, give the same sort on places and on trees, in a pool that passes
--- check 14.
+-- The rules of relations and of BvConst, and so the rule of every operator, give the same sort on places and on trees, in a pool that
+-- passes check 14.
 -- Assumes nothing.
 use Prim.Native.Nat.{ℕ, ◌+◌, ◌≤◌, ◌<◌}
 use mathlib.Core.Path.{◌≡◌, refl, ap, ap₂, ◌∙◌}
 use mathlib.Core.Bool.{Bool, true, false, ◌&&◌, cond}
 use mathlib.Core.List.{List, [], ◌∷◌, ◌++◌, map, map-append, reverse, drop_last}
-use mathlib.Core.Option.{some}
-use lib.ListN.{length, length-map, get_or, drop, get_elem?}
+use Rattle.std.specs.Prelude.{None, Some, slice_get}
+use lib.ListN.{length, length-map, get_or, drop}
 use lib.Dec.{ltb, eqb}
 use native.Mathlib.Omega.{arith}
 use borrow.Author.Tests.{eqb-true, eqb-false, ltb-true, ne_eqb}
@@ -18,7 +18,6 @@ use Rattle.sorts.specs.SortRule.{made, relation, first_sort, relation_sorts, sor
 use Rattle.meaning.specs.Term.{Term}
 use Rattle.meaning.specs.Tree.{sorts_of, sort_from, sort_tree, terms_of, term_from, tree}
 use Rattle.meaning.specs.SortTree.{form_of, is_relation_sort, columns, relation_of, stated_sorts, width_sort, bv_const_sort, transpose_sort, join_sort, product_sort, special_sort, plain_sort, operator_sort}
-use Rattle.cells.specs.declared.Found.TheVariants.{Nothing}
 use Rattle.sorts.specs.declared.special.Special.{Special}
 use Rattle.sorts.specs.declared.special.Special.TheVariants.{Arithmetic, Select, BitVectors, Concat, OneBit, BitCount, BvConst, RareList, Singleton, Insert, TupleOf, TupleUnit, Transpose, Join, Product, NoRule}
 use Rattle.meaning.proofs.trees.Header.{both, Header, header, term-tagged}
@@ -35,7 +34,7 @@ both-same : (b c x y : Bool) → b ≡ c → (b ≡ true → x ≡ y) → (b && 
 both-same true c x y e f = rw (← e) (f refl)
 both-same false c x y e f = rw (← e)
 
-module _ (tags values : List ℕ) (n : ℕ) (whole : n ≤ length values) (formed : first_bad tags values n ≡ Nothing) where
+module _ (tags values : List ℕ) (n : ℕ) (whole : n ≤ length values) (formed : first_bad tags values n ≡ None) where
   -- ---- relations
   module _ (o : ℕ) (is : IsSort tags n (sort_of values o)) where
     -- the sort of the term at o
@@ -57,7 +56,7 @@ module _ (tags values : List ℕ) (n : ℕ) (whole : n ≤ length values) (forme
         let (f, k) = tuple_at tags values n whole formed (get_or values (sort_of values o + 1) 0) q (eqb-true _ _ b) in
         (ap (λ (x : Sort). (form_of x).sorts) p ∙ f, k)
 
-  relation-gives : (cs : List ℕ) (ss : List Sort) → ss ≡ map (sort_tree tags values) cs → AllSorts tags n cs → Gives tags values n (relation cs) (some (relation_of ss))
+  relation-gives : (cs : List ℕ) (ss : List Sort) → ss ≡ map (sort_tree tags values) cs → AllSorts tags n cs → Gives tags values n (relation cs) (Some (relation_of ss))
   relation-gives cs ss e a = (rw (e, sorts-are (sort_tree tags values) cs), a)
 
   transpose-gives : (os : List ℕ) → Stated tags values n os → Gives tags values n (transpose tags values os) (transpose_sort (sorts_at tags values os))
@@ -121,7 +120,7 @@ module _ (tags values : List ℕ) (n : ℕ) (whole : n ≤ length values) (forme
         let z : w + 1 + 1 ≡ w + 2 = omega arith in
         rw (cell_at values w 1 (omega arith), z)
 
-    width-gives : Gives tags values n (cond (eqb (get_or tags w 0) 16) (made 7 (get_or values (w + 2) 0 ∷ [])) (made 6 [])) (some (width_sort (tree tags values w)))
+    width-gives : Gives tags values n (cond (eqb (get_or tags w 0) 16) (made 7 (get_or values (w + 2) 0 ∷ [])) (made 6 [])) (Some (width_sort (tree tags values w)))
     width-gives =
         rw (term_is tags values n whole formed w h k, width_is (sort_tree tags values) (tree tags values) (cells_of values w) (get_or tags w 0) (get_or values w 0) k fits.count)
         (by-test (eqb (get_or tags w 0) 16)
@@ -162,7 +161,7 @@ module _ (tags values : List ℕ) (n : ℕ) (whole : n ≤ length values) (forme
     special-gives NoRule = (refl, tt)
 
     -- Bool, Int, Real, String, RegLan
-    plain-gives : (rule : ℕ) → rule < 5 → Gives tags values n (made (rule + 1) []) (some (plain_sort rule))
+    plain-gives : (rule : ℕ) → rule < 5 → Gives tags values n (made (rule + 1) []) (Some (plain_sort rule))
     unfolding plain_sort sort_from is_sort_tag shape_of count_fits
     plain-gives rule h =
         by-test (eqb rule 0) (λ e. rw (eqb-true rule 0 e) (refl, (refl, refl, tt)))
@@ -174,10 +173,10 @@ module _ (tags values : List ℕ) (n : ℕ) (whole : n ≤ length values) (forme
         left : (rule ≡ 0 → ⊥) → (rule ≡ 1 → ⊥) → (rule ≡ 2 → ⊥) → (rule ≡ 3 → ⊥) → rule ≡ 4
         left a b c d = omega arith
 
-    first : Gives tags values n (first_sort values os) (get_elem? (stated_sorts (terms_of (tree tags values) os)) 0)
+    first : Gives tags values n (first_sort values os) (slice_get (stated_sorts (terms_of (tree tags values) os)) 0)
     first = rw sorts (first_gives tags values n whole formed os ok)
 
-    second : Gives tags values n (first_sort values (drop 1 os)) (get_elem? (stated_sorts (terms_of (tree tags values) os)) 1)
+    second : Gives tags values n (first_sort values (drop 1 os)) (slice_get (stated_sorts (terms_of (tree tags values) os)) 1)
     second = rw sorts (second-gives tags values n whole formed os ok)
 
     -- an operator's rule gives the same sort on places and on trees

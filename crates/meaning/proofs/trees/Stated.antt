@@ -1,5 +1,6 @@
 -- The sort that a term states, and the variable at a place, in a pool that passes check 14.
 -- Assumes nothing.
+use Rattle.std.specs.Prelude.{None}
 use Prim.Native.Nat.{ℕ, ◌+◌, ◌≤◌, ◌<◌}
 use mathlib.Core.Path.{◌≡◌, refl, ap, ap₂, ◌∙◌}
 use mathlib.Core.Bool.{true}
@@ -14,7 +15,6 @@ use Rattle.meaning.specs.Sort.{Sort}
 use Rattle.meaning.specs.Term.{Term, stated, var}
 use Rattle.meaning.specs.Tree.{sort_tree, term_from, tree}
 use Rattle.meaning.specs.FreeTree.{var_at}
-use Rattle.cells.specs.declared.Found.TheVariants.{Nothing}
 use Rattle.headers.specs.declared.well_formed.CellKind.TheVariants.{OfSort}
 use Rattle.meaning.proofs.trees.Header.{Header, header, cells-length, sort-cell, term-tagged}
 use Rattle.meaning.proofs.trees.Walk.{place-fits}
@@ -64,7 +64,7 @@ pub var-tag : (k : ℕ) → k ≡ 21 → is_term_tag k ≡ true
 unfolding is_term_tag
 var-tag k e = rw e
 
-module _ (tags values : List ℕ) (n : ℕ) (whole : n ≤ length values) (formed : first_bad tags values n ≡ Nothing) where
+module _ (tags values : List ℕ) (n : ℕ) (whole : n ≤ length values) (formed : first_bad tags values n ≡ None) where
   module _ (t : ℕ) (h : t < n) (k : is_term_tag (get_or tags t 0) ≡ true) where
     fits : Header tags values n t
     fits = header tags values n t (place-fits tags values n formed t h (term-tagged _ k))

@@ -3,6 +3,7 @@
 --     term-one       two places with equal terms are one place
 -- A term's tag and parts are read off its tree again.
 -- Assumes nothing.
+use Rattle.std.specs.Prelude.{None}
 use Prim.Native.Nat.{ℕ, zero, suc, ◌≤◌, ◌<◌, ◌%◌}
 use mathlib.Core.Path.{◌≡◌, refl, ap, ap₂, ◌∙◌}
 use mathlib.Core.Bool.{Bool, true, false, ◌&&◌, cond}
@@ -18,7 +19,6 @@ use Rattle.descriptions.specs.Description.{first_repeat}
 use Rattle.meaning.specs.Sort.{Sort}
 use Rattle.meaning.specs.Term.{Vars, Term, Terms, Lets, const, bit_vector, var, app, quant, bind, letin, op, no_term, tnil, tcons, lnil, lcons}
 use Rattle.meaning.specs.Tree.{sort_tree, vars_of, terms_of, lets_of, term_from, term_step, tree}
-use Rattle.cells.specs.declared.Found.TheVariants.{Nothing}
 use Rattle.headers.specs.declared.well_formed.Shape.{Shape}
 use Rattle.headers.specs.declared.well_formed.Shape.TheVariants.{Application, Binder, Let, Operator}
 use Rattle.headers.specs.declared.well_formed.CellKind.TheVariants.{OfSort, OfTerm}
@@ -209,7 +209,7 @@ module _ (tags : List ℕ) (p : ℕ) (sort_at : ℕ → Sort) (before term_at : 
       k (length cells) t c c
 
 -- ---- the theorems
-module _ (tags values : List ℕ) (n : ℕ) (whole : n ≤ length values) (formed : first_bad tags values n ≡ Nothing) where
+module _ (tags values : List ℕ) (n : ℕ) (whole : n ≤ length values) (formed : first_bad tags values n ≡ None) where
   at : (t : ℕ) → t < n → is_term_tag (get_or tags t 0) ≡ true → Described tags values t
   at t h k = place-described tags values n formed whole t h (term-tagged _ k)
 
@@ -227,7 +227,7 @@ module _ (tags values : List ℕ) (n : ℕ) (whole : n ≤ length values) (forme
       let (e, p) = reads (sort_tree tags values) (tree tags values) (cells_of values t) (get_or tags t 0) k (at t h k).count in
       record { tag_is = rw (term_is t h k) e; parts_are = rw (term_is t h k) p }
 
-  module _ (single : first_repeat tags values n ≡ Nothing) where
+  module _ (single : first_repeat tags values n ≡ None) where
     same-term : (d t u : ℕ) → t < d → t < n → u < n → is_term_tag (get_or tags t 0) ≡ true → is_term_tag (get_or tags u 0) ≡ true
         → tree tags values t ≡ tree tags values u → t ≡ u
     same-term zero t u f h l k m e = absurd (omega arith)

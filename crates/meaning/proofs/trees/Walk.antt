@@ -4,6 +4,7 @@
 --     one_place      two places with one description are one place
 -- A cell between headers has tag 0, so a place whose tag is not 0 is a header of the walk.
 -- Assumes nothing.
+use Rattle.std.specs.Prelude.{Option, Some, None}
 use Prim.Native.Nat.{ℕ, zero, suc, ◌+◌, ◌-◌, ◌≤◌, ◌<◌}
 use mathlib.Core.Path.{◌≡◌, refl, sym}
 use mathlib.Core.Bool.{Bool, true, false, not}
@@ -17,8 +18,6 @@ use Rattle.cells.specs.Headers.{first_from, first_header}
 use Rattle.cells.specs.Cell.{cells_of, is_at}
 use Rattle.headers.specs.WellFormed.{header_fits, first_bad}
 use Rattle.descriptions.specs.Description.{find, is_found, repeats, first_repeat}
-use Rattle.cells.specs.declared.Found.{Found}
-use Rattle.cells.specs.declared.Found.TheVariants.{At, Nothing}
 use Rattle.cells.proofs.Walks.{passes, goes_on}
 use Rattle.cells.proofs.Cells.{same_refl}
 use Rattle.meaning.proofs.trees.Header.{Header, header, Described, described}
@@ -29,7 +28,7 @@ module _ (tags values : List ℕ) (n : ℕ) where
 
   -- from the header at p on: a walk up to m that finds nothing has passed the place t
   reach : (test : ℕ → Bool) (m t : ℕ) → t < m → m ≤ n → (get_or tags t 0 ≡ 0 → ⊥) → (d p : ℕ) → t < p + d → p ≤ t
-      → first_from values n is_bad p ≡ Nothing → first_from values m test p ≡ Nothing → test t ≡ false
+      → first_from values n is_bad p ≡ None → first_from values m test p ≡ None → test t ≡ false
   unfolding is_bad
   reach test m t h l tag zero p k q bad none = absurd (omega arith)
   reach test m t h l tag (suc d) p k q bad none =
@@ -44,28 +43,28 @@ module _ (tags values : List ℕ) (n : ℕ) where
       next = p + (1 + get_or values p 0)
 
       further : (p ≡ t → ⊥) → (b : Bool) → leb next t ≡ b
-          → (t < next + d → next ≤ t → first_from values n is_bad next ≡ Nothing → first_from values m test next ≡ Nothing → test t ≡ false) → test t ≡ false
+          → (t < next + d → next ≤ t → first_from values n is_bad next ≡ None → first_from values m test next ≡ None → test t ≡ false) → test t ≡ false
       further e true o again =
           again (omega arith) (leb-true next t o) (goes_on values n is_bad p (omega arith) bad) (goes_on values m test p (omega arith) none)
       further e false o again =
           let j : t ≡ p + 1 + (t - (p + 1)) = omega arith in
           absurd (tag (rw j (fits.blank (t - (p + 1)) (omega (arith, leb-false next t o)))))
 
-  module _ (formed : first_bad tags values n ≡ Nothing) where
+  module _ (formed : first_bad tags values n ≡ None) where
     -- "Headers and their cells fill 0 to N-1 exactly."
     pub place-fits : (t : ℕ) → t < n → (get_or tags t 0 ≡ 0 → ⊥) → header_fits tags values n t ≡ true
     unfolding first_bad first_header is_bad
     place-fits t h tag = not-false _ (reach is_bad n t h (omega arith) tag (suc t) 0 (omega arith) (omega arith) formed formed)
 
     -- a walk up to m that finds nothing leaves no place below m at which the test holds
-    pub place-passes : (test : ℕ → Bool) (m : ℕ) → m ≤ n → first_header values m test ≡ Nothing → (t : ℕ) → t < m → (get_or tags t 0 ≡ 0 → ⊥) → test t ≡ false
+    pub place-passes : (test : ℕ → Bool) (m : ℕ) → m ≤ n → first_header values m test ≡ None → (t : ℕ) → t < m → (get_or tags t 0 ≡ 0 → ⊥) → test t ≡ false
     unfolding first_bad first_header is_bad
     place-passes test m l none t h tag = reach test m t h l tag (suc t) 0 (omega arith) (omega arith) formed none
 
     pub place-described : n ≤ length values → (t : ℕ) → t < n → (get_or tags t 0 ≡ 0 → ⊥) → Described tags values t
     place-described whole t h tag = described tags values t n whole (header tags values n t (place-fits t h tag))
 
-    module _ (single : first_repeat tags values n ≡ Nothing) where
+    module _ (single : first_repeat tags values n ≡ None) where
       -- an earlier place has another description
       apart : (t u : ℕ) → t < u → u < n → (get_or tags t 0 ≡ 0 → ⊥) → get_or tags t 0 ≡ get_or tags u 0 → cells_of values t ≡ cells_of values u → ⊥
       unfolding first_bad first_repeat first_header find repeats is_bad is_at
@@ -76,9 +75,9 @@ module _ (tags values : List ℕ) (n : ℕ) where
           let same : is_at tags values t (get_or tags u 0) (cells_of values u) ≡ true = rw (eq-eqb _ _ e, c, same_refl) in
           let y : ◌≡◌ {A = ℕ} 0 1 = cc in omega arith
         where
-          nothing : (w : Found) → is_found w ≡ false → w ≡ Nothing
-          nothing (At q) z = cc
-          nothing Nothing z = refl
+          nothing : (w : Option ℕ) → is_found w ≡ false → w ≡ None
+          nothing (Some q) z = cc
+          nothing None z = refl
 
       -- "No two headers describe the same thing."
       pub one_place : (t u : ℕ) → t < n → u < n → (get_or tags t 0 ≡ 0 → ⊥) → get_or tags t 0 ≡ get_or tags u 0 → cells_of values t ≡ cells_of values u → t ≡ u

@@ -1,5 +1,6 @@
 -- Readings whose values are numbers are enough: a term has in a reading the value that it has in one with numbers. Each value stands in the
--- list of its sort's values, and its number is its position there; an opaque term's truth is asked of the values that the numbers are read as.
+-- list of its sort's values, and its number is its position there; an opaque term's truth is asked of the values that the numbers are read
+-- as.
 --     numbers-true      a term's value in the reading with numbers
 --     every_value       SameValue holds in every reading
 --     every-clauses     so does ClausesSay

@@ -1,5 +1,6 @@
 -- Laws of the clause list's call: what is left at each answer.
 -- Assumes nothing.
+use Rattle.std.specs.Prelude.{Option, Some, None, Result, Ok, Err}
 use Prim.Native.Nat.{ℕ, ◌≤◌, ◌<◌}
 use mathlib.Core.Path.{◌≡◌, refl, sym, ap, ap₂, ◌∙◌}
 use mathlib.Core.Bool.{◌&&◌}
@@ -15,19 +16,19 @@ use Rattle.descriptions.specs.Description.{zero_from, Cut}
 use Rattle.answers.specs.Answer.{bad_arrays}
 use Rattle.pool.specs.Check.{and_then, check_term}
 use Rattle.answers.specs.declared.Answer.{Answer}
-use Rattle.normal_form.specs.declared.call.Clausal.{Clausal}
-use Rattle.normal_form.specs.declared.call.Clausal.TheVariants.{At as ClausalAt, Refused}
 use Rattle.normal_form.specs.declared.call.Listed.{Listed}
 use Rattle.formulas.specs.Normal.{Normal}
 use Rattle.formulas.specs.Clauses.{cnf, empty_or, literal_total}
 use Rattle.formulas.specs.Built.{normal_at, form_at}
 use Rattle.formulas.specs.ClauseLists.{literal_places, clause_ends}
-use Rattle.normal_form.specs.Calls.{no_room, clausal, clausal_form, clause_answer, list_left, count_left, ClauseList}
+use Rattle.normal_form.specs.Calls.{clausal, clausal_form, clause_answer, list_left, count_left, ClauseList}
 use Rattle.building.specs.Walk.{State, Holds}
 use Rattle.clauses.specs.ClauseList.{Lent, count_answer, list_answer, held, ListAnswered}
 use Rattle.normal_form.specs.ClausalForms.{FormsBuilt}
 use Rattle.normal_form.specs.declared.clausal_forms.ClausalForms.{ClausalForms}
-use Rattle.normal_form.specs.declared.clausal_forms.ClausalForms.TheVariants as forms
+use Rattle.answers.specs.Refusal.{answer_to}
+use Rattle.answers.specs.declared.refusal.Refusal.{Refusal}
+use Rattle.answers.specs.declared.refusal.Refusal.TheVariants.{NoRoom}
 use Rattle.normal_form.proofs.clausal_forms.Laws.{both-clausal}
 use Rattle.normal_form.specs.ClauseCall.{Passes, Refuses, ClausalBuilt, unlisted, ListKept}
 use Rattle.building.proofs.build.Building.{left-refl}
@@ -58,7 +59,7 @@ list_code f =
 
 -- ---- the checks of the term and its taken-out form
 module _ (tags values rules : List ℕ) (n t : ℕ) (a : Answer) (is : a ≡ check_term tags values rules n t) where
-  pub clausal-refused : (a.code ≡ 0 → ⊥) → ClausalBuilt tags values rules n t (Refused a) tags values
+  pub clausal-refused : (a.code ≡ 0 → ⊥) → Refuses tags values rules n t a tags values
   unfolding clause_answer and_then
   clausal-refused h = record {
     answer = λ l e k j. rw (le-leb _ _ k, le-leb _ _ j, ← is, ne_eqb _ _ h);
@@ -74,39 +75,28 @@ module _ (tags values rules : List ℕ) (n t : ℕ) (a : Answer) (is : a ≡ che
     pub clausal-below : t < n
     clausal-below = (checked-ready tags values rules n t a is ok).1
 
-    module _ (f : ClausalForms) (tags₁ values₁ : List ℕ) (built : FormsBuilt n t tags values f tags₁ values₁) where
-      pub clausal-full : f ≡ forms.Full → (made : Answer) → made ≡ no_room → ClausalBuilt tags values rules n t (Refused made) tags₁ values₁
+    module _ (f : Option ClausalForms) (tags₁ values₁ : List ℕ) (built : FormsBuilt n t tags values f tags₁ values₁) where
+      pub clausal-full : f ≡ None → ClausalBuilt tags values rules n t (Err NoRoom) tags₁ values₁
       unfolding clause_answer and_then
-      clausal-full e made q =
+      clausal-full e =
           let (kept, full) = rw e at built in
-          rw q (record {
+          (record {
             answer = λ l j h k. rw (le-leb _ _ h, le-leb _ _ k, ← is, eq-eqb _ _ ok, full);
             code = λ z. omega arith;
             same = λ z. absurd (omega arith);
             left = kept;
           })
 
-      pub clausal-made : (x : TermPlace) (m : ℕ) (y : TermPlace) (k : ℕ) → f ≡ forms.At x m y k → ClausalBuilt tags values rules n t (ClausalAt y k) tags₁ values₁
-      clausal-made x m y k e = record { passed = rw is at ok; built = both-clausal n t tags values clausal-state x m y k tags₁ values₁ (rw e at built) }
+      pub clausal-made : (g : ClausalForms) → f ≡ Some g → ClausalBuilt tags values rules n t (Ok (g.taken_out, g.count)) tags₁ values₁
+      clausal-made g e = record { passed = rw is at ok; built = both-clausal n t tags values clausal-state g.normal g.normal_count g.taken_out g.count tags₁ values₁ (rw e at built) }
 
-pub ruleset clausals = (clausal-refused, clausal-full, clausal-made)
-
--- ---- the new terms are kept or cut back
-module _ (n m : ℕ) (a : Answer) (tags values tags' values' : List ℕ) where
-  pub kept-not : (a.code ≡ 0 → ⊥) → Cut n tags values tags' values' → (r : Listed) → r ≡ unlisted a → ListKept n m a tags values r tags' values'
-  kept-not h cut r e = let z = ne_eqb _ _ h in record { listed = rw z e; cut = rw z cut }
-
-  pub kept-all : a.code ≡ 0 → Cut m tags values tags' values' → ListKept n m a tags values (record { answer = a; count = m }) tags' values'
-  kept-all h cut = let z = eq-eqb _ _ h in record { listed = rw z; cut = rw z cut }
-
-pub ruleset keeps = (kept-not, kept-all)
-
+-- ---- the call
 module _ (tags values rules : List ℕ) (n t : ℕ) (literals ends : List ℕ) where
   -- ---- 30 for the lent arrays
-  pub short-literals : length literals < 8192 → (made : Answer) → made ≡ bad_arrays → (r : Listed) → r ≡ unlisted made
+  pub short-literals : length literals < 8192 → (r : Listed) → r ≡ unlisted bad_arrays
       → ClauseList tags values rules n t literals ends r.answer r.count tags values literals ends
   unfolding clause_answer count_left
-  short-literals h made q r e = rw (e, q) (record {
+  short-literals h r e = rw e (record {
     answer = rw (lt-leb _ _ h);
     new-count = refl;
     tags-are = left-30 bad_arrays tags n _ refl;
@@ -115,10 +105,10 @@ module _ (tags values rules : List ℕ) (n t : ℕ) (literals ends : List ℕ) w
     ends-are = list-30 tags values rules n t bad_arrays ends _ refl;
   })
 
-  pub short-ends : 8192 ≤ length literals → length ends < 2048 → (made : Answer) → made ≡ bad_arrays → (r : Listed) → r ≡ unlisted made
+  pub short-ends : 8192 ≤ length literals → length ends < 2048 → (r : Listed) → r ≡ unlisted bad_arrays
       → ClauseList tags values rules n t literals ends r.answer r.count tags values literals ends
   unfolding clause_answer count_left
-  short-ends l h made q r e = rw (e, q) (record {
+  short-ends l h r e = rw e (record {
     answer = rw (le-leb _ _ l, lt-leb _ _ h);
     new-count = refl;
     tags-are = left-30 bad_arrays tags n _ refl;
@@ -127,10 +117,13 @@ module _ (tags values rules : List ℕ) (n t : ℕ) (literals ends : List ℕ) w
     ends-are = list-30 tags values rules n t bad_arrays ends _ refl;
   })
 
-  module _ (l : 8192 ≤ length literals) (k : 2048 ≤ length ends) (c : Clausal) (tags₁ values₁ : List ℕ)
+  module _ (l : 8192 ≤ length literals) (k : 2048 ≤ length ends) (c : Result (TermPlace × ℕ) Refusal) (tags₁ values₁ : List ℕ)
       (is : ClausalBuilt tags values rules n t c tags₁ values₁) where
     -- ---- a refusal before there is a list
-    module _ (a : Answer) (e : c ≡ Refused a) where
+    module _ (x : Refusal) (e : c ≡ Err x) where
+      abbrev a : Answer
+      a = answer_to x
+
       refuses : Refuses tags values rules n t a tags₁ values₁
       refuses = rw e at is
 
@@ -166,7 +159,7 @@ module _ (tags values rules : List ℕ) (n t : ℕ) (literals ends : List ℕ) w
           })
 
     -- ---- a form whose clauses are listed
-    module _ (x : TermPlace) (m : ℕ) (e : c ≡ ClausalAt x m) where
+    module _ (x : TermPlace) (m : ℕ) (e : c ≡ Ok (x, m)) where
       passes : Passes tags values rules n t x m tags₁ values₁
       passes = rw e at is
 
@@ -250,7 +243,5 @@ module _ (tags values rules : List ℕ) (n t : ℕ) (literals ends : List ℕ) w
               (by-test (eqb a.code 0)
               (λ z. rw z (list-made (eqb-true _ _ z) (rw z at kept.cut)))
               (λ z. rw z (list-none (eqb-false _ _ z) (rw z at kept.cut))))
-
-pub ruleset checks = (short-literals, short-ends, list-arrays)
 
 pub ruleset list-parts = (list-within, list-within-values, list-part, list-part-values)

@@ -1,5 +1,6 @@
 -- Laws of the public calls: what a term that passes its checks gives the walkers, and what is left in the arrays at each answer.
 -- Assumes nothing.
+use Rattle.std.specs.Prelude.{Option, Some, None}
 use Prim.Native.Nat.{ℕ, ◌^◌, ◌<◌}
 use mathlib.Core.Path.{◌≡◌, refl, sym, ap, ◌∙◌}
 use mathlib.Core.Bool.{Bool, true}
@@ -17,8 +18,6 @@ use Rattle.pool.specs.Check.{and_then, check_term}
 use Rattle.answers.specs.declared.Answer.{Answer}
 use Rattle.meaning.proofs.trees.Header.{both}
 use Rattle.meaning.proofs.trees.Passed.{Passed, term-accepts, term-passes}
-use Rattle.building.specs.declared.build.Built.{Built}
-use Rattle.building.specs.declared.build.Built.TheVariants.{At, Full}
 use Rattle.formulas.specs.Built.{Pool, Placed, count}
 use Rattle.formulas.specs.ClauseLists.{padded}
 use Rattle.normal_form.specs.Calls.{no_room, array_left, normal_answer, normal_place, NormalForm}
@@ -63,8 +62,8 @@ module _ (n m p : ℕ) (o : Placed) (tags values : List ℕ) (h : Holds n o p m 
       let k : m ≡ length o.pool.values = sym (length-take-le m values (omega (arith, h.state.within, h.state.size))) ∙ ap length same in
       rw (same, e, ← k)
 
-pub count-fits : (n : ℕ) (tags values : List ℕ) (o : Placed) (b : Built) (tags' values' : List ℕ) → NormalBuilt n tags values o b tags' values'
-    → (p : TermPlace) (m : ℕ) → b ≡ At p m → m < 2 ^ 32
+pub count-fits : (n : ℕ) (tags values : List ℕ) (o : Placed) (b : Option (TermPlace × ℕ)) (tags' values' : List ℕ) → NormalBuilt n tags values o b tags' values'
+    → (p : TermPlace) (m : ℕ) → b ≡ Some (p, m) → m < 2 ^ 32
 count-fits n tags values o b tags' values' built p m e = let (h, room) = rw e at built in omega (arith, h.state.small)
 
 -- what each code leaves
@@ -98,9 +97,9 @@ module _ (tags values rules : List ℕ) (n t : ℕ) (polarity : Bool) (a : Answe
     values-are = cut.values-are ∙ left-refused a values n _ e h;
   }
 
-  module _ (ok : a.code ≡ 0) (b : Built) (tags₁ values₁ : List ℕ)
+  module _ (ok : a.code ≡ 0) (b : Option (TermPlace × ℕ)) (tags₁ values₁ : List ℕ)
       (built : NormalBuilt n tags values (normal_place tags values rules n t polarity) b tags₁ values₁) where
-    pub normal-full : b ≡ Full → (tags' values' : List ℕ) → Cut n tags₁ values₁ tags' values' → (made : Answer) → made ≡ no_room
+    pub normal-full : b ≡ None → (tags' values' : List ℕ) → Cut n tags₁ values₁ tags' values' → (made : Answer) → made ≡ no_room
         → NormalForm tags values rules n t polarity made tags' values'
     unfolding normal_answer and_then
     normal-full e tags' values' cut made q =
@@ -111,7 +110,7 @@ module _ (tags values rules : List ℕ) (n t : ℕ) (polarity : Bool) (a : Answe
           values-are = cut.values-are ∙ (zero-kept n values values₁ kept.values-size kept.values-kept ∙ left-refused no_room values n _ (λ z. omega arith) (λ z. omega arith));
         })
 
-    pub normal-made : (p : TermPlace) (m : ℕ) → b ≡ At p m → length tags₁ ≡ length tags → length values₁ ≡ length values
+    pub normal-made : (p : TermPlace) (m : ℕ) → b ≡ Some (p, m) → length tags₁ ≡ length tags → length values₁ ≡ length values
         → (tags' values' : List ℕ) → Cut m tags₁ values₁ tags' values' → (made : Answer) → made ≡ accepted p.0 m
         → NormalForm tags values rules n t polarity made tags' values'
     unfolding normal_answer and_then

@@ -2,7 +2,7 @@ use Rattle.building.specs.Walk.{normal}
 use Rattle.descriptions.specs.Index.{Index}
 use Rattle.building.proofs.build.Walks.{OperandsLeft}
 use Rattle.building.proofs.negation_normal_form.Laws.{max_of}
-use Prim.Native.Nat.{◌+◌, ◌*◌, ◌-◌}
+use Prim.Native.Nat.{◌+◌, ◌*◌}
 use Rattle.building.proofs.negation_normal_form.+connective_form_expand_negation_normal_form_operand_forms_pair_of_quantifier_form_two_pairs.Given as goal
 
 abbrev pub decreases-connective_form : goal.decreases-connective_form
@@ -28,6 +28,3 @@ decreases-two_pairs l = max_of (max_of l.a.0 l.b.0) (max_of l.c.0.0 l.d.0) * 327
 
 abbrev pub invariant-operand_forms-loop-i : goal.invariant-operand_forms-loop-i
 invariant-operand_forms-loop-i l = OperandsLeft normal l.end l.n l.initial.tags l.initial.values l.initial.work l.t.0 l.polarity l.m l.tags l.values l.work l.i × Index l.tags l.values l.m l.index
-
-abbrev pub decreases-operand_forms-loop-i : goal.decreases-operand_forms-loop-i
-decreases-operand_forms-loop-i l = 8192 - l.i

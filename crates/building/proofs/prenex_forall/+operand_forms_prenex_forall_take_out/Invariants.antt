@@ -2,7 +2,7 @@ use mathlib.Core.Bool.{true}
 use Rattle.building.specs.Walk.{taken_out}
 use Rattle.descriptions.specs.Index.{Index}
 use Rattle.building.proofs.build.Walks.{OperandsLeft}
-use Prim.Native.Nat.{◌+◌, ◌*◌, ◌-◌}
+use Prim.Native.Nat.{◌+◌, ◌*◌}
 use Rattle.building.proofs.prenex_forall.+operand_forms_prenex_forall_take_out.Given as goal
 
 abbrev pub decreases-operand_forms : goal.decreases-operand_forms
@@ -16,6 +16,3 @@ decreases-take_out l = l.x.0 * 32768 + 16384
 
 abbrev pub invariant-operand_forms-loop-i : goal.invariant-operand_forms-loop-i
 invariant-operand_forms-loop-i l = OperandsLeft taken_out l.end l.n l.initial.tags l.initial.values l.initial.work l.x.0 true l.m l.tags l.values l.work l.i × Index l.tags l.values l.m l.index
-
-abbrev pub decreases-operand_forms-loop-i : goal.decreases-operand_forms-loop-i
-decreases-operand_forms-loop-i l = 8192 - l.i

@@ -1,11 +1,11 @@
-use Rattle.building.proofs.terms.Cells.{pairings}
+use borrow.Author.Rules.{rules}
+use native.Mathlib.Omega.{arith}
+use mathlib.Core.Path.{refl}
+use Rattle.building.proofs.terms.Cells.{pairs-none, pairs-all}
 use Rattle.building.proofs.terms.gather_pairs.Goals as goal
 
-pub loop-j-init : goal.loop-j-init
-loop-j-init c = search pairings
-
-pub loop-j-preserved : goal.loop-j-preserved
-loop-j-preserved c = search pairings
+pub returns-in_default : goal.returns-in_default
+returns-in_default c = pairs-none _ _ _ c.requires.work_len c.in_default.len_below
 
 pub returns : goal.returns
-returns c = search pairings
+returns c = pairs-all _ _ _ c.requires.work_len c.requires.run_len_bound _ (search (rules, c.copy_from_slice.ensures.after)) _ _ refl (omega arith)

@@ -1,19 +1,23 @@
 use borrow.Author.Rules.{rules}
 use Rattle.clauses.proofs.totals.Laws.{fresh}
-use Rattle.clauses.proofs.clause_list.Laws.{counted-answers, fits-ask}
+use Rattle.clauses.proofs.clause_list.Laws.{many-clauses, many-literals, fits-answer, fits-ask}
+use Rattle.clauses.proofs.clause_list.list_counted.Goals.{then-totals-gt-MAX_CLAUSES-via-then-totals-gt-MAX_CLAUSES, then-totals-gt-MAX_CLAUSES-via-else-totals-gt-MAX_CLAUSES+then-totals-gt-MAX_LITERALS}
 use Rattle.clauses.proofs.clause_list.list_counted.Goals as goal
 
-pub list_totals-t-requires : goal.list_totals-t-requires
-list_totals-t-requires c = fresh _ _ 8192 (search rules)
+pub list_totals-totals-requires : goal.list_totals-totals-requires
+list_totals-totals-requires c = fresh _ _ 8192 (search rules)
 
-pub returns-then-clauses-gt-MAX_CLAUSES : goal.returns-then-clauses-gt-MAX_CLAUSES
-returns-then-clauses-gt-MAX_CLAUSES c = search counted-answers
-
-pub returns-then-size-gt-MAX_LITERALS : goal.returns-then-size-gt-MAX_LITERALS
-returns-then-size-gt-MAX_LITERALS c = search counted-answers
+pub returns-then-totals-gt-MAX_CLAUSES : goal.returns-then-totals-gt-MAX_CLAUSES
+returns-then-totals-gt-MAX_CLAUSES c =
+    elim c.then-totals-gt-MAX_CLAUSES.branch [
+      | then-totals-gt-MAX_CLAUSES-via-then-totals-gt-MAX_CLAUSES w ↦
+          many-clauses _ _ _ _ _ c.requires _ _ _ c.list_totals-totals.ensures w.if-totals-gt-MAX_CLAUSES.true
+      | then-totals-gt-MAX_CLAUSES-via-else-totals-gt-MAX_CLAUSES+then-totals-gt-MAX_LITERALS w ↦
+          many-literals _ _ _ _ _ c.requires _ _ _ c.list_totals-totals.ensures w.if-totals-gt-MAX_CLAUSES.false w.if-totals-gt-MAX_LITERALS.true
+    ]
 
 pub write_list-requires : goal.write_list-requires
 write_list-requires c = search fits-ask
 
 pub returns : goal.returns
-returns c = search counted-answers
+returns c = search fits-answer

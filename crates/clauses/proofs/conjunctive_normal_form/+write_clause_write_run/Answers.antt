@@ -1,5 +1,7 @@
 use borrow.Author.Rules.{rules}
-use Rattle.clauses.proofs.conjunctive_normal_form.Laws.{rooms, asks, and-falls, run-first, run-falls, run-rest, run-here-some, run-rest-some, writes}
+use native.Mathlib.Omega.{arith}
+use Rattle.formulas.proofs.Reading.{before_at}
+use Rattle.clauses.proofs.conjunctive_normal_form.Laws.{rooms, asks, and-falls, run-first, run-next, run-all, run-here-some, run-rest-some, writes}
 use Rattle.clauses.proofs.conjunctive_normal_form.+write_clause_write_run.Goals as goal
 
 pub write_clause-put-requires : goal.write_clause-put-requires
@@ -26,24 +28,26 @@ write_clause-returns-in-Forall t c = search writes
 pub write_clause-returns-else-all : goal.write_clause-returns-else-all
 write_clause-returns-else-all t c = search writes
 
-pub write_run-returns-then-run-eq0 : goal.write_run-returns-then-run-eq0
-write_run-returns-then-run-eq0 t c = search writes
+pub write_run-loop-u-init : goal.write_run-loop-u-init
+write_run-loop-u-init t c = record { ask = c.requires; then = λ after r w. w }
 
 pub write_run-take_apart-d-requires : goal.write_run-take_apart-d-requires
-write_run-take_apart-d-requires t c = (search run-here-some, search run-rest-some)
+write_run-take_apart-d-requires t c = (
+  run-here-some _ _ _ _ _ _ _ _ _ _ _ _ _ c.loop-u.invariant c.loop-u-test.true _ c.count_at-here.ensures,
+  run-rest-some _ _ _ _ _ _ _ _ _ _ _ _ _ c.loop-u.invariant c.loop-u-test.true _ c.count_at-here.ensures,
+)
 
 pub write_run-write_clause-next-requires : goal.write_run-write_clause-next-requires
-write_run-write_clause-next-requires t c = (
-  search run-falls,
-  run-first _ _ _ _ _ _ _ _ _ c.requires c.if-run-eq0.false _ c.count_at-here.ensures _ c.take_apart-d.ensures.first,
-)
+write_run-write_clause-next-requires t c =
+    let h = before_at _ _ c.requires.before _ c.loop-u-test.true in (
+      omega arith,
+      run-first _ _ _ _ _ _ _ _ _ _ _ _ _ c.loop-u.invariant c.loop-u-test.true _ c.count_at-here.ensures _ c.take_apart-d.ensures.first,
+    )
 
-pub write_run-write_run-requires : goal.write_run-write_run-requires
-write_run-write_run-requires t c = let apart = c.take_apart-d.ensures in (
-  search rules,
-  run-rest _ _ _ _ _ _ _ _ _ c.requires c.if-run-eq0.false _ c.count_at-here.ensures
-      _ apart.first _ _ c.write_clause-next.ensures _ apart.after _ apart.rest,
-)
+pub write_run-loop-u-preserved : goal.write_run-loop-u-preserved
+write_run-loop-u-preserved t c =
+    let apart = c.take_apart-d.ensures in
+    run-next _ _ _ _ _ _ _ _ _ _ _ _ _ c.loop-u.invariant c.loop-u-test.true _ c.count_at-here.ensures _ apart.first _ _ c.write_clause-next.ensures _ apart.after _ apart.rest
 
 pub write_run-returns : goal.write_run-returns
-write_run-returns t c = search writes
+write_run-returns t c = run-all _ _ _ _ _ _ _ _ _ _ _ _ _ c.loop-u.invariant c.loop-u-test.false

@@ -4,8 +4,8 @@ use Rattle.clauses.proofs.conjunctive_normal_form.choose.Goals as goal
 pub returns-then-left-here : goal.returns-then-left-here
 returns-then-left-here c = search chooses
 
-pub loop-j-preserved : goal.loop-j-preserved
-loop-j-preserved c = search chooses
+pub loop-u-preserved : goal.loop-u-preserved
+loop-u-preserved c = search chooses
 
 pub returns : goal.returns
 returns c = search chooses

@@ -1,6 +1,5 @@
 use Rattle.clauses.proofs.totals.Laws.{CountedTo}
-use Prim.Native.Nat.{◌*◌, ◌+◌, ◌-◌}
-use lib.ListN.{length}
+use Prim.Native.Nat.{◌*◌, ◌+◌}
 use Rattle.clauses.proofs.totals.+count_operands_list_totals.Given as goal
 
 -- The measures: the place, and at one place the walk along the operands below the term walker.
@@ -10,8 +9,5 @@ decreases-count_operands l = l.x.0 * 2
 abbrev pub decreases-list_totals : goal.decreases-list_totals
 decreases-list_totals l = l.x.0 * 2 + 1
 
-abbrev pub invariant-count_operands-loop-i : goal.invariant-count_operands-loop-i
-invariant-count_operands-loop-i l = CountedTo l.tags l.values l.run l.initial.memo l.memo l.i
-
-abbrev pub decreases-count_operands-loop-i : goal.decreases-count_operands-loop-i
-decreases-count_operands-loop-i l = length l.run - l.i
+abbrev pub invariant-count_operands-loop-u : goal.invariant-count_operands-loop-u
+invariant-count_operands-loop-u l = CountedTo l.tags l.values l.u-items l.initial.memo l.memo l.u-index

@@ -1,11 +1,11 @@
-use Rattle.formulas.proofs.matching.Laws.{quantifiers}
+use Rattle.formulas.proofs.matching.Laws.{quantifier-forall, quantifier-exists, quantifiers}
 use Rattle.formulas.proofs.matching.quantified_at.Goals as goal
 
-pub returns-then-tag-eq-FORALL : goal.returns-then-tag-eq-FORALL
-returns-then-tag-eq-FORALL c = search quantifiers
+pub returns-in-23 : goal.returns-in-23
+returns-in-23 c = quantifier-forall _ _ _ _ c.tag_at-tag.ensures _ c.operands.ensures _ c.cell.ensures c.in-23.is
 
-pub returns-then-tag-eq-EXISTS : goal.returns-then-tag-eq-EXISTS
-returns-then-tag-eq-EXISTS c = search quantifiers
+pub returns-in-24 : goal.returns-in-24
+returns-in-24 c = quantifier-exists _ _ _ _ c.tag_at-tag.ensures _ c.operands.ensures _ c.cell.ensures c.in-24.is
 
-pub returns : goal.returns
-returns c = search quantifiers
+pub returns-in_default : goal.returns-in_default
+returns-in_default c = search quantifiers

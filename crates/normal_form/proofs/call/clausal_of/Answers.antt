@@ -1,16 +1,23 @@
-use Rattle.normal_form.proofs.call.Clauses.{clausals, clausal-state, clausal-below}
+use mathlib.Core.Path.{refl}
+use Rattle.answers.proofs.Refusals.{handed-on, named}
+use Rattle.pool.proofs.checks.Laws.{refused}
+use Rattle.normal_form.proofs.call.Clauses.{clausal-refused, clausal-full, clausal-made, clausal-state, clausal-below}
 use Rattle.normal_form.proofs.call.clausal_of.Goals as goal
 
-pub returns-then-checked-ne0 : goal.returns-then-checked-ne0
-returns-then-checked-ne0 c = search clausals
+pub returns-in_err-index_term : goal.returns-in_err-index_term
+returns-in_err-index_term c = rw (handed-on c.from_residual.result _ c.from_residual.ensures.1) (clausal-refused _ _ _ _ _ _ c.in_err-index_term.ensures.value (refused _))
 
 pub build_forms-requires : goal.build_forms-requires
-build_forms-requires c = let state = clausal-state _ _ _ _ _ _ c.index_term-checked.ensures.value c.if-checked-ne0.false in
-    let below = clausal-below _ _ _ _ _ _ c.index_term-checked.ensures.value c.if-checked-ne0.false in
-    (record { state = state; t_lt_n = below; index = c.index_term-checked.ensures.indexed.passed c.if-checked-ne0.false })
+build_forms-requires c = record {
+  state = clausal-state _ _ _ _ _ _ c.in_ok-index_term.ensures.value refl;
+  t_lt_n = clausal-below _ _ _ _ _ _ c.in_ok-index_term.ensures.value refl;
+  index = c.in_ok-index_term.ensures.indexed.passed refl;
+}
 
-pub returns-in_default : goal.returns-in_default
-returns-in_default c = search clausals
+pub returns-in_err-forms : goal.returns-in_err-forms
+returns-in_err-forms c =
+    rw (named _ _ _ _ c.in_err-forms.ensures.value c.from_residual-in_err-forms.ensures.1)
+    (clausal-full _ _ _ _ _ _ c.in_ok-index_term.ensures.value refl _ _ _ c.build_forms.ensures.forms_built c.in_err-forms.ensures.ok_part)
 
 pub returns : goal.returns
-returns c = search clausals
+returns c = clausal-made _ _ _ _ _ _ c.in_ok-index_term.ensures.value refl _ _ _ c.build_forms.ensures.forms_built _ c.in_ok-forms.ensures.ok_part
