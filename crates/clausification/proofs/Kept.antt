@@ -5,6 +5,7 @@
 --     var-room        a variable's two cells stand below n too
 --     free-kept, binding-kept     whether a variable is free there
 -- Assumes nothing.
+use Rattle.std.specs.Prelude.{Option, Some, None}
 use Prim.Native.Nat.{ℕ, zero, suc, ◌+◌, ◌≤◌, ◌<◌, ◌%◌}
 use mathlib.Core.Path.{◌≡◌, refl, sym, ap, fun_ext, ◌∙◌}
 use mathlib.Core.Bool.{Bool, false, cond}
@@ -15,8 +16,6 @@ use native.Mathlib.Omega.{arith}
 use borrow.Author.Tests.{ltb-true, ltb-false, eqb-true, eq-eqb}
 use Rattle.cells.specs.Cell.{cells_of, sort_of, operands_of, is_at}
 use Rattle.cells.specs.ByPlace.{by-test, by_place-is}
-use Rattle.cells.specs.declared.Found.{Found}
-use Rattle.cells.specs.declared.Found.TheVariants.{At, Nothing}
 use Rattle.cells.proofs.Cells.{same_refl}
 use Rattle.cells.proofs.Walks.{first-end, first_below, found-holds}
 use Rattle.headers.specs.WellFormed.{shape_of, count_fits, kind_at, first_bad}
@@ -36,7 +35,7 @@ use Rattle.free_pairs.specs.BindingFree.{binding_free, free_at}
 use Rattle.formulas.specs.PatternAnswer.{pairs_of}
 use Rattle.clausification.specs.QntCnf.{is_clause}
 
-module _ (n : ℕ) (tags values tags' values' : List ℕ) (s : Same n tags values tags' values') (formed : first_bad tags values n ≡ Nothing) where
+module _ (n : ℕ) (tags values tags' values' : List ℕ) (s : Same n tags values tags' values') (formed : first_bad tags values n ≡ None) where
   header-here : (t : ℕ) → t < n → (get_or tags t 0 ≡ 0 → ⊥) → Header tags values n t
   header-here t h k = header tags values n t (place-fits tags values n formed t h k)
 
@@ -70,9 +69,9 @@ module _ (n : ℕ) (tags values tags' values' : List ℕ) (s : Same n tags value
       find-grown n tags values tags' values' s n tag cells (omega arith) (well-formed-fills tags values n formed)
       ∙ rw (← first-end values' n (λ q. is_at tags' values' q tag cells) _ n refl (omega arith)) (itself (find tags values n tag cells))
     where
-      itself : (f : Found) → or_else f Nothing ≡ f
-      itself (At p) = refl
-      itself Nothing = refl
+      itself : (f : Option ℕ) → or_else f None ≡ f
+      itself (Some p) = refl
+      itself None = refl
 
   -- ---- free variables
   sort-kept : (u : ℕ) → u + 1 < n → sort_of values' u ≡ sort_of values u
@@ -134,8 +133,8 @@ module _ (n : ℕ) (tags values tags' values' : List ℕ) (s : Same n tags value
   unfolding binding_free find
   binding-kept t h a = rw (find-kept 21 (a.sort ∷ a.name ∷ [])) (at (find tags values n 21 (a.sort ∷ a.name ∷ [])) refl)
     where
-      at : (f : Found) → find tags values n 21 (a.sort ∷ a.name ∷ []) ≡ f → free_at tags' values' t f ≡ free_at tags values t f
-      at (At v) e =
+      at : (f : Option ℕ) → find tags values n 21 (a.sort ∷ a.name ∷ []) ≡ f → free_at tags' values' t f ≡ free_at tags values t f
+      at (Some v) e =
           free-kept v (var-room v (first_below values n (λ q. is_at tags values q 21 (a.sort ∷ a.name ∷ [])) v e)
           (at_true tags values v 21 (a.sort ∷ a.name ∷ []) (found-holds values n (λ q. is_at tags values q 21 (a.sort ∷ a.name ∷ [])) v e)).0) t h
-      at Nothing e = refl
+      at None e = refl

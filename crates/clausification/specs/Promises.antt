@@ -1,11 +1,12 @@
 -- What the functions of rule 3 promise each other.
--- Rests on answers' Outcome and struct `Answer`, on bindings' Binding, on descriptions' Description, on free_pairs' BindingFree, on pool's
--- Check, on formulas' Pattern, Normal, Built and PatternAnswer, on building's Walk, and on QntCnf.
-use Rattle.std.specs.Prelude.{ℕ, ◌<◌, ◌≡◌, true, not, ◌&&◌, List, ◌++◌}
+-- Rests on answers' Outcome, Refusal and enum `Refusal`, on the library's `Result`, on bindings' Binding, on descriptions' Description, on
+-- free_pairs' BindingFree, on pool's Check, on formulas' Pattern, Normal, Built and PatternAnswer, on building's Walk, and on QntCnf.
+use Rattle.std.specs.Prelude.{Result, ℕ, ◌<◌, ◌≡◌, true, not, ◌&&◌, List, ◌++◌}
 use Rattle.formulas.specs.Built.{form_at}
 use Rattle.descriptions.specs.Description.{zero_from}
 use Rattle.pool.specs.Check.{check_pool}
-use Rattle.answers.specs.declared.Answer.{Answer}
+use Rattle.answers.specs.Refusal.{answer_of_check}
+use Rattle.answers.specs.declared.refusal.Refusal.{Refusal}
 use Rattle.formulas.specs.Normal.{taken}
 use Rattle.building.specs.Walk.{Left}
 use Rattle.answers.specs.Outcome.{Outcome, ◌>>◌, guard, unless, answer_of}
@@ -41,12 +42,12 @@ pub record ForallSides (tags values : List ℕ) (n l left r right : ℕ) : Type 
   pub right-body : right < n
 
 -- the answer of a check, which leaves the pool's cells as they are
-pub record Leaves (n : ℕ) (tags values : List ℕ) (o : Outcome (Unit {0})) (r : Answer) (tags' values' : List ℕ) : Type 0 where
-  pub answer : r ≡ answer_of o
+pub record Leaves (n : ℕ) (tags values : List ℕ) (o : Outcome (Unit {0})) (r : Result (Unit {0}) Refusal) (tags' values' : List ℕ) : Type 0 where
+  pub answer : answer_of_check r ≡ answer_of o
   pub left : Left n tags values tags' values'
 
 -- the rule's answer r; "`qnt_cnf` .. zeroes those past N with every answer"
-pub record Clausified (tags values : List ℕ) (n x : ℕ) (r : Answer) (tags' values' : List ℕ) : Type 0 where
-  pub answer : r ≡ answer_of (qnt_cnf tags values n x)
+pub record Clausified (tags values : List ℕ) (n x : ℕ) (r : Result (Unit {0}) Refusal) (tags' values' : List ℕ) : Type 0 where
+  pub answer : answer_of_check r ≡ answer_of (qnt_cnf tags values n x)
   pub tags-are : tags' ≡ zero_from n tags
   pub values-are : values' ≡ zero_from n values

@@ -4,7 +4,7 @@
 -- Rests on answers' Outcome, on cells' Cell, on bindings' Binding, on free_pairs' BindingFree, on formulas' Formula, Pattern, Normal, Built,
 -- Clauses and ClauseLists, and on building's Arrays.
 use Rattle.std.specs.Prelude.{ℕ, Bool, true, false, not, ◌&&◌, ◌||◌, cond, List, [], ◌∷◌, ◌++◌, map, length, get_or, eqb, leb}
-use Rattle.std.proofs.Math.Option.{Option, some}
+use Rattle.std.specs.Prelude.{Option, Some}
 use Rattle.cells.specs.Cell.{operands_of, same_cells}
 use Rattle.formulas.specs.Normal.{Normal, taken}
 use Rattle.formulas.specs.Clauses.{cnf, empty_or, literal_total}
@@ -22,7 +22,7 @@ unfoldable pub implication : List ℕ → List ℕ → ℕ → Option (ℕ × �
 implication tags values x =
     and_then (and_then (operator tags values 37 x) two_of) λ sides.
     and_then (and_then (operator tags values 34 sides.0) one_of) λ l.
-    some (l, sides.1)
+    Some (l, sides.1)
 
 -- "32 over 2,048 clauses or 8,192 literals"
 unfoldable pub within_limits : List (List (Normal (List ℕ) ℕ)) → Bool

@@ -1,12 +1,10 @@
 -- The variables that are taken out of a term in normal form, as one walk collects them: what the walk, its array and its memo promise.
 -- The array and the memo are no part of a public contract.
--- Rests on bindings' Binding, on formulas' Normal and Built, and on the enum `Collected`.
-use Rattle.std.specs.Prelude.{ℕ, ◌≤◌, ◌≡◌, true, ◌||◌, List, get_or, drop}
+-- Rests on bindings' Binding, and on formulas' Normal and Built.
+use Rattle.std.specs.Prelude.{ℕ, ◌≤◌, ◌≡◌, true, ◌||◌, List, get_or, drop, Option, Some, None}
 use Rattle.formulas.specs.Normal.{taken, takens}
 use Rattle.formulas.specs.Built.{normals_of, form_at}
 use Rattle.bindings.specs.Binding.{Binding, bindings_of, has}
-use Rattle.clausification.specs.declared.taken_list.Collected.{Collected}
-use Rattle.clausification.specs.declared.taken_list.Collected.TheVariants.{From, Full}
 
 -- the pairs that stand from k on
 unfoldable pub pairs_from : List ℕ → ℕ → List Binding
@@ -31,9 +29,9 @@ pub record Joined (cells : List ℕ) (k : ℕ) (more : List Binding) (cells' : L
   pub joins : Joins (pairs_from cells' j) (pairs_from cells k) more
 
 -- a list was put before the pairs from k on, or there was no room
-abbrev pub PairsPut : List ℕ → ℕ → List Binding → List ℕ → Collected → Type 0
-PairsPut cells k more cells' (From j) = Joined cells k more cells' j
-PairsPut cells k more cells' Full = Unit {0}
+abbrev pub PairsPut : List ℕ → ℕ → List Binding → List ℕ → Option ℕ → Type 0
+PairsPut cells k more cells' (Some j) = Joined cells k more cells' j
+PairsPut cells k more cells' None = Unit {0}
 
 -- the memo: a list has every variable that is taken out of a term whose entry is 1; any other entry says nothing
 pub record CollectedMemo (tags values seen : List ℕ) (list : List Binding) : Type 0 where
@@ -44,10 +42,10 @@ pub record Gathered (tags values cells : List ℕ) (k : ℕ) (seen' cells' : Lis
   pub right : CollectedMemo tags values seen' (pairs_from cells' j)
 
 -- these variables stand before the pairs from k on, with a right memo, or there is no room
-abbrev pub GatheredOr : List ℕ → List ℕ → List ℕ → ℕ → List ℕ → List ℕ → List Binding → Collected → Type 0
-GatheredOr tags values cells k seen' cells' more (From j) = Gathered tags values cells k seen' cells' more j
-GatheredOr tags values cells k seen' cells' more Full = Unit {0}
+abbrev pub GatheredOr : List ℕ → List ℕ → List ℕ → ℕ → List ℕ → List ℕ → List Binding → Option ℕ → Type 0
+GatheredOr tags values cells k seen' cells' more (Some j) = Gathered tags values cells k seen' cells' more j
+GatheredOr tags values cells k seen' cells' more None = Unit {0}
 
 -- a walk from these cells left a memo and cells, and answered r
-pub record CollectedBy (tags values cells : List ℕ) (k : ℕ) (seen' cells' : List ℕ) (more : List Binding) (r : Collected) : Type 0 where
+pub record CollectedBy (tags values cells : List ℕ) (k : ℕ) (seen' cells' : List ℕ) (more : List Binding) (r : Option ℕ) : Type 0 where
   pub leaves : GatheredOr tags values cells k seen' cells' more r

@@ -1,7 +1,8 @@
 -- The search among the variables that are taken out of a term in normal form: what is sought, and what the walk and its memo promise.
 -- The memo is no part of a public contract.
--- Rests on cells' Cell, on bindings' Binding, BindingAnswer and enum `FirstName`, on free_pairs' BindingFree, on free_variables' Names, on formulas' Formula,
+-- Rests on cells' Cell, on bindings' Binding, BindingAnswer and the library's `Option`, on free_pairs' BindingFree, on free_variables' Names, on formulas' Formula,
 -- Normal and Built, and on the enums `Sought` and `Step`.
+use Rattle.std.specs.Prelude.{Option, Some, None}
 use Rattle.std.specs.Prelude.{ℕ, ◌<◌, ◌≡◌, Bool, true, not, ◌&&◌, List, get_or, set}
 use Rattle.cells.specs.Cell.{operands_of}
 use Rattle.free_variables.specs.Names.{free_in, NamesMarked}
@@ -10,9 +11,7 @@ use Rattle.formulas.specs.Normal.{taken, takens}
 use Rattle.formulas.specs.Built.{normals_of, form_at}
 use Rattle.bindings.specs.Binding.{Binding, bindings_of, same, has, first_of}
 use Rattle.free_pairs.specs.BindingFree.{binding_free}
-use Rattle.bindings.specs.BindingAnswer.{pair, name_of}
-use Rattle.bindings.specs.declared.binding.FirstName.{FirstName}
-use Rattle.bindings.specs.declared.binding.FirstName.TheVariants as first
+use Rattle.bindings.specs.BindingAnswer.{binding, name_of}
 use Rattle.clausification.specs.declared.taken_search.Sought.{Sought}
 use Rattle.clausification.specs.declared.taken_search.Sought.TheVariants.{Pair, Missing}
 use Rattle.clausification.specs.declared.taken_search.Step.{Step}
@@ -20,45 +19,45 @@ use Rattle.clausification.specs.declared.taken_search.Step.TheVariants as step
 
 -- a pair is the one sought; or the right list lacks it, and its variable is free in the term at t
 unfoldable pub is_sought : List ℕ → List ℕ → ℕ → List Binding → Sought → Binding → Bool
-is_sought tags values n right (Pair a s) b = same b (pair a s.0)
+is_sought tags values n right (Pair v) b = same b (binding v)
 is_sought tags values n right (Missing t) b = not (has right b) && binding_free tags values n t.0 b
 
 -- the table has the names of the term where a missing variable is to be free
 abbrev pub Tabled : List ℕ → List ℕ → List ℕ → Sought → Type 0
-Tabled tags values names (Pair a s) = Unit {0}
+Tabled tags values names (Pair v) = Unit {0}
 Tabled tags values names (Missing t) = NamesMarked tags values names (free_in tags values t.0)
 
 module _ (tags values : List ℕ) (test : Binding → Bool) where
   -- the first of the variables that are taken out of the term at x
-  unfoldable pub found_at : ℕ → FirstName
+  unfoldable pub found_at : ℕ → Option ℕ
   found_at x = name_of (first_of test (taken bindings_of (form_at tags values x)))
 
   -- and of the terms of a run
-  unfoldable pub found_in : List ℕ → FirstName
+  unfoldable pub found_in : List ℕ → Option ℕ
   found_in run = name_of (first_of test (takens bindings_of (normals_of (form_at tags values) run)))
 
 -- what each step at x says of the answer there
 abbrev pub StepMeans : List ℕ → List ℕ → (Binding → Bool) → ℕ → Step → Type 0
-StepMeans tags values test x (step.Found a) = first.Name a ≡ found_at tags values test x
-StepMeans tags values test x step.Nothing = first.Nothing ≡ found_at tags values test x
+StepMeans tags values test x (step.Found a) = Some a ≡ found_at tags values test x
+StepMeans tags values test x step.Nothing = None ≡ found_at tags values test x
 StepMeans tags values test x (step.Body u) = (u.0 < x) × (found_at tags values test u.0 ≡ found_at tags values test x)
 StepMeans tags values test x step.Run =
     (all_before x (operands_of tags values x) ≡ true) × (found_in tags values test (operands_of tags values x) ≡ found_at tags values test x)
 
 -- the memo: nothing is found from a place whose entry is 1; any other entry says nothing
 pub record SearchMemo (tags values : List ℕ) (test : Binding → Bool) (seen : List ℕ) : Type 0 where
-  pub at : (u : ℕ) → get_or seen u 0 ≡ 1 → first.Nothing ≡ found_at tags values test u
+  pub at : (u : ℕ) → get_or seen u 0 ≡ 1 → None ≡ found_at tags values test u
 
 -- the answer r is the one defined, and the memo left is right
-pub record SearchAnswered (tags values : List ℕ) (test : Binding → Bool) (seen : List ℕ) (r defined : FirstName) : Type 0 where
+pub record SearchAnswered (tags values : List ℕ) (test : Binding → Bool) (seen : List ℕ) (r defined : Option ℕ) : Type 0 where
   pub is : r ≡ defined
   pub right : SearchMemo tags values test seen
 
--- the memo after the answer f for x: only a `Nothing` is noted, and past the memo's end nothing is
-abbrev pub after_note : FirstName → List ℕ → ℕ → List ℕ
-after_note (first.Name a) seen x = seen
-after_note first.Nothing seen x = set seen x 1
+-- the memo after the answer f for x: only a `None` is noted, and past the memo's end nothing is
+abbrev pub after_note : Option ℕ → List ℕ → ℕ → List ℕ
+after_note (Some a) seen x = seen
+after_note None seen x = set seen x 1
 
-pub record SearchNoted (seen : List ℕ) (x : ℕ) (f : FirstName) (after : List ℕ) (r : FirstName) : Type 0 where
+pub record SearchNoted (seen : List ℕ) (x : ℕ) (f : Option ℕ) (after : List ℕ) (r : Option ℕ) : Type 0 where
   pub same : r ≡ f
   pub kept : after ≡ after_note f seen x

@@ -5,7 +5,7 @@ ghost use Rattle.clausification.specs.ClauseSearch.{clauses_in};
 
 use pool::TermPlace;
 use pool::cell_comparison::same_cells;
-use pool::run::{operands, wide};
+use pool::run::operands;
 use pool::tags::{OR, tag_at};
 
 // Whether the term at x is the clause of these literal places.
@@ -49,18 +49,13 @@ pub(crate) fn any_clause(
 ) -> bool
     ensures { result ≡ any_clause (is_clause tags.now values.now x.0) (clauses_in literals.now ends.now 0 count) }
 {
-    let mut i: usize = 0;
     let mut start: usize = 0;
-    while i < count {
-        if ends.len() <= i {
-            return false;
-        }
-        let end = wide(ends[i]);
+    for end in part(ends, 0, count) {
+        let end = *end as usize;
         if is_clause(tags, values, x, part(literals, start, end)) {
             return true;
         }
         start = end;
-        i += 1;
     }
     false
 }

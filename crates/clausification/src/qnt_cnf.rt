@@ -4,6 +4,7 @@ ghost use Rattle.std.specs.Prelude.{◌≡◌};
 ghost use Rattle.descriptions.specs.Index.{Index};
 ghost use Rattle.pool.specs.Check.{CheckedTerm};
 ghost use Rattle.answers.specs.Outcome.{answer_of};
+ghost use Rattle.answers.specs.Refusal.{answer_of_check};
 ghost use Rattle.formulas.specs.PatternAnswer.{two_in};
 ghost use Rattle.clausification.specs.QntCnf.{implication, clausified, qnt_cnf};
 ghost use Rattle.clausification.specs.ClauseSearch.{clauses_in};
@@ -12,23 +13,16 @@ ghost use Rattle.clausification.specs.Promises.{forall_at, follows_in, Leaves, C
 use crate::clause_search::any_clause;
 use crate::taken_list::first_unbound;
 use crate::taken_search::{Sought, first_taken};
-use formulas::matching::{
-    One, Quantified, Two, bindings, one_operand, quantified_at, two_operands,
-};
-use normal_form::clausal_forms::{ClausalForms, build_forms};
+use formulas::matching::{bindings, operator_at, quantified_at};
+use formulas::view::carried_tag;
+use normal_form::clausal_forms::build_forms;
 use normal_form::clause_list::list_clauses;
-use pool::binding::FirstName;
 use pool::description::cut_back;
 use pool::free_lists::first_missing;
 use pool::index::INDEX;
 use pool::limits::{CLAUSE_ENDS, LITERALS};
-use pool::tags::{EXISTS, FORALL, NOT, OR};
-use pool::{Answer, TermPlace};
-
-// The tags as refusal 4 carries them.
-const FORALL_CARRIED: u32 = FORALL as u32;
-
-const EXISTS_CARRIED: u32 = EXISTS as u32;
+use pool::tags::{NOT, OR};
+use pool::{Refusal, TermPlace};
 
 // The place of a forall, and its body's.
 #[derive(Clone, Copy)]
@@ -38,16 +32,12 @@ struct Forall {
 }
 
 // The two sides of `(or (not l) r)` at x.
-fn implication_at(tags: &[u8], values: &[u32], x: TermPlace) -> Two
+fn implication_at(tags: &[u8], values: &[u32], x: TermPlace) -> Option<(TermPlace, TermPlace)>
     ensures { implication tags.now values.now x.0 ≡ two_in result }
 {
-    let Two::Are(negation, r) = two_operands(tags, values, OR, x) else {
-        return Two::Not;
-    };
-    let One::Is(l) = one_operand(tags, values, NOT, negation) else {
-        return Two::Not;
-    };
-    Two::Are(l, r)
+    let [negation, r] = operator_at::<2>(tags, values, OR, x)?;
+    let [l] = operator_at::<1>(tags, values, NOT, TermPlace(*negation))?;
+    Some((TermPlace(*l), TermPlace(*r)))
 }
 
 // The right forall against the left one at l, the normal form of its body at x and the clauses of that: 8, 10, 9.
@@ -61,26 +51,26 @@ fn clause_follows(
     literals: &[u32],
     ends: &[u32],
     count: usize,
-) -> Answer
-    ensures { result ≡ answer_of (follows_in tags.now values.now n x.0 l.0 right.place.0 right.body.0 (clauses_in literals.now ends.now 0 count)) }
+) -> Result<(), Refusal>
+    ensures { answer_of_check result ≡ answer_of (follows_in tags.now values.now n x.0 l.0 right.place.0 right.body.0 (clauses_in literals.now ends.now 0 count)) }
 {
     let left = bindings(tags, values, l);
     let bound = bindings(tags, values, right.place);
     let body = right.body;
-    if let FirstName::Name(name) = first_unbound(tags, values, x, left, bound) {
-        return Answer::refused(8, name, 0);
+    if let Some(name) = first_unbound(tags, values, x, left, bound) {
+        return Err(Refusal::NewVariable(name));
     }
     if !any_clause(tags, values, body, literals, ends, count) {
-        return Answer::refused(10, body.0, 0);
+        return Err(Refusal::ClauseAbsent(body));
     }
-    if let FirstName::Name(name) = first_missing(tags, values, n, body, left, bound) {
-        return Answer::refused(9, name, 0);
+    if let Some(name) = first_missing(tags, values, n, body, left, bound) {
+        return Err(Refusal::MissingVariable(name));
     }
     let sought = Sought::Missing(body);
-    if let FirstName::Name(name) = first_taken(tags, values, n, x, bound, sought) {
-        return Answer::refused(9, name, 0);
+    if let Some(name) = first_taken(tags, values, n, x, bound, sought) {
+        return Err(Refusal::MissingVariable(name));
     }
-    Answer::accepted(0, 0)
+    Ok(())
 }
 
 // The clauses of the left forall's body, and the right forall: 31, 13, 32, 8, 10, 9.
@@ -91,28 +81,30 @@ fn clausified(
     n: usize,
     left: Forall,
     right: Forall,
-) -> Answer
+) -> Result<(), Refusal>
     requires index { Index tags.old values.old n index.old }
     requires forall_sides { ForallSides tags.old values.old n left.place.0 left.body.0 right.place.0 right.body.0 }
     ensures leaves { Leaves n tags.old values.old (clausified tags.old values.old n (forall_at tags.old values.old left.place.0 left.body.0) (forall_at tags.old values.old right.place.0 right.body.0)) result tags.new values.new }
     ensures index_2 { Index tags.old values.old n index.new }
 {
-    let ClausalForms::At(x, m, y, k) = build_forms(tags, values, index, n, left.body) else {
-        return Answer::refused(31, 0, 0);
-    };
+    let forms = build_forms(tags, values, index, n, left.body).ok_or(Refusal::NoRoom)?;
+    let (m, k) = (forms.normal_count, forms.count);
     let mut literals = [0u32; LITERALS];
     let mut ends = [0u32; CLAUSE_ENDS];
-    let listed = list_clauses(&tags[..k], &values[..k], y, &mut literals, &mut ends);
-    if listed.code != 0 {
-        return listed;
-    }
-    let count = listed.first as usize;
+    let listed = list_clauses(
+        &tags[..k],
+        &values[..k],
+        forms.taken_out,
+        &mut literals,
+        &mut ends,
+    )?;
+    let count = listed.clauses as usize;
     let l = left.place;
     clause_follows(
         &tags[..m],
         &values[..m],
         n,
-        x,
+        forms.normal,
         l,
         right,
         &literals,
@@ -128,34 +120,26 @@ fn checks(
     index: &mut [u32; INDEX],
     n: usize,
     x: TermPlace,
-) -> Answer
+) -> Result<(), Refusal>
     requires index { Index tags.old values.old n index.old }
     requires checked_term { CheckedTerm tags.old values.old n x.0 }
     ensures leaves { Leaves n tags.old values.old (qnt_cnf tags.old values.old n x.0) result tags.new values.new }
     ensures index_2 { Index tags.old values.old n index.new }
 {
-    let Two::Are(l, r) = implication_at(tags, values, x) else {
-        return Answer::refused(2, x.0, 0);
-    };
-    let Quantified::Is(left_kind, left_body) = quantified_at(tags, values, l) else {
-        return Answer::refused(3, l.0, 0);
-    };
-    let Quantified::Is(right_kind, right_body) = quantified_at(tags, values, r) else {
-        return Answer::refused(3, r.0, 0);
-    };
-    if !left_kind {
-        return Answer::refused(4, FORALL_CARRIED, EXISTS_CARRIED);
-    }
-    if !right_kind {
-        return Answer::refused(4, FORALL_CARRIED, EXISTS_CARRIED);
+    let (l, r) = implication_at(tags, values, x).ok_or(Refusal::WrongForm(x))?;
+    let left = quantified_at(tags, values, l).ok_or(Refusal::NoQuantifier(l))?;
+    let right = quantified_at(tags, values, r).ok_or(Refusal::NoQuantifier(r))?;
+    if !left.kind || !right.kind {
+        let (wanted, found) = (carried_tag(true), carried_tag(false));
+        return Err(Refusal::OtherQuantifier(wanted, found));
     }
     let left = Forall {
         place: l,
-        body: left_body,
+        body: left.body,
     };
     let right = Forall {
         place: r,
-        body: right_body,
+        body: right.body,
     };
     clausified(tags, values, index, n, left, right)
 }
@@ -167,13 +151,13 @@ pub fn qnt_cnf(
     index: &mut [u32; INDEX],
     n: usize,
     x: TermPlace,
-) -> Answer
+) -> Result<(), Refusal>
     requires index { Index tags.old values.old n index.old }
     requires checked_term { CheckedTerm tags.old values.old n x.0 }
     ensures clausified { Clausified tags.old values.old n x.0 result tags.new values.new }
     ensures index_2 { Index tags.old values.old n index.new }
 {
-    let answer = checks(tags, values, index, n, x);
+    let checked = checks(tags, values, index, n, x);
     cut_back(tags, values, n);
-    answer
+    checked
 }

@@ -6,42 +6,32 @@ ghost use Rattle.formulas.specs.Built.{form_at};
 ghost use Rattle.formulas.specs.Formula.{all_before};
 ghost use Rattle.formulas.specs.Normal.{taken};
 ghost use Rattle.bindings.specs.Binding.{bindings_of, has, first_of};
-ghost use Rattle.bindings.specs.BindingAnswer.{pair, name_of};
+ghost use Rattle.bindings.specs.BindingAnswer.{binding, name_of};
 ghost use Rattle.clausification.specs.TakenList.{pairs_from, taken_at, taken_in, PairsPut, CollectedMemo, CollectedBy};
 
 use crate::taken_search::first_unbound_by_walks;
 use formulas::matching::bindings;
 use normal_form::view::{NormalView, normal_view};
-use pool::binding::{FirstName, has};
+use pool::binding::has;
 use pool::limits::CELLS;
 use pool::marks::{mark_at, set_mark};
+use pool::pairs::pairs_of;
 use pool::run::operands;
-use pool::{SortPlace, TermPlace};
+use pool::{TermPlace, Variable};
 
-// Where the collected pairs begin in an array that is filled from its end; or that there is no room for more.
-#[derive(Clone, Copy)]
-pub enum Collected {
-    From(usize),
-    Full,
-}
-
-// Puts the pairs of a list before those that stand from k on.
-fn put_pairs(cells: &mut [u32], k: usize, list: &[u32]) -> Collected
+// Puts the pairs of a list before those that stand from k on in an array that is filled from its end. Where they begin then, if there
+// is room for all of them.
+fn put_pairs(cells: &mut [u32], k: usize, list: &[u32]) -> Option<usize>
     requires { k ≤ length cells.old }
     ensures { PairsPut cells.old k (bindings_of list.now) cells.new result }
 {
-    let mut i: usize = 0;
     let mut j = k;
-    while 2 <= list.len() - i {
-        if j < 2 {
-            return Collected::Full;
-        }
-        j -= 2;
-        cells[j] = list[i];
-        cells[j + 1] = list[i + 1];
-        i += 2;
+    for pair in pairs_of(list) {
+        j = j.checked_sub(2)?;
+        cells[j] = pair.name;
+        cells[j + 1] = pair.sort.0;
     }
-    Collected::From(j)
+    Some(j)
 }
 
 // Collects the variables that are taken out of the term at x: the term walker.
@@ -53,16 +43,16 @@ fn collect_term(
     cells: &mut [u32],
     k: usize,
     x: TermPlace,
-) -> Collected
+) -> Option<usize>
     requires { CollectedMemo tags.now values.now seen.old (pairs_from cells.old k) × (k ≤ length cells.old) }
     ensures { CollectedBy tags.now values.now cells.old k seen.new cells.new (taken_at tags.now values.now x.0) result }
 {
     if mark_at(seen, x) == 1 {
-        return Collected::From(k);
+        return Some(k);
     }
     let view = normal_view(tags, values, x);
     match view {
-        NormalView::Literal => Collected::From(k),
+        NormalView::Literal => Some(k),
         NormalView::Connective(_) => {
             let run = operands(tags, values, x);
             let r = collect_run(tags, values, seen, cells, k, x, run);
@@ -70,10 +60,7 @@ fn collect_term(
             r
         }
         NormalView::Forall(body) => {
-            let own = put_pairs(cells, k, bindings(tags, values, x));
-            let Collected::From(j) = own else {
-                return Collected::Full;
-            };
+            let j = put_pairs(cells, k, bindings(tags, values, x))?;
             let r = collect_term(tags, values, seen, cells, j, body);
             set_mark(seen, x);
             r
@@ -91,42 +78,34 @@ fn collect_run(
     k: usize,
     x: TermPlace,
     run: &[u32],
-) -> Collected
+) -> Option<usize>
     requires { CollectedMemo tags.now values.now seen.old (pairs_from cells.old k) × (k ≤ length cells.old) × (all_before x.0 run.now ≡ true) }
     ensures { CollectedBy tags.now values.now cells.old k seen.new cells.new (taken_in tags.now values.now run.now) result }
 {
-    if run.len() == 0 {
-        return Collected::From(k);
+    let mut j = k;
+    for u in run {
+        j = collect_term(tags, values, seen, cells, j, TermPlace(*u))?;
     }
-    let first = collect_term(tags, values, seen, cells, k, TermPlace(run[0]));
-    let Collected::From(j) = first else {
-        return Collected::Full;
-    };
-    collect_run(tags, values, seen, cells, j, x, &run[1..])
+    Some(j)
 }
 
 // Whether neither list has this pair.
-fn is_in_neither(left: &[u32], taken: &[u32], name: u32, sort: SortPlace) -> bool
-    ensures { result ≡ not (has (bindings_of left.now ++ bindings_of taken.now) (pair name sort.0)) }
+fn is_in_neither(left: &[u32], taken: &[u32], pair: Variable) -> bool
+    ensures { result ≡ not (has (bindings_of left.now ++ bindings_of taken.now) (binding pair)) }
 {
-    if has(left, name, sort) {
-        return false;
-    }
-    !has(taken, name, sort)
+    !has(left, pair) && !has(taken, pair)
 }
 
 // The first pair of the right list that is neither in the left list nor among those taken out.
-fn first_in_neither(left: &[u32], taken: &[u32], right: &[u32]) -> FirstName
+fn first_in_neither(left: &[u32], taken: &[u32], right: &[u32]) -> Option<u32>
     ensures { result ≡ name_of (first_of (λ a. not (has (bindings_of left.now ++ bindings_of taken.now) a)) (bindings_of right.now)) }
 {
-    let mut i: usize = 0;
-    while 2 <= right.len() - i {
-        if is_in_neither(left, taken, right[i], SortPlace(right[i + 1])) {
-            return FirstName::Name(right[i]);
+    for pair in pairs_of(right) {
+        if is_in_neither(left, taken, pair) {
+            return Some(pair.name);
         }
-        i += 2;
     }
-    FirstName::Nothing
+    None
 }
 
 // The first pair of the right list that is neither in the left list nor among the variables taken out of the term at x.
@@ -136,13 +115,12 @@ pub fn first_unbound(
     x: TermPlace,
     left: &[u32],
     right: &[u32],
-) -> FirstName
+) -> Option<u32>
     ensures { result ≡ name_of (first_of (λ a. not (has (bindings_of left.now ++ taken bindings_of (form_at tags.now values.now x.0)) a)) (bindings_of right.now)) }
 {
     let mut seen = [0u8; CELLS];
     let mut cells = [0u32; CELLS];
-    let collected = collect_term(tags, values, &mut seen, &mut cells, CELLS, x);
-    let Collected::From(k) = collected else {
+    let Some(k) = collect_term(tags, values, &mut seen, &mut cells, CELLS, x) else {
         return first_unbound_by_walks(tags, values, x, left, right);
     };
     first_in_neither(left, &cells[k..], right)

@@ -6,23 +6,24 @@ ghost use Rattle.formulas.specs.Built.{form_at};
 ghost use Rattle.formulas.specs.Formula.{all_before};
 ghost use Rattle.formulas.specs.Normal.{taken};
 ghost use Rattle.bindings.specs.Binding.{bindings_of, has, first_of};
-ghost use Rattle.bindings.specs.BindingAnswer.{pair, name_of};
+ghost use Rattle.bindings.specs.BindingAnswer.{binding, name_of};
 ghost use Rattle.clausification.specs.TakenSearch.{is_sought, Tabled, found_at, found_in, StepMeans, SearchMemo, SearchAnswered, SearchNoted};
 
 use formulas::matching::bindings;
 use normal_form::view::{NormalView, normal_view};
-use pool::binding::{FirstName, has};
+use pool::binding::has;
 use pool::free_lists::first_missing_by;
 use pool::limits::CELLS;
-use pool::marks::mark_at;
+use pool::marks::{mark_at, set_mark};
+use pool::pairs::pairs_of;
 use pool::run::operands;
 use pool::term_names::mark_names;
-use pool::{SortPlace, TermPlace};
+use pool::{TermPlace, Variable};
 
 // What is sought: a pair of name and sort; or a variable that the right list lacks and that is free in the term at this place.
 #[derive(Clone, Copy)]
 pub enum Sought {
-    Pair(u32, SortPlace),
+    Pair(Variable),
     Missing(TermPlace),
 }
 
@@ -44,17 +45,12 @@ fn first_sought(
     sought: Sought,
     names: &[u8],
     list: &[u32],
-) -> FirstName
+) -> Option<u32>
     requires { Tabled tags.now values.now names.now sought }
     ensures { result ≡ name_of (first_of (is_sought tags.now values.now n (bindings_of right.now) sought) (bindings_of list.now)) }
 {
     match sought {
-        Sought::Pair(a, s) => {
-            if has(list, a, s) {
-                return FirstName::Name(a);
-            }
-            FirstName::Nothing
-        }
+        Sought::Pair(pair) => has(list, pair).then_some(pair.name),
         Sought::Missing(t) => first_missing_by(tags, values, n, names, t, list, right),
     }
 }
@@ -91,28 +87,21 @@ fn look(
                 bindings(tags, values, x),
             );
             match own {
-                FirstName::Name(a) => Step::Found(a),
-                FirstName::Nothing => Step::Body(body),
+                Some(a) => Step::Found(a),
+                None => Step::Body(body),
             }
         }
     }
 }
 
-// Notes the answer f for the term at x, and hands it back. A find ends the whole walk, so that only a `Nothing` is noted.
-fn note(seen: &mut [u8], x: TermPlace, f: FirstName) -> FirstName
+// Notes the answer f for the term at x, and hands it back. A find ends the whole walk, so that only a `None` is noted.
+fn note(seen: &mut [u8], x: TermPlace, f: Option<u32>) -> Option<u32>
     ensures { SearchNoted seen.old x.0 f seen.new result }
 {
-    let at = x.0 as usize;
-    match f {
-        FirstName::Name(a) => FirstName::Name(a),
-        FirstName::Nothing => {
-            if at < seen.len() {
-                seen[at] = 1;
-                return FirstName::Nothing;
-            }
-            FirstName::Nothing
-        }
+    if f.is_none() {
+        set_mark(seen, x);
     }
+    f
 }
 
 // The first variable that is sought among those taken out of the term at x: the term walker.
@@ -126,14 +115,14 @@ fn from_term(
     names: &[u8],
     seen: &mut [u8],
     x: TermPlace,
-) -> FirstName
+) -> Option<u32>
     requires { Tabled tags.now values.now names.now sought × SearchMemo tags.now values.now (is_sought tags.now values.now n (bindings_of right.now) sought) seen.old }
     ensures { SearchAnswered tags.now values.now (is_sought tags.now values.now n (bindings_of right.now) sought) seen.new result (found_at tags.now values.now (is_sought tags.now values.now n (bindings_of right.now) sought) x.0) }
 {
     let step = look(tags, values, n, right, sought, names, seen, x);
     match step {
-        Step::Found(a) => FirstName::Name(a),
-        Step::Nothing => note(seen, x, FirstName::Nothing),
+        Step::Found(a) => Some(a),
+        Step::Nothing => note(seen, x, None),
         Step::Body(u) => {
             let f = from_term(tags, values, n, right, sought, names, seen, u);
             note(seen, x, f)
@@ -158,36 +147,25 @@ fn from_run(
     seen: &mut [u8],
     x: TermPlace,
     run: &[u32],
-) -> FirstName
+) -> Option<u32>
     requires { Tabled tags.now values.now names.now sought × SearchMemo tags.now values.now (is_sought tags.now values.now n (bindings_of right.now) sought) seen.old × (all_before x.0 run.now ≡ true) }
     ensures { SearchAnswered tags.now values.now (is_sought tags.now values.now n (bindings_of right.now) sought) seen.new result (found_in tags.now values.now (is_sought tags.now values.now n (bindings_of right.now) sought) run.now) }
 {
-    if run.len() == 0 {
-        return FirstName::Nothing;
+    for u in run {
+        let u = TermPlace(*u);
+        if let Some(name) = from_term(tags, values, n, right, sought, names, seen, u) {
+            return Some(name);
+        }
     }
-    let f = from_term(
-        tags,
-        values,
-        n,
-        right,
-        sought,
-        names,
-        seen,
-        TermPlace(run[0]),
-    );
-    match f {
-        FirstName::Name(a) => FirstName::Name(a),
-        FirstName::Nothing => from_run(tags, values, n, right, sought, names, seen, x, &run[1..]),
-    }
+    None
 }
 
 // Makes the table of the names of the term where a missing variable is to be free.
 fn mark_sought(tags: &[u8], values: &[u32], sought: Sought, names: &mut [u8])
     ensures { Tabled tags.now values.now names.new sought }
 {
-    match sought {
-        Sought::Pair(_, _) => {}
-        Sought::Missing(t) => mark_names(tags, values, t, names),
+    if let Sought::Missing(t) = sought {
+        mark_names(tags, values, t, names);
     }
 }
 
@@ -199,7 +177,7 @@ pub fn first_taken(
     x: TermPlace,
     right: &[u32],
     sought: Sought,
-) -> FirstName
+) -> Option<u32>
     ensures { result ≡ name_of (first_of (is_sought tags.now values.now n (bindings_of right.now) sought) (taken bindings_of (form_at tags.now values.now x.0))) }
 {
     let mut names = [0u8; CELLS];
@@ -209,24 +187,10 @@ pub fn first_taken(
 }
 
 // Whether neither the left list nor the variables taken out of the term at x have this pair.
-fn is_unbound(
-    tags: &[u8],
-    values: &[u32],
-    x: TermPlace,
-    left: &[u32],
-    name: u32,
-    sort: SortPlace,
-) -> bool
-    ensures { result ≡ not (has (bindings_of left.now ++ taken bindings_of (form_at tags.now values.now x.0)) (pair name sort.0)) }
+fn is_unbound(tags: &[u8], values: &[u32], x: TermPlace, left: &[u32], pair: Variable) -> bool
+    ensures { result ≡ not (has (bindings_of left.now ++ taken bindings_of (form_at tags.now values.now x.0)) (binding pair)) }
 {
-    if has(left, name, sort) {
-        return false;
-    }
-    let f = first_taken(tags, values, 0, x, left, Sought::Pair(name, sort));
-    match f {
-        FirstName::Name(_) => false,
-        FirstName::Nothing => true,
-    }
+    !has(left, pair) && first_taken(tags, values, 0, x, left, Sought::Pair(pair)).is_none()
 }
 
 // The first pair of the right list that is neither in the left list nor among the variables taken out of the term at x, by a walk for
@@ -237,15 +201,13 @@ pub(crate) fn first_unbound_by_walks(
     x: TermPlace,
     left: &[u32],
     right: &[u32],
-) -> FirstName
+) -> Option<u32>
     ensures { result ≡ name_of (first_of (λ a. not (has (bindings_of left.now ++ taken bindings_of (form_at tags.now values.now x.0)) a)) (bindings_of right.now)) }
 {
-    let mut i: usize = 0;
-    while 2 <= right.len() - i {
-        if is_unbound(tags, values, x, left, right[i], SortPlace(right[i + 1])) {
-            return FirstName::Name(right[i]);
+    for pair in pairs_of(right) {
+        if is_unbound(tags, values, x, left, pair) {
+            return Some(pair.name);
         }
-        i += 2;
     }
-    FirstName::Nothing
+    None
 }

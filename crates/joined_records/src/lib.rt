@@ -1,96 +1,56 @@
 // The list comparison of `qnt_join` over lent records of name and sort.
 #![tactic(auto)]
 
-ghost use Rattle.std.specs.Prelude.{◌≡◌, get_or};
+ghost use Rattle.std.specs.Prelude.{◌≡◌, get_or, length};
 ghost use Rattle.bindings.specs.Binding.{same_all};
 ghost use Rattle.quantifier_rules.specs.QntJoin.{joined};
-ghost use Rattle.joined_records.specs.Records.{no_binding, bindings_in, is_repeat, next, follow, agrees};
-
-use bindings::binding::same_pair;
-use cells::SortPlace;
+ghost use Rattle.joined_records.specs.Records.{no_binding, bindings_in, is_repeat, next, follow};
 
 // A quantifier's variable: its name and its sort.
-#[derive(Clone, Copy)]
+#[derive(Clone, Copy, PartialEq, Eq)]
 pub struct Binding {
     pub name: u32,
     pub sort: u32,
 }
 
-// How far some pairs and the right list agree: whether they do, the last of the pairs, and how many pairs of the right list they passed.
+// How far some pairs and the right list agree: the last of the pairs, and how many pairs of the right list they passed.
 #[derive(Clone, Copy)]
 struct Along {
-    agrees: bool,
     last: Binding,
     at: usize,
-}
-
-// A list's pair at i, or zeros past its end.
-fn pair_at(list: &[Binding], i: usize) -> Binding
-    ensures { result ≡ get_or list.now i no_binding }
-{
-    if i < list.len() {
-        return list[i];
-    }
-    Binding { name: 0, sort: 0 }
 }
 
 // Whether a pair repeats the one before it.
 fn is_repeat(s: Along, a: Binding) -> bool
     ensures { result ≡ is_repeat s a }
 {
-    if s.at == 0 {
-        return false;
-    }
-    let last = s.last;
-    same_pair(last.name, SortPlace(last.sort), a.name, SortPlace(a.sort))
+    s.at != 0 && s.last == a
 }
 
-// One pair more: it repeats the one before, or it is b, the right list's pair at the place reached. That list has n pairs.
-fn next(s: Along, a: Binding, b: Binding, n: usize) -> Along
-    ensures { result ≡ next s a b n }
+// One pair more: it repeats the one before, or it is the right list's pair at the place reached. None where the lists differ.
+fn next(s: Along, a: Binding, right: &[Binding]) -> Option<Along>
+    ensures { result ≡ next s a (get_or right.now s.at no_binding) (length right.now) }
 {
     if is_repeat(s, a) {
-        return s;
+        return Some(s);
     }
-    let at = s.at;
-    let off = Along {
-        agrees: false,
+    if a != *right.get(s.at)? {
+        return None;
+    }
+    Some(Along {
         last: a,
-        at,
-    };
-    if n <= at {
-        return off;
-    }
-    if !same_pair(a.name, SortPlace(a.sort), b.name, SortPlace(b.sort)) {
-        return off;
-    }
-    Along {
-        agrees: s.agrees,
-        last: a,
-        at: at + 1,
-    }
+        at: s.at + 1,
+    })
 }
 
 // The pairs of a list, one after the other.
-fn follow(list: &[Binding], right: &[Binding], mut s: Along) -> Along
+fn follow(list: &[Binding], right: &[Binding], mut s: Along) -> Option<Along>
     ensures { result ≡ follow list.now right.now s }
 {
-    let mut i: usize = 0;
-    while i < list.len() {
-        s = next(s, pair_at(list, i), pair_at(right, s.at), right.len());
-        i += 1;
+    for pair in list {
+        s = next(s, *pair, right)?;
     }
-    s
-}
-
-// Whether the pairs agree with all n of the right list.
-fn agrees(s: Along, n: usize) -> bool
-    ensures { result ≡ agrees s n }
-{
-    if !s.agrees {
-        return false;
-    }
-    n <= s.at
+    Some(s)
 }
 
 // Whether the outer list and then the inner, adjacent equal pairs dropped, equal the right list in order.
@@ -98,12 +58,12 @@ pub fn same_joined(outer: &[Binding], inner: &[Binding], right: &[Binding]) -> b
     ensures { result ≡ same_all (joined (bindings_in outer.now) (bindings_in inner.now)) (bindings_in right.now) }
 {
     let last = Binding { name: 0, sort: 0 };
-    let start = Along {
-        agrees: true,
-        last,
-        at: 0,
+    let start = Along { last, at: 0 };
+    let Some(after_outer) = follow(outer, right, start) else {
+        return false;
     };
-    let s = follow(outer, right, start);
-    let t = follow(inner, right, s);
-    agrees(t, right.len())
+    let Some(end) = follow(inner, right, after_outer) else {
+        return false;
+    };
+    right.len() <= end.at
 }

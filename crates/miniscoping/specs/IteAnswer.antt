@@ -1,21 +1,19 @@
 -- What the answers of `miniscope_ite` say.
--- Rests on bindings' Binding, on formulas' Pattern and PatternAnswer, on MiniscopeDistribute and MiniscopeIte, and on the enum `IteMatched` and the
--- struct `ItePlaces`.
+-- Rests on bindings' Binding, on formulas' Pattern and PatternAnswer, on MiniscopeDistribute and MiniscopeIte, and on the struct
+-- `ItePlaces`.
 use Rattle.std.specs.Prelude.{ℕ, Bool, true, false, List, eqb}
-use Rattle.std.proofs.Math.Option.{Option, some, none}
+use Rattle.std.specs.Prelude.{Option, Some, None}
 use Rattle.bindings.specs.Binding.{bindings_of}
 use Rattle.formulas.specs.Pattern.{Quantifier, quantifier, and_then}
 use Rattle.formulas.specs.PatternAnswer.{pairs_of}
 use Rattle.miniscoping.specs.MiniscopeDistribute.{of_kind}
 use Rattle.miniscoping.specs.MiniscopeIte.{IteSides}
 use Rattle.miniscoping.specs.declared.miniscope_ite.ItePlaces.{ItePlaces}
-use Rattle.miniscoping.specs.declared.miniscope_ite.IteMatched.{IteMatched}
-use Rattle.miniscoping.specs.declared.miniscope_ite.IteMatched.TheVariants.{At, Nothing}
 
 -- a quantifier over the term at t
 abbrev pub is_over : ℕ → Option Quantifier → Bool
-is_over t (some q) = eqb t q.body
-is_over t none = false
+is_over t (Some q) = eqb t q.body
+is_over t None = false
 
 -- the term at u is a forall over the term at t
 unfoldable pub forall_over : List ℕ → List ℕ → ℕ → ℕ → Bool
@@ -33,6 +31,6 @@ ite_at tags values p = record {
   no-list = bindings_of (pairs_of tags values p.no.0);
 }
 
-unfoldable pub ite_in : List ℕ → List ℕ → IteMatched → Option IteSides
-ite_in tags values (At p) = some (ite_at tags values p)
-ite_in tags values Nothing = none
+unfoldable pub ite_in : List ℕ → List ℕ → Option ItePlaces → Option IteSides
+ite_in tags values (Some p) = Some (ite_at tags values p)
+ite_in tags values None = None

@@ -3,7 +3,7 @@
 -- Rests on answers' Outcome, on bindings' Binding, and on formulas' Pattern.
 use Rattle.std.specs.Prelude.{ℕ, Bool, true, false, cond, List, [], ◌∷◌, length, eqb}
 use Rattle.std.specs.Bool.{beq}
-use Rattle.std.proofs.Math.Option.{Option, some, none}
+use Rattle.std.specs.Prelude.{Option, Some, None}
 use Rattle.answers.specs.Outcome.{Outcome, pass, ◌>>=◌, ◌>>◌, need, guard}
 use Rattle.bindings.specs.Binding.{Binding, same_all}
 use Rattle.formulas.specs.Pattern.{Quantifier, quantifier, operator, equality, and_then}
@@ -18,12 +18,12 @@ pub record Sides : Type 0 where
   pub to : List ℕ  -- the operands on the right
 
 abbrev pub or_else : Option Sides → Option Sides → Option Sides
-or_else (some s) other = some s
-or_else none other = other
+or_else (Some s) other = Some s
+or_else None other = other
 
 -- a quantifier of this kind
 abbrev pub of_kind : Bool → Quantifier → Option Quantifier
-of_kind kind q = cond (beq q.kind kind) (some q) none
+of_kind kind q = cond (beq q.kind kind) (Some q) None
 
 module _ (tags values : List ℕ) where
   -- a quantifier of this kind over operands under this operator's tag
@@ -34,7 +34,7 @@ module _ (tags values : List ℕ) where
       and_then (of_kind kind q) λ q.
       and_then (operator tags values tag q.body) λ from.
       and_then (operator tags values tag sides.1) λ to.
-      some (record { kind = kind; left = sides.0; right = sides.1; list = q.list; from = from; to = to })
+      Some (record { kind = kind; left = sides.0; right = sides.1; list = q.list; from = from; to = to })
 
   -- the right operand at u is the quantifier over the left operand at t: "2 .. the operand in the walks of rules 4 and 5"
   unfoldable pub distributed : Sides → ℕ → ℕ → Outcome (Unit {0})

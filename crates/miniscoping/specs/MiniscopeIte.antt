@@ -2,7 +2,7 @@
 -- 01: "2, 6, 6, 12." "A name written twice in a pattern means equal terms"; forall only. 12 carries the first operand of `ite`.
 -- Rests on answers' Outcome, on bindings' Binding, on free_pairs' BindingFree, and on formulas' Pattern.
 use Rattle.std.specs.Prelude.{ℕ, Bool, true, false, ◌&&◌, cond, List, eqb}
-use Rattle.std.proofs.Math.Option.{Option, some, none}
+use Rattle.std.specs.Prelude.{Option, Some, None}
 use Rattle.answers.specs.Outcome.{Outcome, ◌>>=◌, ◌>>◌, need, guard, unless}
 use Rattle.bindings.specs.Binding.{Binding, same_all, first_of}
 use Rattle.free_pairs.specs.BindingFree.{binding_free}
@@ -19,12 +19,12 @@ pub record IteSides : Type 0 where
 
 -- what stands there if the repeated names agree
 abbrev pub agree : {A : Type 0} → Bool → A → Option A
-agree true a = some a
-agree false a = none
+agree true a = Some a
+agree false a = None
 
 module _ (tags values : List ℕ) where
   abbrev forall-at : ℕ → Option Quantifier
-  forall-at x = and_then (quantifier tags values x) λ q. cond q.kind (some q) none
+  forall-at x = and_then (quantifier tags values x) λ q. cond q.kind (Some q) None
 
   -- the whole pattern, its three repeated names agreeing
   unfoldable pub ite_sides : ℕ → Option IteSides

@@ -1,6 +1,7 @@
--- Rule 5, `miniscope_split`: `(= (forall L (or ..)) (or ..))`, or with exists and `and`; each operand on the right is the left one, or the left one
--- under a quantifier over some of the pairs of L.
--- 01: "2, 11, then by operand: equal passes, else 2, 5, 8, each outer pair used at most once, also where the outer list repeats it; then 12."
+-- Rule 5, `miniscope_split`: `(= (forall L (or ..)) (or ..))`, or with exists and `and`; each operand on the right is the left one, or the
+-- left one under a quantifier over some of the pairs of L.
+-- 01: "2, 11, then by operand: equal passes, else 2, 5, 8, each outer pair used at most once, also where the outer list repeats it; then
+-- 12."
 -- Rests on answers' Outcome, on bindings' Binding and Used, on free_pairs' BindingFree, on formulas' Pattern, and on MiniscopeDistribute.
 use Rattle.std.specs.Prelude.{ℕ, Bool, true, false, cond, List, [], ◌∷◌, length, eqb}
 use Rattle.answers.specs.Outcome.{Outcome, pass, ◌>>=◌, ◌>>◌, need, guard, unless}

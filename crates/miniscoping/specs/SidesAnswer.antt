@@ -1,14 +1,12 @@
 -- What the answers of `sides` say.
--- Rests on cells' Cell, on bindings' Binding, on formulas' PatternAnswer, on MiniscopeDistribute, and on the enum `Matched` and the struct `Places`.
+-- Rests on cells' Cell, on bindings' Binding, on formulas' PatternAnswer, on MiniscopeDistribute, and on the struct `Places`.
 use Rattle.std.specs.Prelude.{ℕ, List}
-use Rattle.std.proofs.Math.Option.{Option, some, none}
+use Rattle.std.specs.Prelude.{Option, Some, None}
 use Rattle.cells.specs.Cell.{operands_of}
 use Rattle.bindings.specs.Binding.{bindings_of}
 use Rattle.formulas.specs.PatternAnswer.{pairs_of}
 use Rattle.miniscoping.specs.MiniscopeDistribute.{Sides}
 use Rattle.miniscoping.specs.declared.sides.Places.{Places}
-use Rattle.miniscoping.specs.declared.sides.Matched.{Matched}
-use Rattle.miniscoping.specs.declared.sides.Matched.TheVariants.{At, Nothing}
 
 -- the sides at these places
 unfoldable pub sides_at : List ℕ → List ℕ → Places → Sides
@@ -21,6 +19,6 @@ sides_at tags values p = record {
   to = operands_of tags values p.right.0;
 }
 
-unfoldable pub sides_in : List ℕ → List ℕ → Matched → Option Sides
-sides_in tags values (At p) = some (sides_at tags values p)
-sides_in tags values Nothing = none
+unfoldable pub sides_in : List ℕ → List ℕ → Option Places → Option Sides
+sides_in tags values (Some p) = Some (sides_at tags values p)
+sides_in tags values None = None

@@ -3,22 +3,20 @@ ghost use Rattle.cells.specs.Limits.{cell_limit};
 ghost use Rattle.std.specs.Prelude.{◌≡◌, ◌≤◌, length};
 ghost use Rattle.answers.specs.Outcome.{answer_of};
 ghost use Rattle.bindings.specs.Binding.{bindings_of};
-ghost use Rattle.answers.specs.Checked.{outcome_of};
+ghost use Rattle.answers.specs.Refusal.{answer_of_check, outcome_of};
 ghost use Rattle.formulas.specs.PatternAnswer.{pairs_of};
 ghost use Rattle.miniscoping.specs.MiniscopeSplit.{split_one, split_all, split_sides, miniscope_split};
 ghost use Rattle.miniscoping.specs.SidesAnswer.{sides_at};
 ghost use Rattle.bindings.specs.Used.{left_of};
 ghost use Rattle.miniscoping.specs.LeftFits.{LeftFits};
 
-use crate::sides::{Matched, Places, either_sides, of_kind, operand_count};
-use formulas::matching::{Quantified, bindings};
-use pool::binding::FirstName;
-use pool::checked::Checked;
+use crate::sides::{Places, either_sides, of_kind, operand_count};
+use formulas::matching::bindings;
 use pool::free_lists::first_free;
 use pool::run::operands;
 use pool::tags::{AND, OR};
 use pool::used_pairs::use_all;
-use pool::{Answer, TermPlace};
+use pool::{Refusal, TermPlace};
 
 // The pairs of a list, at most half as many as cells.
 const PAIRS: usize = 4096;
@@ -32,17 +30,15 @@ fn split_one(
     used: &mut [u8],
     t: TermPlace,
     u: TermPlace,
-) -> Checked
+) -> Result<(), Refusal>
     ensures { split_one tags.now values.now kind (left_of used.old (bindings_of outer.now)) t.0 u.0 ≡ outcome_of result (left_of used.new (bindings_of outer.now)) }
 {
-    if t.0 == u.0 {
-        return Checked::Passes;
+    if t == u {
+        return Ok(());
     }
-    let Quantified::Is(_, body) = of_kind(tags, values, kind, u) else {
-        return Checked::Refuses(2, u.0, 0);
-    };
-    if t.0 != body.0 {
-        return Checked::Refuses(5, t.0, body.0);
+    let right = of_kind(tags, values, kind, u).ok_or(Refusal::WrongForm(u))?;
+    if t != right.body {
+        return Err(Refusal::TermsDiffer(t, right.body));
     }
     use_all(outer, used, bindings(tags, values, u))
 }
@@ -56,28 +52,14 @@ fn split_all(
     used: &mut [u8],
     from: &[u32],
     to: &[u32],
-) -> Checked
+) -> Result<(), Refusal>
     ensures { split_all tags.now values.now kind (left_of used.old (bindings_of outer.now)) from.now to.now ≡ outcome_of result tt }
 {
-    let mut i: usize = 0;
-    while i < from.len() {
-        if to.len() <= i {
-            return Checked::Passes;
-        }
-        if let Checked::Refuses(k, m, n) = split_one(
-            tags,
-            values,
-            kind,
-            outer,
-            used,
-            TermPlace(from[i]),
-            TermPlace(to[i]),
-        ) {
-            return Checked::Refuses(k, m, n);
-        }
-        i += 1;
+    for (t, u) in from.iter().zip(to) {
+        let (left, right) = (TermPlace(*t), TermPlace(*u));
+        split_one(tags, values, kind, outer, used, left, right)?;
     }
-    Checked::Passes
+    Ok(())
 }
 
 // The same, with every outer pair left at the start.
@@ -88,7 +70,7 @@ fn split(
     outer: &[u32],
     from: &[u32],
     to: &[u32],
-) -> Checked
+) -> Result<(), Refusal>
     requires { length outer.now ≤ cell_limit }
     ensures { split_all tags.now values.now kind (bindings_of outer.now) from.now to.now ≡ outcome_of result tt }
 {
@@ -97,34 +79,30 @@ fn split(
 }
 
 // The operands, then 12: no outer pair is free in the right side.
-fn split_sides(tags: &[u8], values: &[u32], n: usize, s: Places) -> Answer
+fn split_sides(tags: &[u8], values: &[u32], n: usize, s: Places) -> Result<(), Refusal>
     requires { length (pairs_of tags.now values.now s.left.0) ≤ cell_limit }
-    ensures { result ≡ answer_of (split_sides tags.now values.now n (sides_at tags.now values.now s)) }
+    ensures { answer_of_check result ≡ answer_of (split_sides tags.now values.now n (sides_at tags.now values.now s)) }
 {
     let outer = bindings(tags, values, s.left);
     let from = operands(tags, values, s.body);
     let to = operands(tags, values, s.right);
-    if let Checked::Refuses(k, a, b) = split(tags, values, s.kind, outer, from, to) {
-        return Answer::refused(k, a, b);
+    split(tags, values, s.kind, outer, from, to)?;
+    if let Some(name) = first_free(tags, values, n, s.right, outer) {
+        return Err(Refusal::StillFree(name, s.right));
     }
-    if let FirstName::Name(name) = first_free(tags, values, n, s.right, outer) {
-        return Answer::refused(12, name, s.right.0);
-    }
-    Answer::accepted(0, 0)
+    Ok(())
 }
 
 // Rule 5: the conclusion at x.
-pub fn miniscope_split(tags: &[u8], values: &[u32], n: usize, x: TermPlace) -> Answer
+pub fn miniscope_split(tags: &[u8], values: &[u32], n: usize, x: TermPlace) -> Result<(), Refusal>
     requires { LeftFits tags.now values.now x.0 }
-    ensures { result ≡ answer_of (miniscope_split tags.now values.now n x.0) }
+    ensures { answer_of_check result ≡ answer_of (miniscope_split tags.now values.now n x.0) }
 {
-    let Matched::At(s) = either_sides(tags, values, OR, AND, x) else {
-        return Answer::refused(2, x.0, 0);
-    };
+    let s = either_sides(tags, values, OR, AND, x).ok_or(Refusal::WrongForm(x))?;
     let from_count = operand_count(tags, values, s.body);
     let to_count = operand_count(tags, values, s.right);
     if from_count != to_count {
-        return Answer::refused(11, from_count, to_count);
+        return Err(Refusal::OperandCounts(from_count, to_count));
     }
     split_sides(tags, values, n, s)
 }

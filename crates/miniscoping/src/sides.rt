@@ -7,7 +7,7 @@ ghost use Rattle.formulas.specs.PatternAnswer.{pairs_of, quantifier_in};
 ghost use Rattle.miniscoping.specs.MiniscopeDistribute.{sides_of, or_else, of_kind};
 ghost use Rattle.miniscoping.specs.SidesAnswer.{sides_in};
 
-use formulas::matching::{Quantified, Two, equality_at, quantified_at};
+use formulas::matching::{Quantified, equality_at, quantified_at};
 use pool::TermPlace;
 use pool::run::operands;
 use pool::tags::tag_at;
@@ -21,44 +21,29 @@ pub struct Places {
     pub right: TermPlace,
 }
 
-#[derive(Clone, Copy)]
-pub enum Matched {
-    At(Places),
-    Nothing,
-}
-
 // The quantifier at x, if it is of this kind.
-pub(crate) fn of_kind(tags: &[u8], values: &[u32], kind: bool, x: TermPlace) -> Quantified
+pub(crate) fn of_kind(tags: &[u8], values: &[u32], kind: bool, x: TermPlace) -> Option<Quantified>
     ensures { and_then (quantifier tags.now values.now x.0) (of_kind kind) ≡ quantifier_in (bindings_of (pairs_of tags.now values.now x.0)) result }
 {
-    let Quantified::Is(k, body) = quantified_at(tags, values, x) else {
-        return Quantified::Not;
-    };
-    if k == kind {
-        return Quantified::Is(k, body);
-    }
-    Quantified::Not
+    let q = quantified_at(tags, values, x)?;
+    if q.kind == kind { Some(q) } else { None }
 }
 
 // The sides, for a quantifier of this kind and an operator of this tag.
-fn sides_of(tags: &[u8], values: &[u32], kind: bool, tag: u8, x: TermPlace) -> Matched
+fn sides_of(tags: &[u8], values: &[u32], kind: bool, tag: u8, x: TermPlace) -> Option<Places>
     ensures { sides_of tags.now values.now kind tag x.0 ≡ sides_in tags.now values.now result }
 {
-    let Two::Are(left, right) = equality_at(tags, values, x) else {
-        return Matched::Nothing;
-    };
-    let Quantified::Is(_, body) = of_kind(tags, values, kind, left) else {
-        return Matched::Nothing;
-    };
+    let (left, right) = equality_at(tags, values, x)?;
+    let body = of_kind(tags, values, kind, left)?.body;
     let body_at = body.0 as usize;
     if tag_at(tags, body_at) != tag {
-        return Matched::Nothing;
+        return None;
     }
     let right_at = right.0 as usize;
     if tag_at(tags, right_at) != tag {
-        return Matched::Nothing;
+        return None;
     }
-    Matched::At(Places {
+    Some(Places {
         kind,
         left,
         body,
@@ -73,13 +58,13 @@ pub(crate) fn either_sides(
     forall_tag: u8,
     exists_tag: u8,
     x: TermPlace,
-) -> Matched
+) -> Option<Places>
     ensures { or_else (sides_of tags.now values.now true forall_tag x.0) (sides_of tags.now values.now false exists_tag x.0) ≡ sides_in tags.now values.now result }
 {
-    let Matched::At(s) = sides_of(tags, values, true, forall_tag, x) else {
-        return sides_of(tags, values, false, exists_tag, x);
-    };
-    Matched::At(s)
+    if let Some(s) = sides_of(tags, values, true, forall_tag, x) {
+        return Some(s);
+    }
+    sides_of(tags, values, false, exists_tag, x)
 }
 
 // How many operands the term at x has. A header's count is one cell, so that it fits u32.

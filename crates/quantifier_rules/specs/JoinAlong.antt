@@ -1,11 +1,10 @@
 -- What the comparison of joined lists says of itself. As long as the lists agree, the pair before is the one before j in the right list.
--- Rests on bindings' Binding and BindingAnswer, and on QntJoin and the enum `Along`.
+-- Rests on bindings' Binding and BindingAnswer, and on QntJoin.
 use Rattle.std.specs.Prelude.{ℕ, ◌-◌, ◌≡◌, Bool, false, not, ◌&&◌, cond, List, ◌++◌, drop, ltb}
 use Rattle.bindings.specs.Binding.{Binding, bindings_of, same, same_all}
 use Rattle.bindings.specs.BindingAnswer.{pair_at}
 use Rattle.quantifier_rules.specs.QntJoin.{after_pair, without_adjacent}
-use Rattle.quantifier_rules.specs.declared.qnt_join.Along.{Along}
-use Rattle.quantifier_rules.specs.declared.qnt_join.Along.TheVariants.{To, Off}
+use Rattle.std.specs.Prelude.{Option, Some, None}
 
 -- a pair equals the one before j
 unfoldable pub is_repeat : List ℕ → ℕ → Binding → Bool
@@ -19,10 +18,10 @@ after_place right j list = cond (ltb j 2) (without_adjacent list) (after_pair (p
 unfoldable pub same_from : List ℕ → ℕ → List Binding → Bool
 same_from right j list = same_all (after_place right j list) (bindings_of (drop j right))
 
-unfoldable pub same_at : List ℕ → Along → List Binding → Bool
-same_at right (To j) list = same_from right j list
-same_at right Off list = false
+unfoldable pub same_at : List ℕ → Option ℕ → List Binding → Bool
+same_at right (Some j) list = same_from right j list
+same_at right None list = false
 
--- r is where the right list stands after these pairs, whatever follows them
-pub record Follows (pairs : List Binding) (right : List ℕ) (j : ℕ) (r : Along) : Type 0 where
+-- r is where the right list stands after these pairs, whatever follows them, if it agrees with them
+pub record Follows (pairs : List Binding) (right : List ℕ) (j : ℕ) (r : Option ℕ) : Type 0 where
   pub at : (rest : List Binding) → same_from right j (pairs ++ rest) ≡ same_at right r rest

@@ -3,7 +3,7 @@
 -- Rests on answers' Outcome, on bindings' Binding, on free_pairs' BindingFree, and on formulas' Formula and Pattern.
 use Rattle.std.specs.Prelude.{ℕ, Bool, true, false, not, ◌&&◌, cond, List, eqb}
 use Rattle.std.specs.Bool.{beq}
-use Rattle.std.proofs.Math.Option.{Option, some, none}
+use Rattle.std.specs.Prelude.{Option, Some, None}
 use Rattle.answers.specs.Outcome.{Outcome, pass, ◌>>=◌, ◌>>◌, need, guard, unless}
 use Rattle.bindings.specs.Binding.{Binding, has, first_of}
 use Rattle.free_pairs.specs.BindingFree.{binding_free}
@@ -11,8 +11,8 @@ use Rattle.formulas.specs.Pattern.{Quantifier, quantifier, equality}
 use Rattle.formulas.specs.Formula.{quantifier_tag}
 
 abbrev pub is_some : {A : Type 0} → Option A → Bool
-is_some (some a) = true
-is_some none = false
+is_some (Some a) = true
+is_some None = false
 
 module _ (tags values : List ℕ) (n : ℕ) where
   -- "8 new variable (name)": the first of the right list that the left list lacks; "9 missing variable (name)": the first of the left list

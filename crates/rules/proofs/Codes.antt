@@ -6,7 +6,7 @@ use Prim.Native.Nat.{ℕ}
 use mathlib.Core.Path.{◌≡◌, refl}
 use mathlib.Core.Bool.{Bool, true, false, ◌&&◌, cond}
 use mathlib.Core.List.{List, [], ◌∷◌}
-use mathlib.Core.Option.{Option, some, none}
+use Rattle.std.specs.Prelude.{Option, Some, None}
 use lib.Dec.{eqb}
 use native.Mathlib.Omega.{arith}
 use borrow.Author.Tests.{eqb-false}
@@ -47,8 +47,8 @@ then-coded (refuse k m n) next c f = c
 
 need-coded : {A : Type 0} (k m n : ℕ) (o : Option A) → Number k → Coded (need k m n o)
 unfolding Coded need
-need-coded k m n (some a) c = tt
-need-coded k m n none c = c
+need-coded k m n (Some a) c = tt
+need-coded k m n None c = c
 
 guard-coded : (k m n : ℕ) (b : Bool) → Number k → Coded (guard k m n b)
 unfolding Coded guard
@@ -57,8 +57,8 @@ guard-coded k m n false c = c
 
 unless-coded : {A : Type 0} (k : ℕ) (f : A → ℕ) (n : ℕ) (o : Option A) → Number k → Coded (unless k f n o)
 unfolding Coded unless
-unless-coded k f n (some a) c = c
-unless-coded k f n none c = tt
+unless-coded k f n (Some a) c = c
+unless-coded k f n None c = tt
 
 -- a check by its number, and then the rest
 module _ (k : ℕ) (a : eqb k 0 ≡ false) (b : eqb k 30 ≡ false) (m n : ℕ) where

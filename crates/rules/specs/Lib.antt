@@ -3,6 +3,7 @@ pub mod Cases
 pub mod OrderCases
 pub mod Premises
 pub mod PremisesCases
+pub mod RuleCode
 pub mod Step
 pub mod StepWalk
 pub mod RuleSchema

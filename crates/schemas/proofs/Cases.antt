@@ -1,5 +1,5 @@
 -- The schemas at formulas, by computation.
---     steps in the manner of the Alethe document's rules, which the schemas have: those of tools/cases_examples.py, by the same names
+--     steps in the manner of the Alethe document's rules, which the schemas have: those of tools/cases/cases_examples.py, by the same names
 --     01's M cases of joins
 --     for each rule a step for each side condition that fails, which the schema has not: stated of every term that is that step
 -- Variables of sort Int are i, j, k, predicates of them P, Q, R; p is a formula without them.

@@ -1,7 +1,7 @@
 -- The six rules as the Alethe document lists them: for each the form of a conclusion with its side conditions, on terms as trees.
 -- `QntJoin t`: the term t is a conclusion of `qnt_join`; a constructor is a form that the document gives, its last line the conclusion.
--- A variable is its name with its sort. Q is forall (true) or exists (false), which state Bool. s, s', s'' are the sorts that operators state,
--- whatever they are. Operators by their tags: `not` 34, `and` 36, `or` 37, `=` 39, `ite` 41.
+-- A variable is its name with its sort. Q is forall (true) or exists (false), which state Bool. s, s', s'' are the sorts that operators
+-- state, whatever they are. Operators by their tags: `not` 34, `and` 36, `or` 37, `=` 39, `ite` 41.
 -- Each rule says where document 01 and the Rust accept more or less than the Alethe document; docs/DIFFERENCES.md has the list.
 -- Rests on formulas' Formula, Normal and Clauses, and on meaning's Sort, Term, Skeleton and FreeTree.
 use Rattle.std.specs.Prelude.{◌≤◌, ◌≡◌, Bool, true, false, not, cond, length}
@@ -44,8 +44,8 @@ abbrev pub NotFree : Vars → Term → Type 0
 NotFree xs t = (v : Var) → has xs v ≡ true → free t v ≡ false
 
 -- ---- rule 1, qnt_join: `(= (Q xs (Q ys t)) (Q zs t))`, zs the two lists joined
--- The document wants the variables of zs pairwise distinct, which drops every repeat, as the Rust does. 01 drops a variable that equals the one
--- before it and keeps a later repeat.
+-- The document wants the variables of zs pairwise distinct, which drops every repeat, as the Rust does. 01 drops a variable that equals the
+-- one before it and keeps a later repeat.
 unfoldable pub after : Var → Vars → Vars
 after u [] = []
 after u (v ∷ vs) = cond (same u v) (after v vs) (v ∷ after v vs)
@@ -58,7 +58,8 @@ pub data QntJoin : Term → Type 0 where
   joins : (s : Sort) (Q : Bool) (xs ys zs : Vars) (t : Term) → zs ≡ joined_once (xs ++ ys)
       → QntJoin (equal s (binder Q xs (binder Q ys t)) (binder Q zs t))
 
--- ---- rule 2, qnt_rm_unused: `(= (Q xs t) (Q zs t))`, zs among xs, and every x that is free in t among zs; or `(= (Q xs t) t)`, no x free in t
+-- ---- rule 2, qnt_rm_unused: `(= (Q xs t) (Q zs t))`, zs among xs, and every x that is free in t among zs; or
+-- `(= (Q xs t) t)`, no x free in t
 -- The document has zs in the order of xs, each variable once. 01 and the Rust: any order, any repeats.
 pub data QntRmUnused : Term → Type 0 where
   removes : (s : Sort) (Q : Bool) (xs zs : Vars) (t : Term) → Among zs xs → FreeAmong t xs zs

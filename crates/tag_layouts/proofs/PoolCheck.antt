@@ -3,6 +3,7 @@
 --     cells_same     14, 15 and 16 in their order
 --     fit-alike, pool-alike     30, and the pool check: 40 and 41 look at the table alone
 -- Assumes nothing.
+use Rattle.std.specs.Prelude.{Option, Some, None}
 use Prim.Native.Nat.{ℕ, ◌≤◌, ◌<◌, min}
 use mathlib.Core.Path.{◌≡◌, refl, sym, ap, ap₂, ◌∙◌}
 use mathlib.Core.Bool.{true, ◌&&◌, cond}
@@ -14,8 +15,6 @@ use borrow.Author.Tests.{leb-true, leb-false, le-leb, lt-leb, eqb-true}
 use Rattle.cells.specs.ByPlace.{by-test}
 use Rattle.cells.specs.Headers.{first_header}
 use Rattle.cells.specs.Limits.{cell_limit}
-use Rattle.cells.specs.declared.Found.{Found}
-use Rattle.cells.specs.declared.Found.TheVariants.{At, Nothing}
 use Rattle.headers.specs.WellFormed.{is_term_tag, first_bad}
 use Rattle.descriptions.specs.Description.{first_repeat}
 use Rattle.descriptions.proofs.description.Fills.{well-formed-fills}
@@ -33,9 +32,9 @@ use Rattle.tag_layouts.specs.Narrowed.{Alike}
 use Rattle.tag_layouts.proofs.WellFormed.{NarrowSame, bad-same, narrow-same}
 
 -- ---- 16, in pools whose cells below n are the same
-module _ (n : ℕ) (tags values tags' values' : List ℕ) (s : Same n tags values tags' values') (formed : first_bad tags values n ≡ Nothing)
-    (rules : List ℕ) (formed' : first_bad tags' values' n ≡ Nothing) (single : first_repeat tags values n ≡ Nothing) where
-  single' : first_repeat tags' values' n ≡ Nothing
+module _ (n : ℕ) (tags values tags' values' : List ℕ) (s : Same n tags values tags' values') (formed : first_bad tags values n ≡ None)
+    (rules : List ℕ) (formed' : first_bad tags' values' n ≡ None) (single : first_repeat tags values n ≡ None) where
+  single' : first_repeat tags' values' n ≡ None
   single' = repeat-same n tags values tags' values' s (well-formed-fills tags values n formed) ∙ single
 
   -- a term states the sort of its tree in both or in neither
@@ -65,17 +64,17 @@ module _ (tags values tags' values' rules : List ℕ) (n : ℕ) (s : NarrowSame 
   unfolding check_cells
   cells_same = rw (bad-same n tags values tags' values' s) (ap (cond (eqb n 0) (ill_formed 0)) (from14 (first_bad tags values n) refl))
     where
-      from16 : Same n tags values tags' values' → first_bad tags values n ≡ Nothing → (w : Found) → first_repeat tags values n ≡ w
+      from16 : Same n tags values tags' values' → first_bad tags values n ≡ None → (w : Option ℕ) → first_repeat tags values n ≡ w
           → refuse_at repeated w (refuse_at wrong_sort (first_wrong_sort tags' values' rules n) (accepted 0 0))
           ≡ refuse_at repeated w (refuse_at wrong_sort (first_wrong_sort tags values rules n) (accepted 0 0))
-      from16 same formed (At p) e = refl
-      from16 same formed Nothing e = rw (wrong-same n tags values tags' values' same formed rules (bad-same n tags values tags' values' s ∙ formed) e)
+      from16 same formed (Some p) e = refl
+      from16 same formed None e = rw (wrong-same n tags values tags' values' same formed rules (bad-same n tags values tags' values' s ∙ formed) e)
 
-      from14 : (w : Found) → first_bad tags values n ≡ w
+      from14 : (w : Option ℕ) → first_bad tags values n ≡ w
           → refuse_at ill_formed w (refuse_at repeated (first_repeat tags' values' n) (refuse_at wrong_sort (first_wrong_sort tags' values' rules n) (accepted 0 0)))
           ≡ refuse_at ill_formed w (refuse_at repeated (first_repeat tags values n) (refuse_at wrong_sort (first_wrong_sort tags values rules n) (accepted 0 0)))
-      from14 (At p) e = refl
-      from14 Nothing e =
+      from14 (Some p) e = refl
+      from14 None e =
           let same = narrow-same n tags values tags' values' s e in
           rw (repeat-same n tags values tags' values' same (well-formed-fills tags values n e)) (from16 same e (first_repeat tags values n) refl)
 

@@ -6,7 +6,7 @@ use Prim.Native.Nat.{ℕ, ◌<◌}
 use mathlib.Core.Path.{◌≡◌, refl, ap, ap₂, subst, fun_ext, ◌∙◌}
 use mathlib.Core.Bool.{Bool, true, false, not, ◌&&◌, cond}
 use mathlib.Core.List.{List, [], ◌∷◌}
-use mathlib.Core.Option.{Option, some, none}
+use Rattle.std.specs.Prelude.{Option, Some, None}
 use lib.Dec.{eqb}
 use native.Mathlib.Omega.{arith}
 use Rattle.headers.specs.WellFormed.{is_term}
@@ -30,21 +30,21 @@ use Rattle.tag_layouts.proofs.UsedCells.{Used}
 
 -- ---- checks one after another
 module _ {A B : Type 0} where
-  pub need-same : (k m n : ℕ) (o o' : Option A) (next next' : A → Outcome B) → o' ≡ o → ((a : A) → o ≡ some a → next' a ≡ next a)
+  pub need-same : (k m n : ℕ) (o o' : Option A) (next next' : A → Outcome B) → o' ≡ o → ((a : A) → o ≡ Some a → next' a ≡ next a)
       → (need k m n o' >>= next') ≡ (need k m n o >>= next)
   unfolding need ◌>>=◌
   need-same k m n o o' next next' e f = rw e (go o f)
     where
-      go : (o : Option A) → ((a : A) → o ≡ some a → next' a ≡ next a) → (need k m n o >>= next') ≡ (need k m n o >>= next)
-      go (some a) f = f a refl
-      go none f = refl
+      go : (o : Option A) → ((a : A) → o ≡ Some a → next' a ≡ next a) → (need k m n o >>= next') ≡ (need k m n o >>= next)
+      go (Some a) f = f a refl
+      go None f = refl
 
-  pub then_same : (o o' : Option A) (next next' : A → Option B) → o' ≡ o → ((a : A) → o ≡ some a → next' a ≡ next a) → and_then o' next' ≡ and_then o next
+  pub then_same : (o o' : Option A) (next next' : A → Option B) → o' ≡ o → ((a : A) → o ≡ Some a → next' a ≡ next a) → and_then o' next' ≡ and_then o next
   then_same o o' next next' e f = rw e (go o f)
     where
-      go : (o : Option A) → ((a : A) → o ≡ some a → next' a ≡ next a) → and_then o next' ≡ and_then o next
-      go (some a) f = f a refl
-      go none f = refl
+      go : (o : Option A) → ((a : A) → o ≡ Some a → next' a ≡ next a) → and_then o next' ≡ and_then o next
+      go (Some a) f = f a refl
+      go None f = refl
 
 module _ {tags values rules : List ℕ} {n : ℕ} (c : Passed tags values rules n) (tags' values' : List ℕ) (u : Used n tags values tags' values') where
   below : (x : ℕ) → is_term tags n x ≡ true → x < n
@@ -69,7 +69,7 @@ module _ {tags values rules : List ℕ} {n : ℕ} (c : Passed tags values rules 
   clause-here : (x : ℕ) → is_term tags n x ≡ true → is_clause tags' values' x ≡ is_clause tags values x
   clause-here x t = fun_ext (clause-kept n tags values tags' values' u.same c.formed x (below x t))
 
-  body-term : (x : ℕ) → is_term tags n x ≡ true → (q : Quantifier) → quantifier tags values x ≡ some q → is_term tags n q.body ≡ true
+  body-term : (x : ℕ) → is_term tags n x ≡ true → (q : Quantifier) → quantifier tags values x ≡ Some q → is_term tags n q.body ≡ true
   body-term x t q e = (quantifier-tree c x t q e).body
 
   -- ---- rule 1
@@ -111,7 +111,7 @@ module _ {tags values rules : List ℕ} {n : ℕ} (c : Passed tags values rules 
       let i = equality-tree c x t p e₁ in
       then_same _ _ _ _ (quantifier-here p.0 i.left) λ q₀ e₂.
       then_same (of_kind kind q₀) (of_kind kind q₀) _ _ refl λ q e₃.
-      let e₄ : quantifier tags values p.0 ≡ some q = (of-kind kind (quantifier tags values p.0) q (rw e₂ e₃)).0 in
+      let e₄ : quantifier tags values p.0 ≡ Some q = (of-kind kind (quantifier tags values p.0) q (rw e₂ e₃)).0 in
       rw (operator-here tag q.body (body-term p.0 i.left q e₄), operator-here tag p.1 i.right)
 
   distributed-same : (s : Sides) (t u : ℕ) → is_term tags n u ≡ true → distributed tags' values' s t u ≡ distributed tags values s t u
@@ -152,18 +152,18 @@ module _ {tags values rules : List ℕ} {n : ℕ} (c : Passed tags values rules 
 
   -- ---- rule 6
   abbrev forall_of : Quantifier → Option Quantifier
-  forall_of q = cond q.kind (some q) none
+  forall_of q = cond q.kind (Some q) None
 
   forall-here : (x : ℕ) → is_term tags n x ≡ true → and_then (quantifier tags' values' x) forall_of ≡ and_then (quantifier tags values x) forall_of
   forall-here x t = rw (quantifier-here x t)
 
-  forall-body : (x : ℕ) → is_term tags n x ≡ true → (q : Quantifier) → and_then (quantifier tags values x) forall_of ≡ some q → is_term tags n q.body ≡ true
+  forall-body : (x : ℕ) → is_term tags n x ≡ true → (q : Quantifier) → and_then (quantifier tags values x) forall_of ≡ Some q → is_term tags n q.body ≡ true
   forall-body x t q e =
       then_some (quantifier tags values x) _ _ e λ p e₁ h₁.
       let (b, z) = cond-some p.kind p q h₁ in
-      body-term x t q (e₁ ∙ ap some z)
+      body-term x t q (e₁ ∙ ap Some z)
 
-  ite-terms : (x : ℕ) → is_term tags n x ≡ true → (p : ℕ × ℕ × ℕ) → and_then (operator tags values 41 x) three_of ≡ some p
+  ite-terms : (x : ℕ) → is_term tags n x ≡ true → (p : ℕ × ℕ × ℕ) → and_then (operator tags values 41 x) three_of ≡ Some p
       → AllTerms tags n (p.0 ∷ p.1 ∷ p.2 ∷ [])
   ite-terms x t p e =
       then_some (operator tags values 41 x) _ _ e λ os e₁ h₁.
@@ -183,11 +183,11 @@ module _ {tags values rules : List ℕ} {n : ℕ} (c : Passed tags values rules 
       then_same _ _ _ _ (forall-here to.2 w.1.1.0) λ no-q e₆.
       refl
 
-  agree-some : {A : Type 0} (b : Bool) (a d : A) → agree b a ≡ some d → a ≡ d
+  agree-some : {A : Type 0} (b : Bool) (a d : A) → agree b a ≡ Some d → a ≡ d
   agree-some true a d e = cc
   agree-some false a d e = cc
 
-  test-term : (x : ℕ) → is_term tags n x ≡ true → (s : IteSides) → ite_sides tags values x ≡ some s → is_term tags n s.test ≡ true
+  test-term : (x : ℕ) → is_term tags n x ≡ true → (s : IteSides) → ite_sides tags values x ≡ Some s → is_term tags n s.test ≡ true
   unfolding ite_sides
   test-term x t s e =
       then_some (equality tags values x) _ _ e λ p e₁ h₁.
@@ -210,12 +210,12 @@ module _ {tags values rules : List ℕ} {n : ℕ} (c : Passed tags values rules 
       rw (free-here s.test (test-term x t s e))
 
   -- ---- rule 3
-  or-terms : (x : ℕ) → is_term tags n x ≡ true → (p : ℕ × ℕ) → and_then (operator tags values 37 x) two_of ≡ some p → AllTerms tags n (p.0 ∷ p.1 ∷ [])
+  or-terms : (x : ℕ) → is_term tags n x ≡ true → (p : ℕ × ℕ) → and_then (operator tags values 37 x) two_of ≡ Some p → AllTerms tags n (p.0 ∷ p.1 ∷ [])
   or-terms x t p e =
       then_some (operator tags values 37 x) _ _ e λ os e₁ h₁.
       rw (two-are os p h₁) at (operator-tree c 37 x (omega arith) (omega arith) t os e₁).operands
 
-  not-terms : (x : ℕ) → is_term tags n x ≡ true → (l : ℕ) → and_then (operator tags values 34 x) one_of ≡ some l → AllTerms tags n (l ∷ [])
+  not-terms : (x : ℕ) → is_term tags n x ≡ true → (l : ℕ) → and_then (operator tags values 34 x) one_of ≡ Some l → AllTerms tags n (l ∷ [])
   not-terms x t l e =
       then_some (operator tags values 34 x) _ _ e λ os e₁ h₁.
       rw (one-are os l h₁) at (operator-tree c 34 x (omega arith) (omega arith) t os e₁).operands
@@ -226,7 +226,7 @@ module _ {tags values rules : List ℕ} {n : ℕ} (c : Passed tags values rules 
       then_same _ _ _ _ (ap (λ o. and_then o two_of) (operator-here 37 x t)) λ p e₁.
       rw (operator-here 34 p.0 (or-terms x t p e₁).0)
 
-  implication-terms : (x : ℕ) → is_term tags n x ≡ true → (p : ℕ × ℕ) → implication tags values x ≡ some p
+  implication-terms : (x : ℕ) → is_term tags n x ≡ true → (p : ℕ × ℕ) → implication tags values x ≡ Some p
       → (is_term tags n p.0 ≡ true) × (is_term tags n p.1 ≡ true)
   unfolding implication
   implication-terms x t p e =

@@ -4,6 +4,7 @@
 --     small-tag       where there is none, every tag is at most the last one
 --     narrow-same     so the tags are the same, and from here on nothing speaks of narrowing
 -- Assumes nothing.
+use Rattle.std.specs.Prelude.{None}
 use Prim.Native.Nat.{ℕ, zero, suc, ◌+◌, ◌-◌, ◌≤◌, ◌<◌}
 use mathlib.Core.Path.{◌≡◌, refl, sym, ap, ◌∙◌}
 use mathlib.Core.Bool.{Bool, true, false, not}
@@ -15,7 +16,6 @@ use borrow.Author.Tests.{ltb-true, ltb-false, leb-false}
 use Rattle.cells.specs.ByPlace.{by-test}
 use Rattle.cells.specs.Bounded.{every}
 use Rattle.cells.specs.Headers.{first_in, first_from, first_header}
-use Rattle.cells.specs.declared.Found.TheVariants.{Nothing}
 use Rattle.headers.specs.WellFormed.{shape_of, count_fits, kind_at, value_fits, cell_fits, bool_first, header_fits, first_bad}
 use Rattle.headers.specs.declared.well_formed.Shape.{Shape}
 use Rattle.headers.specs.declared.well_formed.CellKind.{CellKind}
@@ -71,7 +71,7 @@ module _ (n : ℕ) (tags values tags' values' : List ℕ) (s : NarrowSame n tags
   unfolding first_bad first_header first_from
   bad-same = walk_same _ _ (λ p h. ap not (header-same p h)) (n - 0) 0
 
-pub small-tag : (n : ℕ) (tags values : List ℕ) → first_bad tags values n ≡ Nothing → (t : ℕ) → t < n → get_or tags t 0 ≤ last_tag
+pub small-tag : (n : ℕ) (tags values : List ℕ) → first_bad tags values n ≡ None → (t : ℕ) → t < n → get_or tags t 0 ≤ last_tag
 unfolding count_fits
 small-tag n tags values formed t h =
     by-test (ltb last_tag (get_or tags t 0))
@@ -82,7 +82,7 @@ small-tag n tags values formed t h =
     let z : ◌≡◌ {A = ℕ} 0 1 = cc in absurd (omega arith))
     (λ e. ltb-false last_tag (get_or tags t 0) e)
 
-pub narrow-same : (n : ℕ) (tags values tags' values' : List ℕ) → NarrowSame n tags values tags' values' → first_bad tags values n ≡ Nothing
+pub narrow-same : (n : ℕ) (tags values tags' values' : List ℕ) → NarrowSame n tags values tags' values' → first_bad tags values n ≡ None
     → Same n tags values tags' values'
 narrow-same n tags values tags' values' s formed = record {
   long = s.long;

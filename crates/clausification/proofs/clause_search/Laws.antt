@@ -9,8 +9,10 @@ use lib.ListN.{length, get_or, take, drop, length-append, length-drop, drop_of_l
 use lib.Seq.{take_all, take-nil, take_at, drop-cons, drop-append_seam}
 use native.Mathlib.Omega.{arith}
 use native.Mathlib.Numerals.{add-one}
-use lib.Dec.{eqb}
-use borrow.Author.Tests.{eq-eqb, ne_eqb}
+use lib.Dec.{eqb, ltb}
+use borrow.Author.Tests.{eq-eqb, ne_eqb, ltb-true, ltb-false}
+use Rattle.std.proofs.lemmas.List.{length-take, get_or-take}
+use Rattle.cells.specs.ByPlace.{by-test}
 use Rattle.cells.specs.Cell.{operands_of, same_cells}
 use Rattle.formulas.specs.Normal.{Normal}
 use Rattle.formulas.specs.ClauseLists.{clause_places, literal_places, clause_ends, padded}
@@ -61,31 +63,57 @@ any-start tags values x literals ends count =
 -- w says whether the term is one of the clauses from number i on
 module _ (w : Bool) (tags values : List ℕ) (x : ℕ) (literals ends : List ℕ) (i start count : ℕ)
     (inv : w ≡ any_clause (is_clause tags values x) (clauses_in literals (drop i ends) start (count - i))) where
-  pub any-end : count ≤ i → false ≡ w
+  any-end : count ≤ i → false ≡ w
   unfolding any_clause clauses_in
   any-end h =
       let z : count - i ≡ 0 = omega arith in
       rw (inv, z)
 
-  module _ (h : i < count) where
-    one_more : count - i ≡ suc (count - (i + 1))
-    one_more = omega arith
+  any-short : length ends ≤ i → i < count → false ≡ w
+  unfolding any_clause clauses_in
+  any-short g h =
+      let one_more : count - i ≡ suc (count - (i + 1)) = omega arith in
+      rw (inv, drop_of_length-le ends g, one_more)
 
-    pub any-short : length ends ≤ i → false ≡ w
-    unfolding any_clause clauses_in
-    any-short g = rw (inv, drop_of_length-le ends g, one_more)
+  module _ (listed : List ℕ) (first : listed ≡ take (count - 0) (drop 0 ends)) where
+    listed-are : listed ≡ take count ends
+    listed-are =
+        let z : count - 0 ≡ count = omega arith in
+        first ∙ rw z
 
-    module _ (g : i < length ends) (end : ℕ) (e : end ≡ get_or ends i 0) (c : List ℕ) (is : c ≡ take (end - start) (drop start literals)) (r : Bool)
-        (q : r ≡ is_clause tags values x c) where
+    pub any-all : length listed ≤ i → false ≡ w
+    any-all h =
+        by-test (ltb i count)
+        (λ a. by-test (ltb i (length ends))
+        (λ b. absurd (
+        let below : i < count = ltb-true i count a in
+        let there : i < length ends = ltb-true i (length ends) b in
+        omega (arith, h, below, there, ap length listed-are, length-take count ends)
+        ))
+        (λ b. any-short (ltb-false i (length ends) b) (ltb-true i count a)))
+        (λ a. any-end (ltb-false i count a))
+
+    module _ (h : i < length listed) (c : List ℕ) (is : c ≡ take (get_or listed i 0 - start) (drop start literals)) (r : Bool) (q : r ≡ is_clause tags values x c) where
+      counted : i < count
+      counted = omega (arith, h, ap length listed-are, length-take count ends)
+
+      one_more : count - i ≡ suc (count - (i + 1))
+      one_more = omega (arith, counted)
+
+      there : i < length ends
+      there = omega (arith, h, ap length listed-are, length-take count ends)
+
+      end_there : get_or listed i 0 ≡ get_or ends i 0
+      end_there = rw listed-are (get_or-take count ends i 0 counted)
+
       pub any_here : r ≡ true → true ≡ w
       unfolding any_clause clauses_in
-      any_here y = rw (inv, drop-cons ends i 0 g, one_more, ← e, ← is, ← q, y)
+      any_here y = rw (inv, drop-cons ends i 0 there, one_more, ← end_there, ← is, ← q, y)
 
-      pub any_next : r ≡ false → w ≡ any_clause (is_clause tags values x) (clauses_in literals (drop (i + 1) ends) end (count - (i + 1)))
+      pub any_next : r ≡ false
+          → w ≡ any_clause (is_clause tags values x) (clauses_in literals (drop (i + 1) ends) (get_or listed i 0) (count - (i + 1)))
       unfolding any_clause clauses_in
-      any_next y = rw (inv, drop-cons ends i 0 g, one_more, ← e, ← is, ← q, y, add-one i)
-
-pub ruleset some-clause = (any-start, any-end, any-short, any_here, any_next)
+      any_next y = rw (inv, drop-cons ends i 0 there, one_more, ← end_there, ← is, ← q, y, add-one i)
 
 -- ---- the arrays of a clause list
 places-length : (c : List (Normal (List ℕ) ℕ)) → length (clause_places c) ≡ length c

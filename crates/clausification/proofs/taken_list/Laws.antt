@@ -1,5 +1,6 @@
 -- Laws of `TakenList`, one for each way through the code.
 -- Assumes nothing.
+use Rattle.std.specs.Prelude.{Option, Some, None}
 use Prim.Native.Nat.{ℕ, ◌+◌, ◌-◌, ◌≤◌, ◌<◌}
 use mathlib.Core.Path.{◌≡◌, refl, sym, ap, fun_ext, ◌∙◌}
 use mathlib.Core.Bool.{Bool, true, false, not, ◌||◌}
@@ -8,6 +9,7 @@ use lib.ListN.{length, get_or, take, drop, set, replicate, length-set, length-dr
 use lib.Seq.{drop-cons, drop-set-lt, take_all, get_or-set_same, get_or-set_other}
 use lib.Dec.{eqb}
 use native.Mathlib.Omega.{arith}
+use native.Mathlib.Numerals.{add-one}
 use borrow.Author.Tests.{lt-ltb, eqb-true, eqb-false}
 use Rattle.cells.specs.declared.TermPlace.{TermPlace}
 use Rattle.cells.specs.ByPlace.{by-test}
@@ -19,15 +21,13 @@ use Rattle.formulas.specs.Normal.{taken}
 use Rattle.formulas.specs.Built.{normal_view, form_at}
 use Rattle.formulas.proofs.Reading.{read-literal, read-forall, read-connective, run-before}
 use Rattle.bindings.specs.Binding.{Binding, bindings_of, same, has, first_of}
-use Rattle.bindings.specs.BindingAnswer.{pair, name_of}
+use Rattle.bindings.specs.BindingAnswer.{pair, binding, name_of}
+use Rattle.cells.specs.declared.variable.Variable.{Variable}
 use Rattle.formulas.specs.PatternAnswer.{pairs_of}
-use Rattle.bindings.specs.declared.binding.FirstName.{FirstName}
-use Rattle.bindings.proofs.binding.Laws.{pairs_end, pairs_next}
-use Rattle.clausification.specs.declared.taken_list.Collected.{Collected}
-use Rattle.clausification.specs.declared.taken_list.Collected.TheVariants.{From, Full}
+use Rattle.bindings.proofs.binding.Laws.{pairs_next}
 use Rattle.clausification.specs.TakenList.{pairs_from, taken_at, taken_in, Joined, Gathered, PairsPut, CollectedMemo, CollectedBy}
 use Rattle.cells.proofs.marks.Laws.{zeros}
-use Rattle.clausification.proofs.taken_search.Laws.{look-below, has-append, unbound-left}
+use Rattle.clausification.proofs.taken_search.Laws.{look-below, has-append}
 
 -- ---- truth values
 or-false : (b : Bool) → (b || false) ≡ b
@@ -48,12 +48,11 @@ or-front true false c = refl
 or-front false true c = refl
 or-front false false c = refl
 
--- ---- a list put before the pairs from k on: up to i its pairs stand from j on
-pub record Putting (cells : List ℕ) (k : ℕ) (list cells' : List ℕ) (i j : ℕ) : Type 0 where
+-- ---- a list put before the pairs from k on: all but those that are left stand from j on
+pub record Putting (cells : List ℕ) (k : ℕ) (list : List Binding) (cells' : List ℕ) (left : List Binding) (j : ℕ) : Type 0 where
   pub size : length cells' ≡ length cells
   pub within : j ≤ k
-  pub passed : i ≤ length list
-  pub left : (a : Binding) → (has (pairs_from cells' j) a || has (bindings_of (drop i list)) a) ≡ (has (pairs_from cells k) a || has (bindings_of list) a)
+  pub all : (a : Binding) → (has (pairs_from cells' j) a || has left a) ≡ (has (pairs_from cells k) a || has list a)
 
 -- a pair stored before those from at + 2 on
 in-front : (l : List ℕ) (at x s : ℕ) → at + 2 ≤ length l → pairs_from (set (set l at x) (at + 1) s) at ≡ pair x s ∷ pairs_from l (at + 2)
@@ -75,33 +74,31 @@ has-turned : (b : Binding) (have rest : List Binding) (a : Binding) → (has (b 
 unfolding has
 has-turned b have rest a = or-front (same b a) (has have a) (has rest a)
 
-module _ (cells : List ℕ) (k : ℕ) (list : List ℕ) where
-  pub put-start : Putting cells k list cells 0 k
-  put-start = record { size = refl; within = omega arith; passed = omega arith; left = λ a. refl }
+module _ (cells : List ℕ) (k : ℕ) (list : List Binding) where
+  pub put-start : Putting cells k list cells list k
+  put-start = record { size = refl; within = omega arith; all = λ a. refl }
 
-  module _ (cells' : List ℕ) (i j : ℕ) (p : Putting cells k list cells' i j) where
-    pub put-end : length list - i < 2 → PairsPut cells k (bindings_of list) cells' (From j)
+  module _ (cells' : List ℕ) (left : List Binding) (j : ℕ) (p : Putting cells k list cells' left j) where
+    pub put-end : left ≡ [] → PairsPut cells k list cells' (Some j)
     unfolding has
-    put-end h = record {
+    put-end e = record {
       within = p.within;
-      joins = record { has-is = λ a. sym (or-false _) ∙ (rw (pairs_end list i h) at (p.left a)) };
+      joins = record { has-is = λ a. sym (or-false _) ∙ (rw e at (p.all a)) };
     }
 
-    pub put_next : k ≤ length cells → 2 ≤ length list - i → 2 ≤ j
-        → Putting cells k list (set (set cells' (j - 2) (get_or list i 0)) (j - 2 + 1) (get_or list (i + 1) 0)) (i + 2) (j - 2)
-    put_next fits h r =
-        let back : j - 2 + 2 ≡ j = omega arith in
-        let room : j - 2 + 2 ≤ length cells' = omega (arith, p.size, p.within) in
-        record {
-          size = simp length-set p.size;
-          within = omega (arith, p.within);
-          passed = omega arith;
-          left = λ a.
-              rw (in-front cells' (j - 2) (get_or list i 0) (get_or list (i + 1) 0) room, back)
-              (has-turned _ _ _ a ∙ rw (pairs_next list i h) at (p.left a));
-        }
+    module _ (i : ℕ) (back : i + 2 ≡ j) where
+      pub put-room : k ≤ length cells → i + 2 ≤ length cells'
+      put-room fits = omega (arith, p.size, p.within)
 
-pub ruleset puts = (put-start, put-end, put_next)
+      pub put_next : k ≤ length cells → (v : Variable) (rest : List Binding) → left ≡ binding v ∷ rest
+          → Putting cells k list (set (set cells' i v.name) (i + 1) v.sort.0) rest i
+      put_next fits v rest e = record {
+        size = simp length-set p.size;
+        within = omega (arith, p.within);
+        all = λ a.
+            rw (in-front cells' i v.name v.sort.0 (put-room fits), back)
+            (has-turned (binding v) (pairs_from cells' j) rest a ∙ rw e at (p.all a));
+      }
 
 -- ---- the variables at x, by how the term there is read
 module _ (tags values : List ℕ) (x : ℕ) (v : NormalView) (is : v ≡ normal_view tags values x) where
@@ -121,21 +118,21 @@ module _ (tags values : List ℕ) (x : ℕ) (v : NormalView) (is : v ≡ normal_
   operands-before b e run o = rw o (run-before tags values x v is b e)
 
 -- ---- what was put, and then collected
-pub put-from : (cells : List ℕ) (k : ℕ) (more : List Binding) (cells' : List ℕ) (r : Collected) → PairsPut cells k more cells' r → (j : ℕ) → r ≡ From j → Joined cells k more cells' j
+pub put-from : (cells : List ℕ) (k : ℕ) (more : List Binding) (cells' : List ℕ) (r : Option ℕ) → PairsPut cells k more cells' r → (j : ℕ) → r ≡ Some j → Joined cells k more cells' j
 put-from cells k more cells' r p j e = rw e at p
 
-pub walk_from : (tags values cells : List ℕ) (k : ℕ) (seen cells' : List ℕ) (more : List Binding) (r : Collected) → CollectedBy tags values cells k seen cells' more r
-    → (j : ℕ) → r ≡ From j → Gathered tags values cells k seen cells' more j
+pub walk_from : (tags values cells : List ℕ) (k : ℕ) (seen cells' : List ℕ) (more : List Binding) (r : Option ℕ) → CollectedBy tags values cells k seen cells' more r
+    → (j : ℕ) → r ≡ Some j → Gathered tags values cells k seen cells' more j
 walk_from tags values cells k seen cells' more r w j e = rw e at w.leaves
 
 module _ (tags values cells : List ℕ) (k : ℕ) (own : List Binding) (cells' : List ℕ) (j : ℕ) (p : Joined cells k own cells' j) where
   pub right-joined : (seen : List ℕ) → CollectedMemo tags values seen (pairs_from cells k) → CollectedMemo tags values seen (pairs_from cells' j)
   right-joined seen r = record { at = λ u e a h. p.joins.has-is a ∙ rw (r.at u e a h) }
 
-  composed : (seen cells'' : List ℕ) (inner : List Binding) (r : Collected) → CollectedBy tags values cells' j seen cells'' inner r
+  composed : (seen cells'' : List ℕ) (inner : List Binding) (r : Option ℕ) → CollectedBy tags values cells' j seen cells'' inner r
       → CollectedBy tags values cells k seen cells'' (own ++ inner) r
-  composed seen cells'' inner Full w = record { leaves = tt }
-  composed seen cells'' inner (From i) w = record {
+  composed seen cells'' inner None w = record { leaves = tt }
+  composed seen cells'' inner (Some i) w = record {
     leaves = record {
       joined = record {
         within = omega (arith, p.within, w.leaves.joined.within);
@@ -149,21 +146,21 @@ module _ (tags values cells : List ℕ) (k : ℕ) (own : List Binding) (cells' :
 
 -- nothing to collect, or no room
 unchanged : (tags values cells : List ℕ) (k : ℕ) (seen : List ℕ) → CollectedMemo tags values seen (pairs_from cells k) → (more : List Binding)
-    → ((a : Binding) → has (pairs_from cells k) a ≡ (has (pairs_from cells k) a || has more a)) → CollectedBy tags values cells k seen cells more (From k)
+    → ((a : Binding) → has (pairs_from cells k) a ≡ (has (pairs_from cells k) a || has more a)) → CollectedBy tags values cells k seen cells more (Some k)
 unchanged tags values cells k seen r more same-pairs = record {
   leaves = record { joined = record { within = omega arith; joins = record { has-is = same-pairs } }; right = r };
 }
 
-pub walk-full : (tags values cells : List ℕ) (k : ℕ) (seen' cells' : List ℕ) (more : List Binding) → CollectedBy tags values cells k seen' cells' more Full
+pub walk-full : (tags values cells : List ℕ) (k : ℕ) (seen' cells' : List ℕ) (more : List Binding) → CollectedBy tags values cells k seen' cells' more None
 walk-full tags values cells k seen' cells' more = record { leaves = tt }
 
 -- ---- the walk at x
 module _ (tags values cells : List ℕ) (k x : ℕ) where
   -- the variables taken out of x are collected, and x is noted
-  noted : (seen cells' : List ℕ) (more : List Binding) → taken_at tags values x ≡ more → (r : Collected) → CollectedBy tags values cells k seen cells' more r
+  noted : (seen cells' : List ℕ) (more : List Binding) → taken_at tags values x ≡ more → (r : Option ℕ) → CollectedBy tags values cells k seen cells' more r
       → (seen' : List ℕ) → seen' ≡ set seen x 1 → CollectedBy tags values cells k seen' cells' (taken_at tags values x) r
-  noted seen cells' more e Full w seen' is = record { leaves = tt }
-  noted seen cells' more e (From j) w seen' is = record {
+  noted seen cells' more e None w seen' is = record { leaves = tt }
+  noted seen cells' more e (Some j) w seen' is = record {
     leaves = record {
       joined = rw e w.leaves.joined;
       right = rw is (record {
@@ -175,77 +172,93 @@ module _ (tags values cells : List ℕ) (k x : ℕ) where
   }
 
   module _ (seen : List ℕ) (r : CollectedMemo tags values seen (pairs_from cells k)) where
-    pub walk-seen : (m : ℕ) → m ≡ get_or seen x 0 → m ≡ 1 → CollectedBy tags values cells k seen cells (taken_at tags values x) (From k)
+    pub walk-seen : (m : ℕ) → m ≡ get_or seen x 0 → m ≡ 1 → CollectedBy tags values cells k seen cells (taken_at tags values x) (Some k)
     walk-seen m is e =
         unchanged tags values cells k seen r (taken_at tags values x)
         (λ a. by-test (has (taken_at tags values x) a) (λ o. rw (o, r.at x (sym is ∙ e) a o)) (λ o. rw o (sym (or-false _))))
 
-    pub walk-literal : (v : NormalView) → v ≡ normal_view tags values x → v ≡ Literal → CollectedBy tags values cells k seen cells (taken_at tags values x) (From k)
+    pub walk-literal : (v : NormalView) → v ≡ normal_view tags values x → v ≡ Literal → CollectedBy tags values cells k seen cells (taken_at tags values x) (Some k)
     unfolding has
     walk-literal v is e = unchanged tags values cells k seen r (taken_at tags values x) (λ a. rw (taken-literal tags values x v is e) (sym (or-false _)))
 
   module _ (v : NormalView) (is : v ≡ normal_view tags values x) where
     pub walk-run : (b : Bool) → v ≡ Connective b → (run : List ℕ) → run ≡ operands_of tags values x
-        → (seen cells' : List ℕ) (r : Collected) → CollectedBy tags values cells k seen cells' (taken_in tags values run) r
+        → (seen cells' : List ℕ) (r : Option ℕ) → CollectedBy tags values cells k seen cells' (taken_in tags values run) r
         → (seen' : List ℕ) → seen' ≡ set seen x 1 → CollectedBy tags values cells k seen' cells' (taken_at tags values x) r
     walk-run b e run o seen cells' r w = noted seen cells' (taken_in tags values run) (rw o (taken-run tags values x v is b e)) r w
 
     pub walk-forall : (body : TermPlace) → v ≡ Forall body → (list : List ℕ) → list ≡ pairs_of tags values x
-        → (cells₁ : List ℕ) (own : Collected) → PairsPut cells k (bindings_of list) cells₁ own → (j : ℕ) → own ≡ From j
-        → (seen cells' : List ℕ) (r : Collected) → CollectedBy tags values cells₁ j seen cells' (taken_at tags values body.0) r
+        → (cells₁ : List ℕ) (own : Option ℕ) → PairsPut cells k (bindings_of list) cells₁ own → (j : ℕ) → own ≡ Some j
+        → (seen cells' : List ℕ) (r : Option ℕ) → CollectedBy tags values cells₁ j seen cells' (taken_at tags values body.0) r
         → (seen' : List ℕ) → seen' ≡ set seen x 1 → CollectedBy tags values cells k seen' cells' (taken_at tags values x) r
     walk-forall body e list l cells₁ own p j q seen cells' r w =
         noted seen cells' (bindings_of list ++ taken_at tags values body.0) (rw l (taken-forall tags values x v is body e)) r
         (composed tags values cells k (bindings_of list) cells₁ j (put-from cells k _ cells₁ own p j q) seen cells' (taken_at tags values body.0) r w)
 
--- ---- the walk along a run
-run_none : (tags values run : List ℕ) → length run ≡ 0 → taken_in tags values run ≡ []
-unfolding taken_in
-run_none tags values [] e = refl
-run_none tags values (u ∷ run) e = absurd (omega arith)
+-- ---- the walk along a run, at i: all but the variables of what is left stand from j on
+pub record Collecting (tags values cells : List ℕ) (k : ℕ) (run seen cells' : List ℕ) (j i : ℕ) : Type 0 where
+  pub size : length cells' ≡ length cells
+  pub within : j ≤ k
+  pub right : CollectedMemo tags values seen (pairs_from cells' j)
+  pub all : (a : Binding) → (has (pairs_from cells' j) a || has (taken_in tags values (drop i run)) a) ≡ (has (pairs_from cells k) a || has (taken_in tags values run) a)
 
-module _ (tags values cells : List ℕ) (k : ℕ) (run : List ℕ) where
-  pub run_end : (seen : List ℕ) → CollectedMemo tags values seen (pairs_from cells k) → length run ≡ 0 → CollectedBy tags values cells k seen cells (taken_in tags values run) (From k)
+pub collect-start : (tags values cells : List ℕ) (k : ℕ) (run seen : List ℕ) → CollectedMemo tags values seen (pairs_from cells k)
+    → Collecting tags values cells k run seen cells k 0
+collect-start tags values cells k run seen r = record { size = refl; within = omega arith; right = r; all = λ a. refl }
+
+module _ (tags values cells : List ℕ) (k : ℕ) (run seen cells' : List ℕ) (j i : ℕ) (w : Collecting tags values cells k run seen cells' j i) where
+  run-none : length run ≤ i → taken_in tags values (drop i run) ≡ []
+  unfolding taken_in
+  run-none h = rw (drop_of_length-le run h)
+
+  pub collect-end : length run ≤ i → CollectedBy tags values cells k seen cells' (taken_in tags values run) (Some j)
   unfolding has
-  run_end seen r e = unchanged tags values cells k seen r (taken_in tags values run) (λ a. rw (run_none tags values run e) (sym (or-false _)))
+  collect-end h = record {
+    leaves = record {
+      joined = record { within = w.within; joins = record { has-is = λ a. sym (or-false _) ∙ (rw (run-none h) at (w.all a)) } };
+      right = w.right;
+    };
+  }
 
-  module _ (some : length run ≡ 0 → ⊥) where
-    run_is : taken_in tags values run ≡ taken_at tags values (get_or run 0 0) ++ taken_in tags values (take (length run - 1) (drop 1 run))
+  module _ (h : i < length run) (seen' cells'' : List ℕ) (size : length cells'' ≡ length cells) (first : Option ℕ)
+      (b : CollectedBy tags values cells' j seen' cells'' (taken_at tags values (get_or run i 0)) first) where
+    run-at : taken_in tags values (drop i run) ≡ taken_at tags values (get_or run i 0) ++ taken_in tags values (drop (i + 1) run)
     unfolding taken_in taken_at
-    run_is =
-        rw (take_all (length run - 1) (drop 1 run) (rw (length-drop 1 run) (omega arith)))
-        (ap (taken_in tags values) (drop-cons run 0 0 (omega arith)))
+    run-at = rw (add-one i) (ap (taken_in tags values) (drop-cons run i 0 h))
 
-    pub run_on : (seen cells' : List ℕ) (first : Collected) → CollectedBy tags values cells k seen cells' (taken_at tags values (get_or run 0 0)) first
-        → (j : ℕ) → first ≡ From j → (seen' cells'' : List ℕ) (r : Collected)
-        → CollectedBy tags values cells' j seen' cells'' (taken_in tags values (take (length run - 1) (drop 1 run))) r
-        → CollectedBy tags values cells k seen' cells'' (taken_in tags values run) r
-    run_on seen cells' first w j e seen' cells'' r w' =
-        rw run_is
-        (composed tags values cells k _ cells' j (walk_from tags values cells k seen cells' _ first w j e).joined seen' cells'' _ r w')
+    pub collect-next : (j' : ℕ) → first ≡ Some j' → Collecting tags values cells k run seen' cells'' j' (i + 1)
+    collect-next j' e =
+        let g = walk_from tags values cells' j seen' cells'' (taken_at tags values (get_or run i 0)) first b j' e in
+        record {
+          size = size;
+          within = omega (arith, g.joined.within, w.within);
+          right = g.right;
+          all = λ a.
+              rw (g.joined.joins.has-is a)
+              (or_assoc (has (pairs_from cells' j) a) (has (taken_at tags values (get_or run i 0)) a) (has (taken_in tags values (drop (i + 1) run)) a)
+              ∙ (rw (run-at, has-append (taken_at tags values (get_or run i 0)) (taken_in tags values (drop (i + 1) run)) a) at (w.all a)));
+        }
 
-pub ruleset walks = (walk-full, walk-seen, walk-literal, walk-run, walk-forall, run_end, run_on)
+pub ruleset walks = (walk-full, walk-seen, walk-literal, walk-run, walk-forall)
 
 -- ---- a pair that neither list has
-pub neither-taken : (left bs : List Binding) (a s : ℕ) (h : Bool) → h ≡ has left (pair a s) → h ≡ false
-    → (t : Bool) → t ≡ has bs (pair a s) → not t ≡ not (has (left ++ bs) (pair a s))
-neither-taken left bs a s h is e t q = rw (has-append left bs (pair a s), ← is, e, q)
-
-pub ruleset neither = (unbound-left, neither-taken)
+pub neither-taken : (left bs : List Binding) (v : Variable) (h : Bool) → h ≡ has left (binding v) → h ≡ false
+    → (t : Bool) → t ≡ has bs (binding v) → not t ≡ not (has (left ++ bs) (binding v))
+neither-taken left bs v h is e t q = rw (has-append left bs (binding v), ← is, e, q)
 
 -- ---- the whole walk, from a fresh memo and no pairs
 pub fresh : (tags values : List ℕ) (k : ℕ) (list : List Binding) → CollectedMemo tags values (replicate k 0) list
 fresh tags values k list = record { at = λ u e a h. absurd (omega (arith, zeros k u)) }
 
-module _ (tags values : List ℕ) (n x : ℕ) (seen cells : List ℕ) (r : Collected) (w : CollectedBy tags values (replicate n 0) n seen cells (taken_at tags values x) r)
-    (k : ℕ) (e : r ≡ From k) where
+module _ (tags values : List ℕ) (n x : ℕ) (seen cells : List ℕ) (r : Option ℕ) (w : CollectedBy tags values (replicate n 0) n seen cells (taken_at tags values x) r)
+    (k : ℕ) (e : r ≡ Some k) where
   collected-are : (a : Binding) → has (bindings_of (drop k cells)) a ≡ has (taken bindings_of (form_at tags values x)) a
   unfolding pairs_from taken_at bindings_of has
   collected-are a =
       ((walk_from tags values (replicate n 0) n seen cells _ r w k e).joined.joins.has-is a)
       ∙ rw (drop_of_length-le {A = ℕ} (replicate n 0) {i = n} (rw (length-replicate {A = ℕ} n 0) (omega arith)))
 
-  pub whole : (m : ℕ) → length cells ≤ m → (left right : List ℕ) (f : FirstName)
+  pub whole : (m : ℕ) → length cells ≤ m → (left right : List ℕ) (f : Option ℕ)
       → f ≡ name_of (first_of (λ a. not (has (bindings_of left ++ bindings_of (take (m - k) (drop k cells))) a)) (bindings_of right))
       → f ≡ name_of (first_of (λ a. not (has (bindings_of left ++ taken bindings_of (form_at tags values x)) a)) (bindings_of right))
   whole m h left right f q =

@@ -1,11 +1,12 @@
-use mathlib.Core.Path.{◌∙◌, sym}
-use Rattle.joined_records.proofs.Laws.{follow-end, follow-next}
+use Rattle.std.proofs.Common.{sym, ◌∙◌}
+use Rattle.joined_records.proofs.Laws.{follow-end, follow-stop, follow-next}
 use Rattle.joined_records.proofs.follow.Goals as goal
 
-pub loop-i-preserved : goal.loop-i-preserved
-loop-i-preserved c =
-    let e = follow-next c.args.list.now c.args.right.now c.loop-i.i c.loop-i.s c.loop-i-test.true in
-    cc
+pub returns-in_err-s : goal.returns-in_err-s
+returns-in_err-s c = c.from_residual.ensures ∙ sym (c.loop-pair.invariant ∙ follow-stop _ _ _ _ c.loop-pair-test.true _ c.next.ensures c.in_err-s.was)
+
+pub loop-pair-preserved : goal.loop-pair-preserved
+loop-pair-preserved c = c.loop-pair.invariant ∙ follow-next _ _ _ _ c.loop-pair-test.true _ c.next.ensures _ c.in_ok-s.was
 
 pub returns : goal.returns
-returns c = sym (c.loop-i.invariant ∙ follow-end c.args.list.now c.args.right.now c.loop-i.i c.loop-i.s c.loop-i-test.false)
+returns c = sym (c.loop-pair.invariant ∙ follow-end _ _ _ _ c.loop-pair-test.false)

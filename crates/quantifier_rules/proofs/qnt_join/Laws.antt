@@ -1,11 +1,11 @@
 -- Laws of `QntJoin`: rule 1, one law for each answer.
 -- Assumes nothing.
 use Prim.Native.Nat.{ℕ}
-use mathlib.Core.Path.{◌≡◌}
+use mathlib.Core.Path.{◌≡◌, sym, ◌∙◌}
 use mathlib.Core.Bool.{Bool, true, false, not, beq}
 use mathlib.Core.List.{List}
 use lib.Dec.{eqb}
-use borrow.Author.Tests.{eq-eqb, ne_eqb, not-true, not-false}
+use borrow.Author.Tests.{not-true, not-false}
 use Rattle.cells.specs.declared.TermPlace.{TermPlace}
 use Rattle.answers.specs.Outcome.{pass, refuse, ◌>>=◌, ◌>>◌, need, guard}
 use Rattle.bindings.specs.Binding.{bindings_of, same_all}
@@ -14,66 +14,65 @@ use Rattle.formulas.specs.Formula.{quantifier_tag}
 use Rattle.formulas.specs.PatternAnswer.{pairs_of, quantifier_in, two_in}
 use Rattle.quantifier_rules.specs.QntJoin.{joined, qnt_join}
 use Rattle.formulas.specs.declared.matching.Quantified.{Quantified}
-use Rattle.formulas.specs.declared.matching.Quantified.TheVariants as quantified
-use Rattle.formulas.specs.declared.matching.Two.{Two}
-use Rattle.formulas.specs.declared.matching.Two.TheVariants as two
 use Rattle.formulas.proofs.matching.Laws.{Reads}
-use Rattle.bindings.proofs.Outcomes.{answers-refused, answers-accepted}
+use Rattle.std.specs.Prelude.{Option, Some, None}
 
-module _ (tags values : List ℕ) (x : ℕ) (t : Two) (form : equality tags values x ≡ two_in t) where
-  pub join-form : t ≡ two.Not → refuse 2 x 0 ≡ qnt_join tags values x
+module _ (tags values : List ℕ) (x : ℕ) (t : Option (TermPlace × TermPlace)) (form : equality tags values x ≡ two_in t) where
+  pub join-form : t ≡ None → refuse 2 x 0 ≡ qnt_join tags values x
   unfolding qnt_join two_in need ◌>>=◌
   join-form e = rw (form, e)
 
-  module _ (l r : TermPlace) (e : t ≡ two.Are l r) (q : Quantified) (left : Reads tags values l.0 q) where
-    pub join-left : q ≡ quantified.Not → refuse 3 l.0 0 ≡ qnt_join tags values x
+  module _ (p : TermPlace × TermPlace) (e : t ≡ Some p) (q : Option Quantified) (left : Reads tags values p.0.0 q) where
+    pub join-left : q ≡ None → refuse 3 p.0.0 0 ≡ qnt_join tags values x
     unfolding qnt_join two_in quantifier_in need ◌>>=◌
     join-left n = rw (form, e, left, n)
 
-    module _ (k : Bool) (b : TermPlace) (q-is : q ≡ quantified.Is k b) (q' : Quantified) (inner : Reads tags values b.0 q') where
-      pub join-inner : q' ≡ quantified.Not → refuse 3 b.0 0 ≡ qnt_join tags values x
+    module _ (a : Quantified) (q-is : q ≡ Some a) (q' : Option Quantified) (inner : Reads tags values a.body.0 q') where
+      pub join-inner : q' ≡ None → refuse 3 a.body.0 0 ≡ qnt_join tags values x
       unfolding qnt_join two_in quantifier_in need ◌>>=◌
       join-inner n = rw (form, e, left, q-is, inner, n)
 
-      module _ (k' : Bool) (b' : TermPlace) (q'-is : q' ≡ quantified.Is k' b') (q'' : Quantified) (right : Reads tags values r.0 q'') where
-        pub join-right : q'' ≡ quantified.Not → refuse 3 r.0 0 ≡ qnt_join tags values x
+      module _ (b : Quantified) (q'-is : q' ≡ Some b) (q'' : Option Quantified) (right : Reads tags values p.1.0 q'') where
+        pub join-right : q'' ≡ None → refuse 3 p.1.0 0 ≡ qnt_join tags values x
         unfolding qnt_join two_in quantifier_in need ◌>>=◌
         join-right n = rw (form, e, left, q-is, inner, q'-is, right, n)
 
-        module _ (k'' : Bool) (b'' : TermPlace) (q''-is : q'' ≡ quantified.Is k'' b'') where
+        module _ (d : Quantified) (q''-is : q'' ≡ Some d) where
           -- the checks that are left once both sides and the left body are quantifiers
           checks : qnt_join tags values x
-              ≡ (guard 4 (quantifier_tag k) (quantifier_tag k') (beq k k')
-              >> (guard 4 (quantifier_tag k') (quantifier_tag k'') (beq k' k'')
-              >> (guard 5 b'.0 b''.0 (eqb b'.0 b''.0)
-              >> guard 7 l.0 r.0 (same_all (joined (bindings_of (pairs_of tags values l.0)) (bindings_of (pairs_of tags values b.0))) (bindings_of (pairs_of tags values r.0))))))
+              ≡ (guard 4 (quantifier_tag a.kind) (quantifier_tag b.kind) (beq a.kind b.kind)
+              >> (guard 4 (quantifier_tag b.kind) (quantifier_tag d.kind) (beq b.kind d.kind)
+              >> (guard 5 b.body.0 d.body.0 (eqb b.body.0 d.body.0)
+              >> guard 7 p.0.0 p.1.0 (same_all (joined (bindings_of (pairs_of tags values p.0.0)) (bindings_of (pairs_of tags values a.body.0))) (bindings_of (pairs_of tags values p.1.0))))))
           unfolding qnt_join two_in quantifier_in need ◌>>=◌
           checks = rw (form, e, left, q-is, inner, q'-is, right, q''-is)
 
-          pub join-kinds : not (beq k k') ≡ true → (a a' : ℕ) → a ≡ quantifier_tag k → a' ≡ quantifier_tag k' → refuse 4 a a' ≡ qnt_join tags values x
+          pub join-kinds : not (beq a.kind b.kind) ≡ true → (m n : ℕ) → m ≡ quantifier_tag a.kind → n ≡ quantifier_tag b.kind → refuse 4 m n ≡ qnt_join tags values x
           unfolding guard ◌>>◌
-          join-kinds n a a' is is' = rw (checks, not-true (beq k k') n, is, is')
+          join-kinds o m n is is' = rw (checks, not-true (beq a.kind b.kind) o, is, is')
 
-          module _ (same : not (beq k k') ≡ false) where
-            pub join-kinds-right : not (beq k' k'') ≡ true → (a a' : ℕ) → a ≡ quantifier_tag k' → a' ≡ quantifier_tag k'' → refuse 4 a a' ≡ qnt_join tags values x
+          module _ (same : not (beq a.kind b.kind) ≡ false) where
+            pub join-kinds-right : not (beq b.kind d.kind) ≡ true → (m n : ℕ) → m ≡ quantifier_tag b.kind → n ≡ quantifier_tag d.kind → refuse 4 m n ≡ qnt_join tags values x
             unfolding guard ◌>>◌
-            join-kinds-right n a a' is is' = rw (checks, not-false (beq k k') same, not-true (beq k' k'') n, is, is')
+            join-kinds-right o m n is is' = rw (checks, not-false (beq a.kind b.kind) same, not-true (beq b.kind d.kind) o, is, is')
 
-            module _ (same' : not (beq k' k'') ≡ false) where
-              pub join-bodies : (b'.0 ≡ b''.0 → ⊥) → refuse 5 b'.0 b''.0 ≡ qnt_join tags values x
+            module _ (same' : not (beq b.kind d.kind) ≡ false) (v : Bool) (v-is : v ≡ not (eqb b.body.0 d.body.0)) where
+              pub join-bodies : v ≡ true → refuse 5 b.body.0 d.body.0 ≡ qnt_join tags values x
               unfolding guard ◌>>◌
-              join-bodies n = rw (checks, not-false (beq k k') same, not-false (beq k' k'') same', ne_eqb _ _ n)
+              join-bodies o =
+                  rw (checks, not-false (beq a.kind b.kind) same, not-false (beq b.kind d.kind) same', not-true (eqb b.body.0 d.body.0) (sym v-is ∙ o))
 
-              module _ (bodies : b'.0 ≡ b''.0) (s : Bool) (o i g : List ℕ) (s-is : s ≡ same_all (joined (bindings_of o) (bindings_of i)) (bindings_of g))
-                  (o_is : o ≡ pairs_of tags values l.0) (i-is : i ≡ pairs_of tags values b.0) (g-is : g ≡ pairs_of tags values r.0) where
-                pub join-lists : not s ≡ true → refuse 7 l.0 r.0 ≡ qnt_join tags values x
+              module _ (bodies : v ≡ false) (s : Bool) (o i g : List ℕ) (s-is : s ≡ same_all (joined (bindings_of o) (bindings_of i)) (bindings_of g))
+                  (o_is : o ≡ pairs_of tags values p.0.0) (i-is : i ≡ pairs_of tags values a.body.0) (g-is : g ≡ pairs_of tags values p.1.0) where
+                agree : eqb b.body.0 d.body.0 ≡ true
+                agree = not-false (eqb b.body.0 d.body.0) (sym v-is ∙ bodies)
+
+                pub join-lists : not s ≡ true → refuse 7 p.0.0 p.1.0 ≡ qnt_join tags values x
                 unfolding guard ◌>>◌
                 join-lists n =
-                    rw (checks, not-false (beq k k') same, not-false (beq k' k'') same', eq-eqb _ _ bodies, ← o_is, ← i-is, ← g-is, ← s-is, not-true s n)
+                    rw (checks, not-false (beq a.kind b.kind) same, not-false (beq b.kind d.kind) same', agree, ← o_is, ← i-is, ← g-is, ← s-is, not-true s n)
 
                 pub join-passes : not s ≡ false → pass tt ≡ qnt_join tags values x
                 unfolding guard ◌>>◌
                 join-passes n =
-                    rw (checks, not-false (beq k k') same, not-false (beq k' k'') same', eq-eqb _ _ bodies, ← o_is, ← i-is, ← g-is, ← s-is, not-false s n)
-
-pub ruleset join = (answers-refused, answers-accepted, join-form, join-left, join-inner, join-right, join-kinds, join-kinds-right, join-bodies, join-lists, join-passes)
+                    rw (checks, not-false (beq a.kind b.kind) same, not-false (beq b.kind d.kind) same', agree, ← o_is, ← i-is, ← g-is, ← s-is, not-false s n)

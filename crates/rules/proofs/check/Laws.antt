@@ -1,19 +1,20 @@
 -- Laws of `check`: each exit's answer, and the arrays after it.
 -- Assumes nothing.
-use Prim.Native.Nat.{ℕ, suc, ◌≤◌, ◌<◌, min}
+use Rattle.std.specs.Prelude.{Option, None, Result, Ok, Err, ok_or}
+use Prim.Native.Nat.{ℕ, suc, ◌≤◌, min}
 use mathlib.Core.Path.{◌≡◌, refl, sym, ap, ◌∙◌}
 use mathlib.Core.Logic.{◌↔◌}
 use mathlib.Core.Bool.{Bool, true, false, not, ◌&&◌, cond}
 use mathlib.Core.List.{List}
 use lib.ListN.{length, get_or, length-drop}
-use lib.Dec.{ltb, leb, eqb}
+use lib.Dec.{ltb, eqb}
 use native.Mathlib.Omega.{arith}
-use borrow.Author.Tests.{eq-eqb, ne_eqb, eqb-true, eqb-false, ltb-true, le-leb, not-true, not-false}
+use borrow.Author.Tests.{eq-eqb, ne_eqb, eqb-true, eqb-false, ltb-true, not-true, not-false}
 use Rattle.cells.specs.ByPlace.{by-test}
 use Rattle.cells.specs.Cell.{cells_of, operands_of}
 use Rattle.headers.specs.WellFormed.{is_term}
 use Rattle.descriptions.specs.Description.{zero_from, Cut}
-use Rattle.answers.specs.Answer.{accepted, refused}
+use Rattle.answers.specs.Answer.{accepted, refused, not_a_term}
 use Rattle.descriptions.specs.Index.{Index}
 use Rattle.pool.specs.Check.{Indexed, and_then, check_pool, check_term, CheckedTerm}
 use Rattle.answers.specs.declared.Answer.{Answer}
@@ -21,68 +22,28 @@ use Rattle.meaning.proofs.trees.Header.{both, cells-length, term-tagged}
 use Rattle.meaning.proofs.trees.Passed.{Passed, pool-passes, pool-accepts, header_at}
 use Rattle.answers.specs.Outcome.{answer_of}
 use Rattle.meaning.proofs.patterns.Trees.{equality-tree}
-use Rattle.quantifier_rules.specs.QntJoin.{qnt_join}
-use Rattle.quantifier_rules.specs.QntRmUnused.{qnt_rm_unused}
-use Rattle.miniscoping.specs.MiniscopeDistribute.{miniscope_distribute}
-use Rattle.miniscoping.specs.MiniscopeSplit.{miniscope_split}
-use Rattle.miniscoping.specs.MiniscopeIte.{miniscope_ite}
 use Rattle.miniscoping.specs.LeftFits.{LeftFits}
 use Rattle.rules.specs.Step.{is_rule, rule_outcome, step_answer, cells_left, Follows, StepHolds, Step}
 use Rattle.clausification.specs.Promises.{Clausified}
-use Rattle.rules.specs.StepWalk.{before_rule, Judged, CellsKept}
+use Rattle.rules.specs.StepWalk.{before_rule, Ready, Judged, CellsKept}
+use Rattle.answers.specs.Refusal.{answer_to, answer_of_check}
+use Rattle.answers.specs.declared.refusal.Refusal.{Refusal}
+use Rattle.answers.specs.declared.refusal.Refusal.TheVariants.{UnknownRule}
+use Rattle.cells.specs.declared.TermPlace.{TermPlace}
+use Rattle.answers.proofs.Refusals.{refused-code}
+use Rattle.rules.specs.RuleCode.{code_of, RuleOf}
+use Rattle.rules.specs.declared.rule.Rule.{Rule}
+use Rattle.rules.proofs.rule.Laws.{code-known}
 use Rattle.rules.proofs.Codes.{rule-codes, not-30}
 use Rattle.rules.proofs.Accepted.{step_follows}
 use Rattle.rules.proofs.Schema.{step_is}
 
--- ---- a rule's code
-pub rule-low : (k : ℕ) → k < 1 → false ≡ is_rule k
-unfolding is_rule
-rule-low k h = let z : k ≡ 0 = omega arith in rw z
-
-pub rule-from : (k : ℕ) → 1 ≤ k → leb k 6 ≡ is_rule k
-unfolding is_rule
-rule-from k h = rw (le-leb 1 k h)
-
--- ---- the rules that build nothing
-module _ (tags values : List ℕ) (n rule x : ℕ) (r : Answer) where
-  abbrev Is : Type 0
-  Is = r ≡ answer_of (rule_outcome tags values n rule x)
-
-  pub apply-join : rule ≡ 1 → r ≡ answer_of (qnt_join tags values x) → Is
-  unfolding rule_outcome
-  apply-join e q = rw (eq-eqb _ _ e) q
-
-  pub apply-rm-unused : rule ≡ 2 → r ≡ answer_of (qnt_rm_unused tags values n x) → Is
-  unfolding rule_outcome
-  apply-rm-unused e q = rw (ne_eqb rule 1 (λ z. omega arith), eq-eqb _ _ e) q
-
-  pub apply-distribute : rule ≡ 4 → r ≡ answer_of (miniscope_distribute tags values x) → Is
-  unfolding rule_outcome
-  apply-distribute e q =
-      rw (ne_eqb rule 1 (λ z. omega arith), ne_eqb rule 2 (λ z. omega arith), ne_eqb rule 3 (λ z. omega arith), eq-eqb _ _ e) q
-
-  pub apply-split : rule ≡ 5 → r ≡ answer_of (miniscope_split tags values n x) → Is
-  unfolding rule_outcome
-  apply-split e q =
-      rw (
-        ne_eqb rule 1 (λ z. omega arith),
-        ne_eqb rule 2 (λ z. omega arith),
-        ne_eqb rule 3 (λ z. omega arith),
-        ne_eqb rule 4 (λ z. omega arith),
-        eq-eqb _ _ e,
-      ) q
-
-  pub apply_ite : (rule ≡ 1 → ⊥) → (rule ≡ 2 → ⊥) → (rule ≡ 3 → ⊥) → (rule ≡ 4 → ⊥) → (rule ≡ 5 → ⊥)
-      → r ≡ answer_of (miniscope_ite tags values n x) → Is
-  unfolding rule_outcome
-  apply_ite a b c d e q = rw (ne_eqb _ _ a, ne_eqb _ _ b, ne_eqb _ _ c, ne_eqb _ _ d, ne_eqb _ _ e) q
-
 -- ---- the rules
-module _ (tags values : List ℕ) (n rule x : ℕ) (r : Answer) where
+module _ (tags values : List ℕ) (n rule x : ℕ) (r : Result (Unit {0}) Refusal) where
   abbrev After : List ℕ → List ℕ → Type 0
-  After = Judged n rule (answer_of (rule_outcome tags values n rule x)) r tags values
+  After = Judged n rule (answer_of (rule_outcome tags values n rule x)) (answer_of_check r) tags values
 
-  pub apply-other : (rule ≡ 3 → ⊥) → r ≡ answer_of (rule_outcome tags values n rule x) → After tags values
+  pub apply-other : (rule ≡ 3 → ⊥) → answer_of_check r ≡ answer_of (rule_outcome tags values n rule x) → After tags values
   apply-other other e = record { answer = e; tags-kept = kept tags; values-kept = kept values }
     where
       kept : (l : List ℕ) → CellsKept n rule l l
@@ -125,30 +86,43 @@ module _ (tags values : List ℕ) (n x : ℕ) where
       other k z = omega arith
 
 -- ---- the checks before the rule, in their order
-module _ (tags : List ℕ) (n rule : ℕ) (conclusion : List ℕ) (a : Answer) where
-  pub before-pool : (a.code ≡ 0 → ⊥) → a ≡ before_rule tags n rule conclusion a
+module _ (tags : List ℕ) (n code : ℕ) (conclusion : List ℕ) where
+  pub before-pool : (x : Refusal) → answer_to x ≡ before_rule tags n code conclusion (answer_to x)
   unfolding before_rule and_then
-  before-pool h = rw (ne_eqb _ _ h)
+  before-pool x = rw (refused-code x)
 
-  module _ (ok : a.code ≡ 0) (known : Bool) (k : known ≡ is_rule rule) where
-    pub before-unknown : not known ≡ true → (r : Answer) → r ≡ refused 18 rule 0 → r ≡ before_rule tags n rule conclusion a
+  pub before-unknown : is_rule code ≡ false → refused 18 code 0 ≡ before_rule tags n code conclusion (accepted 0 0)
+  unfolding before_rule and_then
+  before-unknown e = rw e
+
+  module _ (r : Result (Rule × TermPlace) Refusal) (x : Refusal) (e : r ≡ Err x) (checked : Result (Unit {0}) Refusal) where
+    pub ready-pool : checked ≡ Err x → Ready tags n code conclusion (answer_of_check checked) r
+    ready-pool was = rw (e, was) (before-pool x)
+
+    pub ready-unknown : (u : Unit {0}) → checked ≡ Ok u → (o : Option Rule) → RuleOf code o → o ≡ None → Err x ≡ ok_or o (UnknownRule code)
+        → Ready tags n code conclusion (answer_of_check checked) r
+    ready-unknown u was o of none value =
+        let same : Err x ≡ Err (UnknownRule code) = rw none at value in
+        let is : x ≡ UnknownRule code = cc in
+        rw (e, was, is) (before-unknown (rw none at of))
+
+  module _ (rule : Rule) (named : code ≡ code_of rule) where
+    known : is_rule code ≡ true
+    known = rw named (code-known rule)
+
+    pub before-length : (length conclusion ≡ 1 → ⊥) → (w : ℕ) → w ≡ min 4294967295 (length conclusion)
+        → refused 1 w 0 ≡ before_rule tags n code conclusion (accepted 0 0)
     unfolding before_rule and_then
-    before-unknown f r e = rw (eq-eqb _ _ ok, ← k, not-true known f) e
+    before-length h w q = rw (known, ne_eqb _ _ h, ← q)
 
-    module _ (o : not known ≡ false) where
-      pub before-length : (length conclusion ≡ 1 → ⊥) → (w : ℕ) → w ≡ min 4294967295 (length conclusion) → (r : Answer) → r ≡ refused 1 w 0
-          → r ≡ before_rule tags n rule conclusion a
+    module _ (one : length conclusion ≡ 1) (t : Bool) (term : t ≡ is_term tags n (get_or conclusion 0 0)) where
+      pub before-place : not t ≡ true → not_a_term (get_or conclusion 0 0) ≡ before_rule tags n code conclusion (accepted 0 0)
       unfolding before_rule and_then
-      before-length h w q r e = rw (eq-eqb _ _ ok, ← k, not-false known o, ne_eqb _ _ h, ← q) e
+      before-place f = rw (known, eq-eqb _ _ one, ← term, not-true t f)
 
-      module _ (one : length conclusion ≡ 1) (t : Bool) (term : t ≡ is_term tags n (get_or conclusion 0 0)) where
-        pub before-place : not t ≡ true → (r : Answer) → r ≡ refused 17 (get_or conclusion 0 0) 0 → r ≡ before_rule tags n rule conclusion a
-        unfolding before_rule and_then
-        before-place f r e = rw (eq-eqb _ _ ok, ← k, not-false known o, eq-eqb _ _ one, ← term, not-true t f) e
-
-        pub before-passed : not t ≡ false → (r : Answer) → r ≡ accepted 0 0 → r ≡ before_rule tags n rule conclusion a
-        unfolding before_rule and_then
-        before-passed f r e = rw (eq-eqb _ _ ok, ← k, not-false known o, eq-eqb _ _ one, ← term, not-false t f) e
+      pub before-passed : not t ≡ false → before_rule tags n code conclusion (accepted 0 0) ≡ accepted 0 0
+      unfolding before_rule and_then
+      before-passed f = rw (known, eq-eqb _ _ one, ← term, not-false t f)
 
 -- ---- the rule after them: early is their answer
 module _ (tags values table : List ℕ) (n rule : ℕ) (conclusion : List ℕ) (a : Answer) (is : a ≡ check_pool tags values table n)

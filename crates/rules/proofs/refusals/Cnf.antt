@@ -4,7 +4,7 @@ use Prim.Native.Nat.{ℕ}
 use mathlib.Core.Path.{◌≡◌, refl, sym, ap, ◌∙◌}
 use mathlib.Core.Bool.{true, false, not, ◌&&◌}
 use mathlib.Core.List.{List, ◌++◌, Memᴰ}
-use mathlib.Core.Option.{some, none}
+use Rattle.std.specs.Prelude.{Some, None}
 use native.Mathlib.Omega.{arith}
 use borrow.Author.Tests.{not-true, not-false}
 use Rattle.headers.specs.WellFormed.{is_term}
@@ -52,10 +52,10 @@ pub data CnfRefused (tags values : List ℕ) (n x : ℕ) : ℕ → ℕ → ℕ �
       → (v : Var) → has_var (with_taken xs t) v ≡ true → has_var zs v ≡ false → free k v ≡ true → CnfRefused tags values n x 9 v.name 0
 
 module _ {tags values rules : List ℕ} {n : ℕ} (c : Passed tags values rules n) (x : ℕ) (t : is_term tags n x ≡ true) where
-  no-implication : implication tags values x ≡ none → (s s' : Sort) (l r : Term) → tree tags values x ≡ implies s s' l r → ⊥
+  no-implication : implication tags values x ≡ None → (s s' : Sort) (l r : Term) → tree tags values x ≡ implies s s' l r → ⊥
   no-implication e s s' l r is =
       let b = implication-back c x t s s' l r is in
-      let d : none ≡ some b.p = sym e ∙ b.found in
+      let d : None ≡ Some b.p = sym e ∙ b.found in
       let z : ◌≡◌ {A = ℕ} 0 1 = cc in
       omega arith
 

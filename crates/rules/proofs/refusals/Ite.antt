@@ -4,7 +4,7 @@ use Prim.Native.Nat.{ℕ}
 use mathlib.Core.Path.{◌≡◌, sym, ◌∙◌}
 use mathlib.Core.Bool.{true}
 use mathlib.Core.List.{List}
-use mathlib.Core.Option.{some, none}
+use Rattle.std.specs.Prelude.{Some, None}
 use native.Mathlib.Omega.{arith}
 use Rattle.headers.specs.WellFormed.{is_term}
 use Rattle.meaning.specs.Sort.{Sort}
@@ -34,10 +34,10 @@ pub data IteRefused (tags values : List ℕ) (x : ℕ) : ℕ → ℕ → ℕ →
       → (v : Var) → has xs v ≡ true → free (tree tags values q) v ≡ true → IteRefused tags values x 12 v.name q
 
 module _ {tags values rules : List ℕ} {n : ℕ} (c : Passed tags values rules n) (x : ℕ) (t : is_term tags n x ≡ true) where
-  no_sides : ite_sides tags values x ≡ none → (s s' s'' : Sort) (xs ys zs : Vars) (p q r : Term) → tree tags values x ≡ ite_step s s' s'' xs ys zs p q r → ⊥
+  no_sides : ite_sides tags values x ≡ None → (s s' s'' : Sort) (xs ys zs : Vars) (p q r : Term) → tree tags values x ≡ ite_step s s' s'' xs ys zs p q r → ⊥
   no_sides e s s' s'' xs ys zs p q r is =
       let b = sides-back c x t s s' s'' xs ys zs p q r is in
-      let d : none ≡ some b.s = sym e ∙ b.found in
+      let d : None ≡ Some b.s = sym e ∙ b.found in
       let z : ◌≡◌ {A = ℕ} 0 1 = cc in
       omega arith
 

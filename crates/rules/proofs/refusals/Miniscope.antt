@@ -5,7 +5,7 @@ use Prim.Native.Nat.{ℕ}
 use mathlib.Core.Path.{◌≡◌, refl, sym, ◌∙◌}
 use mathlib.Core.Bool.{Bool, true, false, not}
 use mathlib.Core.List.{List, [], ◌∷◌}
-use mathlib.Core.Option.{Option, some, none}
+use Rattle.std.specs.Prelude.{Option, Some, None}
 use lib.ListN.{length}
 use lib.Dec.{eqb}
 use native.Mathlib.Omega.{arith}
@@ -64,19 +64,19 @@ module _ {tags values rules : List ℕ} {n : ℕ} (c : Passed tags values rules 
   abbrev both-sides : Option Sides
   both-sides = or_else (sides_of tags values true (connective_tag (many true)) x) (sides_of tags values false (connective_tag (many false)) x)
 
-  no_sides : both-sides ≡ none → (s s' s'' : Sort) (Q : Bool) (xs : Vars) (ts us : Terms) → tree tags values x ≡ side_step many s s' s'' Q xs ts us → ⊥
+  no_sides : both-sides ≡ None → (s s' s'' : Sort) (Q : Bool) (xs : Vars) (ts us : Terms) → tree tags values x ≡ side_step many s s' s'' Q xs ts us → ⊥
   no_sides e s s' s'' Q xs ts us is =
       let b = sides-back c x t many s s' s'' Q xs ts us is in
-      let d : none ≡ some b.s = sym e ∙ b.found in
+      let d : None ≡ Some b.s = sym e ∙ b.found in
       let z : ◌≡◌ {A = ℕ} 0 1 = cc in
       omega arith
 
-  no_kind : (u : ℕ) (Q : Bool) → is_term tags n u ≡ true → and_then (quantifier tags values u) (of_kind Q) ≡ none
+  no_kind : (u : ℕ) (Q : Bool) → is_term tags n u ≡ true → and_then (quantifier tags values u) (of_kind Q) ≡ None
       → (s : Sort) (vs : Vars) (b : Term) → tree tags values u ≡ quant Q s vs b → ⊥
   no_kind u Q k e s vs b is =
       let q = quantifier-back c u k Q s vs b is in
-      let f : and_then (quantifier tags values u) (of_kind Q) ≡ some q.q = rw (q.found, q.kind, beq_same Q) in
-      let d : none ≡ some q.q = sym e ∙ f in
+      let f : and_then (quantifier tags values u) (of_kind Q) ≡ Some q.q = rw (q.found, q.kind, beq_same Q) in
+      let d : None ≡ Some q.q = sym e ∙ f in
       let z : ◌≡◌ {A = ℕ} 0 1 = cc in
       omega arith
 

@@ -9,7 +9,7 @@ use Prim.Native.Nat.{ℕ}
 use mathlib.Core.Path.{◌≡◌, sym, ◌∙◌}
 use mathlib.Core.Bool.{Bool, true, false, not, ◌&&◌, beq}
 use mathlib.Core.List.{List}
-use mathlib.Core.Option.{some, none}
+use Rattle.std.specs.Prelude.{Some, None}
 use lib.Dec.{eqb}
 use native.Mathlib.Omega.{arith}
 use borrow.Author.Tests.{eqb-false, not-true}
@@ -42,17 +42,17 @@ kinds-differ b d e z = not-both (rw z (beq_same d)) e
 
 module _ {tags values rules : List ℕ} {n : ℕ} (c : Passed tags values rules n) where
   module _ (x : ℕ) (t : is_term tags n x ≡ true) where
-    pub no-equality : equality tags values x ≡ none → NoEquality (tree tags values x)
+    pub no-equality : equality tags values x ≡ None → NoEquality (tree tags values x)
     no-equality e s l r is =
         let b = equality-back c x t s l r is in
-        let d : none ≡ some b.p = sym e ∙ equality-found c x b.p b.found in
+        let d : None ≡ Some b.p = sym e ∙ equality-found c x b.p b.found in
         let z : ◌≡◌ {A = ℕ} 0 1 = cc in
         omega arith
 
-    pub no-quantifier : quantifier tags values x ≡ none → NoQuantifier (tree tags values x)
+    pub no-quantifier : quantifier tags values x ≡ None → NoQuantifier (tree tags values x)
     no-quantifier e b s vs u is =
         let q = quantifier-back c x t b s vs u is in
-        let d : none ≡ some q.q = sym e ∙ q.found in
+        let d : None ≡ Some q.q = sym e ∙ q.found in
         let z : ◌≡◌ {A = ℕ} 0 1 = cc in
         omega arith
 
@@ -63,7 +63,7 @@ module _ {tags values rules : List ℕ} {n : ℕ} (c : Passed tags values rules 
   lists-differ as' bs s u e is = not-both (lists-same c as' bs s u is) e
 
   -- 8: a variable of the right list that the left list lacks
-  pub new-variable : (ls rs : List Binding) → Sorted tags n ls → Sorted tags n rs → (a : Binding) → first_of (λ a. not (has ls a)) rs ≡ some a
+  pub new-variable : (ls rs : List Binding) → Sorted tags n ls → Sorted tags n rs → (a : Binding) → first_of (λ a. not (has ls a)) rs ≡ Some a
       → (has_var (vars_at tags values rs) (var_of tags values a) ≡ true) × (has_var (vars_at tags values ls) (var_of tags values a) ≡ false)
   new-variable ls rs s u a e =
       let (h, k) = first_some (λ a. not (has ls a)) rs a e in
@@ -71,7 +71,7 @@ module _ {tags values rules : List ℕ} {n : ℕ} (c : Passed tags values rules 
 
   -- 9: a variable of the left list that the right list lacks and that is free in the term
   pub missing-variable : (t : ℕ) → is_term tags n t ≡ true → (ls rs : List Binding) → Sorted tags n ls → Sorted tags n rs → (a : Binding)
-      → first_of (λ a. not (has rs a) && binding_free tags values n t a) ls ≡ some a
+      → first_of (λ a. not (has rs a) && binding_free tags values n t a) ls ≡ Some a
       → (has_var (vars_at tags values ls) (var_of tags values a) ≡ true) × (has_var (vars_at tags values rs) (var_of tags values a) ≡ false)
       × (free (tree tags values t) (var_of tags values a) ≡ true)
   missing-variable t k ls rs s u a e =
@@ -81,7 +81,7 @@ module _ {tags values rules : List ℕ} {n : ℕ} (c : Passed tags values rules 
       (has-at tags values ls a h, sym (has-is c rs u a p) ∙ not-true _ l, sym (binding-free c t k a p) ∙ f)
 
   -- 12: a variable of the list that is free in the term
-  pub free-variable : (t : ℕ) → is_term tags n t ≡ true → (as' : List Binding) → Sorted tags n as' → (a : Binding) → first_of (binding_free tags values n t) as' ≡ some a
+  pub free-variable : (t : ℕ) → is_term tags n t ≡ true → (as' : List Binding) → Sorted tags n as' → (a : Binding) → first_of (binding_free tags values n t) as' ≡ Some a
       → (has_var (vars_at tags values as') (var_of tags values a) ≡ true) × (free (tree tags values t) (var_of tags values a) ≡ true)
   free-variable t k as' s a e =
       let (h, b) = first_some (binding_free tags values n t) as' a e in

@@ -5,16 +5,16 @@
 use Prim.Native.Nat.{ℕ}
 use mathlib.Core.Path.{◌≡◌, refl, subst}
 use mathlib.Core.Bool.{Bool, true, false}
-use mathlib.Core.Option.{Option, some, none}
+use Rattle.std.specs.Prelude.{Option, Some, None}
 use native.Mathlib.Omega.{arith}
 use Rattle.answers.specs.Outcome.{Outcome, pass, refuse, ◌>>=◌, ◌>>◌, need, guard, unless}
 
 module _ {B C : Type 0} {k a b : ℕ} where
   pub need-refuses : {A : Type 0} (i m n : ℕ) (o : Option A) (next : A → Outcome B) → (need i m n o >>= next) ≡ refuse k a b
-      → (o ≡ none → (i ≡ k) × (m ≡ a) × (n ≡ b) → C) → ((v : A) → o ≡ some v → next v ≡ refuse k a b → C) → C
+      → (o ≡ None → (i ≡ k) × (m ≡ a) × (n ≡ b) → C) → ((v : A) → o ≡ Some v → next v ≡ refuse k a b → C) → C
   unfolding need ◌>>=◌
-  need-refuses i m n (some v) next e f g = g v refl e
-  need-refuses i m n none next e f g = f refl (cc, cc, cc)
+  need-refuses i m n (Some v) next e f g = g v refl e
+  need-refuses i m n None next e f g = f refl (cc, cc, cc)
 
   pub bind-refuses : {A : Type 0} (o : Outcome A) (next : A → Outcome B) → (o >>= next) ≡ refuse k a b
       → (o ≡ refuse k a b → C) → ((v : A) → o ≡ pass v → next v ≡ refuse k a b → C) → C
@@ -35,16 +35,16 @@ module _ {B C : Type 0} {k a b : ℕ} where
 
 module _ {A : Type 0} {k a b : ℕ} where
   pub unless-refuses : {B C : Type 0} (i : ℕ) (number : A → ℕ) (n : ℕ) (o : Option A) (next : Outcome B) → (unless i number n o >> next) ≡ refuse k a b
-      → ((v : A) → o ≡ some v → (i ≡ k) × (number v ≡ a) × (n ≡ b) → C) → (o ≡ none → next ≡ refuse k a b → C) → C
+      → ((v : A) → o ≡ Some v → (i ≡ k) × (number v ≡ a) × (n ≡ b) → C) → (o ≡ None → next ≡ refuse k a b → C) → C
   unfolding unless ◌>>◌
-  unless-refuses i number n (some v) next e f g = f v refl (cc, cc, cc)
-  unless-refuses i number n none next e f g = g refl e
+  unless-refuses i number n (Some v) next e f g = f v refl (cc, cc, cc)
+  unless-refuses i number n None next e f g = g refl e
 
   pub unless-last-refuses : {C : Type 0} (i : ℕ) (number : A → ℕ) (n : ℕ) (o : Option A) → unless i number n o ≡ refuse k a b
-      → ((v : A) → o ≡ some v → (i ≡ k) × (number v ≡ a) × (n ≡ b) → C) → C
+      → ((v : A) → o ≡ Some v → (i ≡ k) × (number v ≡ a) × (n ≡ b) → C) → C
   unfolding unless
-  unless-last-refuses i number n (some v) e f = f v refl (cc, cc, cc)
-  unless-last-refuses i number n none e f = let z : ◌≡◌ {A = ℕ} 0 1 = cc in absurd (omega arith)
+  unless-last-refuses i number n (Some v) e f = f v refl (cc, cc, cc)
+  unless-last-refuses i number n None e f = let z : ◌≡◌ {A = ℕ} 0 1 = cc in absurd (omega arith)
 
 -- the numbers that a refusal carries
 pub renumber : (P : ℕ → ℕ → ℕ → Type 0) {i m j k a b : ℕ} → P i m j → (i ≡ k) × (m ≡ a) × (j ≡ b) → P k a b

@@ -5,7 +5,7 @@ use mathlib.Core.Path.{◌≡◌, refl, sym, subst, ◌∙◌}
 use mathlib.Core.Logic.{◌↔◌}
 use mathlib.Core.Bool.{Bool, true, false, not}
 use mathlib.Core.List.{List, [], ◌∷◌, Memᴰ}
-use mathlib.Core.Option.{some}
+use Rattle.std.specs.Prelude.{Some}
 use lib.ListN.{length}
 use native.Mathlib.Omega.{arith}
 use Rattle.headers.specs.WellFormed.{is_term}
@@ -49,7 +49,7 @@ module _ {tags values rules : List ℕ} {n : ℕ} (c : Passed tags values rules 
   -- ---- `(or (not l) r)`
   pub record ImplicationBack (x : ℕ) (l r : Term) : Type 0 where
     pub p : ℕ × ℕ
-    pub found : implication tags values x ≡ some p
+    pub found : implication tags values x ≡ Some p
     pub left_is : tree tags values p.0 ≡ l
     pub right_is : tree tags values p.1 ≡ r
     pub left : is_term tags n p.0 ≡ true
@@ -63,8 +63,8 @@ module _ {tags values rules : List ℕ} {n : ℕ} (c : Passed tags values rules 
       let o = operator-back c 34 two.p.0 (omega arith) (omega arith) two.left s' (tcons l tnil) two.left_is in
       one two.p two.found two.right_is two.right o.os o.found o.terms o.operands
     where
-      one : (p : ℕ × ℕ) → and_then (operator tags values 37 x) two_of ≡ some p → tree tags values p.1 ≡ r → is_term tags n p.1 ≡ true
-          → (os : List ℕ) → operator tags values 34 p.0 ≡ some os → terms_of (tree tags values) os ≡ tcons l tnil → AllTerms tags n os → ImplicationBack x l r
+      one : (p : ℕ × ℕ) → and_then (operator tags values 37 x) two_of ≡ Some p → tree tags values p.1 ≡ r → is_term tags n p.1 ≡ true
+          → (os : List ℕ) → operator tags values 34 p.0 ≡ Some os → terms_of (tree tags values) os ≡ tcons l tnil → AllTerms tags n os → ImplicationBack x l r
       one p f g h [] d e a = let z : ◌≡◌ {A = ℕ} 0 1 = cc in absurd (omega arith)
       one p f g h (u ∷ []) d e a = record { p = (u, p.1); found = rw (f, d); left_is = cc; right_is = g; left = a.0; right = h }
       one p f g h (u ∷ (v ∷ os)) d e a = let z : ◌≡◌ {A = ℕ} 0 1 = cc in absurd (omega arith)

@@ -6,7 +6,7 @@ use mathlib.Core.Path.{◌≡◌, refl, sym, ap, ap₂, ◌∙◌}
 use mathlib.Core.Logic.{◌↔◌}
 use mathlib.Core.Bool.{Bool, true, false}
 use mathlib.Core.List.{List, [], ◌∷◌}
-use mathlib.Core.Option.{Option, some, none}
+use Rattle.std.specs.Prelude.{Option, Some, None}
 use lib.ListN.{length}
 use native.Mathlib.Omega.{arith}
 use borrow.Author.Tests.{eqb-true, eq-eqb}
@@ -42,7 +42,7 @@ module _ {tags values rules : List ℕ} {n : ℕ} (c : Passed tags values rules 
   -- ---- the two sides
   pub record SidesBack (o : Option Sides) (Q : Bool) (xs : Vars) (ts us : Terms) (r : Term) : Type 0 where
     pub s : Sides
-    pub found : o ≡ some s
+    pub found : o ≡ Some s
     pub kind : s.kind ≡ Q
     pub list : vars_at tags values s.list ≡ xs
     pub from_is : terms_of (tree tags values) s.from ≡ ts
@@ -77,7 +77,7 @@ module _ {tags values rules : List ℕ} {n : ℕ} (c : Passed tags values rules 
         }
 
     -- an equality with an exists on the left is none with a forall
-    not-forall : (tag : ℕ) (s : Sort) (xs : Vars) (b r : Term) → tree tags values x ≡ equal s (binder false xs b) r → sides_of tags values true tag x ≡ none
+    not-forall : (tag : ℕ) (s : Sort) (xs : Vars) (b r : Term) → tree tags values x ≡ equal s (binder false xs b) r → sides_of tags values true tag x ≡ None
     unfolding sides_of
     not-forall tag s xs b r e =
         let eq = equality-back c x t s _ _ e in

@@ -5,7 +5,7 @@ use mathlib.Core.Path.{◌≡◌, refl, sym, subst, ◌∙◌}
 use mathlib.Core.Logic.{◌↔◌}
 use mathlib.Core.Bool.{true}
 use mathlib.Core.List.{List, [], ◌∷◌}
-use mathlib.Core.Option.{some}
+use Rattle.std.specs.Prelude.{Some}
 use native.Mathlib.Omega.{arith}
 use Rattle.headers.specs.WellFormed.{is_term}
 use Rattle.meaning.specs.Sort.{Sort, bool}
@@ -43,7 +43,7 @@ module _ {tags values rules : List ℕ} {n : ℕ} (c : Passed tags values rules 
     -- ---- from trees to places
     record ThreeBack (y : ℕ) (p q r : Term) : Type 0 where
       pub are : ℕ × ℕ × ℕ
-      pub found : and_then (operator tags values 41 y) three_of ≡ some are
+      pub found : and_then (operator tags values 41 y) three_of ≡ Some are
       pub first-is : tree tags values are.0 ≡ p
       pub second_is : tree tags values are.1 ≡ q
       pub third-is : tree tags values are.2 ≡ r
@@ -57,7 +57,7 @@ module _ {tags values rules : List ℕ} {n : ℕ} (c : Passed tags values rules 
         let o = operator-back c 41 y (omega arith) (omega arith) k s _ e in
         three o.os o.found o.terms o.operands
       where
-        three : (os : List ℕ) → operator tags values 41 y ≡ some os → terms_of (tree tags values) os ≡ tcons p (tcons q (tcons r tnil)) → AllTerms tags n os → ThreeBack y p q r
+        three : (os : List ℕ) → operator tags values 41 y ≡ Some os → terms_of (tree tags values) os ≡ tcons p (tcons q (tcons r tnil)) → AllTerms tags n os → ThreeBack y p q r
         three [] f d a = let z : ◌≡◌ {A = ℕ} 0 1 = cc in absurd (omega arith)
         three (u ∷ []) f d a = let z : ◌≡◌ {A = ℕ} 0 1 = cc in absurd (omega arith)
         three (u ∷ (v ∷ [])) f d a = let z : ◌≡◌ {A = ℕ} 0 1 = cc in absurd (omega arith)
@@ -68,7 +68,7 @@ module _ {tags values rules : List ℕ} {n : ℕ} (c : Passed tags values rules 
     -- the two sides are found where the tree has them, whatever the three lists are
     pub record IteBack (xs ys zs : Vars) (p : Term) : Type 0 where
       pub s : IteSides
-      pub found : ite_sides tags values x ≡ some s
+      pub found : ite_sides tags values x ≡ Some s
       pub list : vars_at tags values s.list ≡ xs
       pub yes-list : vars_at tags values s.yes-list ≡ ys
       pub no-list : vars_at tags values s.no-list ≡ zs

@@ -6,7 +6,7 @@ use Prim.Native.Nat.{ℕ}
 use mathlib.Core.Path.{◌≡◌, sym, ap, ◌∙◌}
 use mathlib.Core.Bool.{true, not, ◌&&◌, and-false}
 use mathlib.Core.List.{List}
-use mathlib.Core.Option.{none}
+use Rattle.std.specs.Prelude.{None}
 use Rattle.headers.specs.WellFormed.{is_term}
 use Rattle.meaning.specs.Tree.{tree}
 use Rattle.meaning.specs.FreeTree.{has as has_var}
@@ -21,22 +21,22 @@ use Rattle.meaning.proofs.patterns.Back.{has-is}
 use Rattle.rules.proofs.sound.QntRmUnused.{pairs-fewer, pairs-unused}
 
 module _ {tags values rules : List ℕ} {n : ℕ} (c : Passed tags values rules n) (ls rs : List Binding) where
-  pub fewer-there : first_of (λ a. not (has ls a)) rs ≡ none → Among (vars_at tags values rs) (vars_at tags values ls)
+  pub fewer-there : first_of (λ a. not (has ls a)) rs ≡ None → Among (vars_at tags values rs) (vars_at tags values ls)
   fewer-there = pairs-fewer c ls rs
 
-  pub fewer-back : Sorted tags n ls → Sorted tags n rs → Among (vars_at tags values rs) (vars_at tags values ls) → first_of (λ a. not (has ls a)) rs ≡ none
+  pub fewer-back : Sorted tags n ls → Sorted tags n rs → Among (vars_at tags values rs) (vars_at tags values ls) → first_of (λ a. not (has ls a)) rs ≡ None
   fewer-back s u h =
       first-is-none (λ a. not (has ls a)) rs
       (λ a m. ap not (has-is c ls s a (sorted-has tags n rs u a m) ∙ h (var_of tags values a) (has-at tags values rs a m)))
 
   module _ (t : ℕ) (k : is_term tags n t ≡ true) (s : Sorted tags n ls) where
-    pub used-there : first_of (λ a. not (has rs a) && binding_free tags values n t a) ls ≡ none
+    pub used-there : first_of (λ a. not (has rs a) && binding_free tags values n t a) ls ≡ None
         → FreeAmong (tree tags values t) (vars_at tags values ls) (vars_at tags values rs)
     used-there e v h f =
         bool_cases (has_var (vars_at tags values rs) v) (λ y. y) (λ y. absurd (not-both f (pairs-unused c t k ls rs s e v h y)))
 
     pub used-back : Sorted tags n rs → FreeAmong (tree tags values t) (vars_at tags values ls) (vars_at tags values rs)
-        → first_of (λ a. not (has rs a) && binding_free tags values n t a) ls ≡ none
+        → first_of (λ a. not (has rs a) && binding_free tags values n t a) ls ≡ None
     used-back u h =
         first-is-none (λ a. not (has rs a) && binding_free tags values n t a) ls λ a m.
         let p = sorted-has tags n ls s a m in

@@ -3,17 +3,16 @@
 --     new-there, new-back          refusal 8
 --     missing-there, missing-back  refusal 9
 -- Assumes nothing.
+use Rattle.std.specs.Prelude.{Option, Some}
 use Prim.Native.Nat.{ℕ, ◌+◌, ◌<◌}
 use mathlib.Core.Path.{◌≡◌, refl, sym, ap, ap₂, ◌∙◌}
 use mathlib.Core.Bool.{Bool, true, false, not, ◌&&◌, ◌||◌, and-false}
 use mathlib.Core.List.{List, [], ◌∷◌, ◌++◌}
-use mathlib.Core.Option.{none}
+use Rattle.std.specs.Prelude.{None}
 use lib.ListN.{get_or}
 use lib.Seq.{get_or-take}
 use native.Mathlib.Omega.{arith}
 use Rattle.cells.specs.Cell.{sort_of}
-use Rattle.cells.specs.declared.Found.{Found}
-use Rattle.cells.specs.declared.Found.TheVariants.{At, Nothing}
 use Rattle.headers.specs.WellFormed.{is_sort_tag, is_term}
 use Rattle.descriptions.specs.Description.{find}
 use Rattle.meaning.specs.Sort.{Sort}
@@ -126,10 +125,10 @@ module _ {tags values rules : List ℕ} {n : ℕ} (c : Passed tags values rules 
 
     -- ---- 8
     module _ (rs : List Binding) (sorts : Sorted tags n rs) where
-      pub new-there : first_of (λ a. not (has pairs a)) rs ≡ none → Among (vars_at tags values rs) vars
+      pub new-there : first_of (λ a. not (has pairs a)) rs ≡ None → Among (vars_at tags values rs) vars
       new-there = list-fewer c t term ls rs sorts
 
-      pub new-back : Among (vars_at tags values rs) vars → first_of (λ a. not (has pairs a)) rs ≡ none
+      pub new-back : Among (vars_at tags values rs) vars → first_of (λ a. not (has pairs a)) rs ≡ None
       new-back h =
           first-is-none (λ a. not (has pairs a)) rs
           (λ a m. ap not (has_left a (sorted-has tags n rs sorts a m) ∙ h (var_of tags values a) (has-at tags values rs a m)))
@@ -150,16 +149,16 @@ module _ {tags values rules : List ℕ} {n : ℕ} (c : Passed tags values rules 
         unfolding binding_free
         free-place a e = by-found (find tags values n 21 (a.sort ∷ a.name ∷ [])) refl e
           where
-            by-found : (w : Found) → find tags values n 21 (a.sort ∷ a.name ∷ []) ≡ w → free_at tags values u w ≡ true → SortPlace tags n a.sort
-            by-found (At v) o e =
+            by-found : (w : Option ℕ) → find tags values n 21 (a.sort ∷ a.name ∷ []) ≡ w → free_at tags values u w ≡ true → SortPlace tags n a.sort
+            by-found (Some v) o e =
                 let (l, tag, same-cells) = found_at c 21 (a.sort ∷ a.name ∷ []) v o in
                 let both-cells = sym (cells-of-var c v l tag) ∙ same-cells in
                 let p : sort_of values v ≡ a.sort = cc in
                 let (m, i) = sort-place-of c v l (var-tag _ tag) in
                 rw (← p) (omega arith, i)
-            by-found Nothing o e = let z : ◌≡◌ {A = ℕ} 0 1 = cc in absurd (omega arith)
+            by-found None o e = let z : ◌≡◌ {A = ℕ} 0 1 = cc in absurd (omega arith)
 
-        pub missing-there : first_of (λ a. not (has rs a) && binding_free tags values n u a) pairs ≡ none → FreeAmong (tree tags values u) vars (vars_at tags values rs)
+        pub missing-there : first_of (λ a. not (has rs a) && binding_free tags values n u a) pairs ≡ None → FreeAmong (tree tags values u) vars (vars_at tags values rs)
         missing-there e v h y =
             own_pair v y λ a s p.
             let m : has pairs a ≡ true = has_left a s ∙ rw p h in
@@ -171,7 +170,7 @@ module _ {tags values rules : List ℕ} {n : ℕ} (c : Passed tags values rules 
             not-not true e = refl
             not-not false e = sym e
 
-        pub missing-back : FreeAmong (tree tags values u) vars (vars_at tags values rs) → first_of (λ a. not (has rs a) && binding_free tags values n u a) pairs ≡ none
+        pub missing-back : FreeAmong (tree tags values u) vars (vars_at tags values rs) → first_of (λ a. not (has rs a) && binding_free tags values n u a) pairs ≡ None
         missing-back h =
             first-is-none (λ a. not (has rs a) && binding_free tags values n u a) pairs λ a m.
             bool_cases (binding_free tags values n u a)

@@ -4,7 +4,7 @@ use Prim.Native.Nat.{ℕ}
 use mathlib.Core.Path.{◌≡◌, refl, sym, ap, subst, ◌∙◌}
 use mathlib.Core.Bool.{Bool, true, false, ◌&&◌, cond}
 use mathlib.Core.List.{List, [], ◌∷◌}
-use mathlib.Core.Option.{Option, some, none}
+use Rattle.std.specs.Prelude.{Option, Some, None}
 use lib.Dec.{eqb}
 use native.Mathlib.Omega.{arith}
 use borrow.Author.Tests.{eqb-true}
@@ -52,15 +52,15 @@ module _ (R : Reading) (local : Local R) where
 
 -- ---- at places
 abbrev forall_of : Quantifier → Option Quantifier
-forall_of q = cond q.kind (some q) none
+forall_of q = cond q.kind (Some q) None
 
 module _ {tags values rules : List ℕ} {n : ℕ} (c : Passed tags values rules n) where
-  forall-tree : (x : ℕ) → is_term tags n x ≡ true → (q : Quantifier) → and_then (quantifier tags values x) forall_of ≡ some q
+  forall-tree : (x : ℕ) → is_term tags n x ≡ true → (q : Quantifier) → and_then (quantifier tags values x) forall_of ≡ Some q
       → IsQuantifier tags values n x q × (q.kind ≡ true)
   forall-tree x t q e =
       then_some (quantifier tags values x) _ _ e λ p e₁ h₁.
       let (k, z) = cond-some p.kind p q h₁ in
-      (quantifier-tree c x t q (e₁ ∙ ap some z), ap (λ (q : Quantifier). q.kind) (sym z) ∙ k)
+      (quantifier-tree c x t q (e₁ ∙ ap Some z), ap (λ (q : Quantifier). q.kind) (sym z) ∙ k)
 
   -- `ite` with its three operands
   record IsIte (x : ℕ) (p : ℕ × ℕ × ℕ) : Type 0 where
@@ -70,7 +70,7 @@ module _ {tags values rules : List ℕ} {n : ℕ} (c : Passed tags values rules 
     pub yes-term : is_term tags n p.1 ≡ true
     pub no-term : is_term tags n p.2 ≡ true
 
-  ite-tree : (x : ℕ) → is_term tags n x ≡ true → (p : ℕ × ℕ × ℕ) → and_then (operator tags values 41 x) three_of ≡ some p → IsIte x p
+  ite-tree : (x : ℕ) → is_term tags n x ≡ true → (p : ℕ × ℕ × ℕ) → and_then (operator tags values 41 x) three_of ≡ Some p → IsIte x p
   unfolding terms_of
   ite-tree x t p e =
       then_some (operator tags values 41 x) _ _ e λ os e₁ h₁.
@@ -102,7 +102,7 @@ module _ {tags values rules : List ℕ} {n : ℕ} (c : Passed tags values rules 
     pub yes-sorts : Sorted tags n s.yes-list
     pub no-sorts : Sorted tags n s.no-list
 
-  pub sides-tree : (x : ℕ) → is_term tags n x ≡ true → (s : IteSides) → ite_sides tags values x ≡ some s → AreSides x s
+  pub sides-tree : (x : ℕ) → is_term tags n x ≡ true → (s : IteSides) → ite_sides tags values x ≡ Some s → AreSides x s
   unfolding ite_sides
   sides-tree x t s e =
       then_some (equality tags values x) _ _ e λ p e₁ h₁.
@@ -121,7 +121,7 @@ module _ {tags values rules : List ℕ} {n : ℕ} (c : Passed tags values rules 
       (λ o. let (o₁, o₂) = both (eqb from.0 to.0) _ o in
       let (o₃, o₄) = both (eqb from.1 yes-q.body) _ o₂ in
       let s₀ : IteSides = record { left = p.0; list = q.list; test = from.0; yes-place = to.1; yes-list = yes-q.list; no_place = to.2; no-list = no-q.list } in
-      let d : some s₀ ≡ some s = rw o at h₆ in
+      let d : Some s₀ ≡ Some s = rw o at h₆ in
       let z : s₀ ≡ s = cc in
       subst (AreSides x) z (record {
         second = tree tags values from.1;
@@ -151,7 +151,7 @@ module _ {tags values rules : List ℕ} {n : ℕ} (c : Passed tags values rules 
         yes-sorts = y.sorts;
         no-sorts = m.sorts;
       }))
-      (λ o. let d : none ≡ some s = rw o at h₆ in let z : ◌≡◌ {A = ℕ} 0 1 = cc in absurd (omega arith))
+      (λ o. let d : None ≡ Some s = rw o at h₆ in let z : ◌≡◌ {A = ℕ} 0 1 = cc in absurd (omega arith))
 
   pub miniscope-ite-sound : (x : ℕ) → is_term tags n x ≡ true → miniscope_ite tags values n x ≡ pass tt
       → (R : Reading) → Local R → (ρ : Assignment R.Value) → True R (tree tags values x) ρ ≡ true

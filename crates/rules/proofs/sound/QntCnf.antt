@@ -4,7 +4,7 @@ use Prim.Native.Nat.{ℕ}
 use mathlib.Core.Path.{◌≡◌, refl, sym, ap, ap₂, subst, ◌∙◌}
 use mathlib.Core.Bool.{Bool, true, false, not, ◌&&◌, ◌||◌}
 use mathlib.Core.List.{List, [], ◌∷◌, ◌++◌, map, Memᴰ}
-use mathlib.Core.Option.{some, none}
+use Rattle.std.specs.Prelude.{Some, None}
 use lib.ListN.{length, get_or}
 use lib.Dec.{eqb}
 use native.Mathlib.Omega.{arith}
@@ -85,7 +85,7 @@ module _ {tags values rules : List ℕ} {n : ℕ} (c : Passed tags values rules 
     pub left : is_term tags n p.0 ≡ true
     pub right : is_term tags n p.1 ≡ true
 
-  pub implication-tree : (x : ℕ) → is_term tags n x ≡ true → (p : ℕ × ℕ) → implication tags values x ≡ some p → IsImplication x p
+  pub implication-tree : (x : ℕ) → is_term tags n x ≡ true → (p : ℕ × ℕ) → implication tags values x ≡ Some p → IsImplication x p
   unfolding implication terms_of
   implication-tree x t p e =
       then_some (and_then (operator tags values 37 x) two_of) _ _ e λ sides e₁ h₁.
@@ -148,7 +148,7 @@ module _ {tags values rules : List ℕ} {n : ℕ} (c : Passed tags values rules 
 
   -- ---- the right list is of the left list and what is taken out
   module _ (t : ℕ) (term : is_term tags n t ≡ true) (ls rs : List Binding) (sorts : Sorted tags n rs) where
-    pub list-fewer : first_of (λ a. not (has (ls ++ taken_from tags values n t) a)) rs ≡ none
+    pub list-fewer : first_of (λ a. not (has (ls ++ taken_from tags values n t) a)) rs ≡ None
         → Subset (vars_at tags values rs) (vars_at tags values ls ++ taken_vars (nnf (skeleton (tree tags values t)) true))
     unfolding taken_from var_of
     list-fewer e v h =
@@ -177,7 +177,7 @@ module _ {tags values rules : List ℕ} {n : ℕ} (c : Passed tags values rules 
   -- ---- the rule
   module _ (R : Reading) (local : Local R) (ρ : Assignment R.Value) (left right : Quantifier) (body : is_term tags n left.body ≡ true)
       (clause : is_term tags n right.body ≡ true) (sorts : Sorted tags n right.list) where
-    follows : first_of (λ a. not (has (left_and_taken tags values n left) a)) right.list ≡ none
+    follows : first_of (λ a. not (has (left_and_taken tags values n left) a)) right.list ≡ None
         → any_clause (is_clause tags values right.body) (clauses_from tags values n left.body) ≡ true
         → ((v : Var) → has_var (taken_vars (nnf (skeleton (tree tags values left.body)) true)) v ≡ true
         → free (quant true bool (vars_at tags values left.list) (tree tags values left.body)) v ≡ false)

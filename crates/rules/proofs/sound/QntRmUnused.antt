@@ -4,7 +4,7 @@ use Prim.Native.Nat.{ℕ}
 use mathlib.Core.Path.{◌≡◌, refl, sym, ◌∙◌}
 use mathlib.Core.Bool.{Bool, true, false, not, ◌&&◌, false≢true}
 use mathlib.Core.List.{List, []}
-use mathlib.Core.Option.{none}
+use Rattle.std.specs.Prelude.{None}
 use lib.Dec.{eqb}
 use borrow.Author.Tests.{eqb-true, not-false}
 use Rattle.headers.specs.WellFormed.{is_term}
@@ -47,13 +47,13 @@ module _ (R : Reading) (local : Local R) where
 -- ---- at places
 module _ {tags values rules : List ℕ} {n : ℕ} (c : Passed tags values rules n) where
   -- refusal 8: every pair of the right list is in the left
-  pub pairs-fewer : (ls rs : List Binding) → first_of (λ a. not (has_pair ls a)) rs ≡ none → Subset (vars_at tags values rs) (vars_at tags values ls)
+  pub pairs-fewer : (ls rs : List Binding) → first_of (λ a. not (has_pair ls a)) rs ≡ None → Subset (vars_at tags values rs) (vars_at tags values ls)
   pairs-fewer ls rs e v h =
       has-pair tags values rs v h (λ a m p. rw (← p) (has-at tags values ls a (not-false _ (first-none (λ a. not (has_pair ls a)) rs e a m))))
 
   -- refusal 9: a pair of the left list that the right lacks is not free in the body
   pub pairs-unused : (t : ℕ) → is_term tags n t ≡ true → (ls rs : List Binding) → Sorted tags n ls
-      → first_of (λ a. not (has_pair rs a) && binding_free tags values n t a) ls ≡ none
+      → first_of (λ a. not (has_pair rs a) && binding_free tags values n t a) ls ≡ None
       → (v : Var) → has (vars_at tags values ls) v ≡ true → has (vars_at tags values rs) v ≡ false → free (tree tags values t) v ≡ false
   pairs-unused t k ls rs s e v h g =
       has-pair tags values ls v h λ a m p.

@@ -4,7 +4,7 @@ use Prim.Native.Nat.{ℕ, ◌≤◌, ◌<◌}
 use mathlib.Core.Path.{◌≡◌, refl, sym, ap, subst, ◌∙◌}
 use mathlib.Core.Bool.{Bool, true, false, beq}
 use mathlib.Core.List.{List}
-use mathlib.Core.Option.{Option, some, none}
+use Rattle.std.specs.Prelude.{Option, Some, None}
 use native.Mathlib.Omega.{arith}
 use Rattle.headers.specs.WellFormed.{is_term}
 use Rattle.meaning.specs.Sort.{Sort, bool}
@@ -20,11 +20,11 @@ use Rattle.meaning.proofs.patterns.Trees.{AllTerms, Sorted, quantifier-tree, ope
 use Rattle.meaning.proofs.patterns.Sound.{beq-eq}
 
 -- a quantifier of this kind
-pub of-kind : (kind : Bool) (o : Option Quantifier) (q : Quantifier) → and_then o (of_kind kind) ≡ some q → (o ≡ some q) × (q.kind ≡ kind)
-of-kind kind none q e = let z : ◌≡◌ {A = ℕ} 0 1 = cc in absurd (omega arith)
-of-kind kind (some p) q e =
+pub of-kind : (kind : Bool) (o : Option Quantifier) (q : Quantifier) → and_then o (of_kind kind) ≡ Some q → (o ≡ Some q) × (q.kind ≡ kind)
+of-kind kind None q e = let z : ◌≡◌ {A = ℕ} 0 1 = cc in absurd (omega arith)
+of-kind kind (Some p) q e =
     let (k, z) = cond-some (beq p.kind kind) p q e in
-    (ap some z, rw z at (beq-eq p.kind kind k))
+    (ap Some z, rw z at (beq-eq p.kind kind k))
 
 -- the sides of the equality at x, over operands under this tag
 pub record AreSides (tags values : List ℕ) (n tag x : ℕ) (s : Sides) : Type 0 where
@@ -42,7 +42,7 @@ pub record AreSides (tags values : List ℕ) (n tag x : ℕ) (s : Sides) : Type 
   pub to-terms : AllTerms tags n s.to
 
 module _ {tags values rules : List ℕ} {n : ℕ} (c : Passed tags values rules n) (x : ℕ) (t : is_term tags n x ≡ true) where
-  sides-tree : (kind : Bool) (tag : ℕ) → 32 ≤ tag → tag < 167 → (s : Sides) → sides_of tags values kind tag x ≡ some s → (s.kind ≡ kind) × AreSides tags values n tag x s
+  sides-tree : (kind : Bool) (tag : ℕ) → 32 ≤ tag → tag < 167 → (s : Sides) → sides_of tags values kind tag x ≡ Some s → (s.kind ≡ kind) × AreSides tags values n tag x s
   unfolding sides_of
   sides-tree kind tag low high s e =
       then_some (equality tags values x) _ _ e λ p e₁ h₁.
@@ -75,18 +75,18 @@ module _ {tags values rules : List ℕ} {n : ℕ} (c : Passed tags values rules 
 
   -- one of the two forms of a rule: many says which operator goes with forall (true) and with exists, `and` (true) or `or`
   pub either-sides : (many : Bool → Bool) (s : Sides)
-      → or_else (sides_of tags values true (connective_tag (many true)) x) (sides_of tags values false (connective_tag (many false)) x) ≡ some s
+      → or_else (sides_of tags values true (connective_tag (many true)) x) (sides_of tags values false (connective_tag (many false)) x) ≡ Some s
       → AreSides tags values n (connective_tag (many s.kind)) x s
   either-sides many s e =
       by-option (sides_of tags values true (connective_tag (many true)) x)
-      (λ s' o. let d : some s' ≡ some s = rw o at e in is true (o ∙ d))
+      (λ s' o. let d : Some s' ≡ Some s = rw o at e in is true (o ∙ d))
       (λ o. is false (rw o at e))
     where
       bounds : (b : Bool) → (32 ≤ connective_tag b) × (connective_tag b < 167)
       bounds true = (omega arith, omega arith)
       bounds false = (omega arith, omega arith)
 
-      is : (b : Bool) → sides_of tags values b (connective_tag (many b)) x ≡ some s → AreSides tags values n (connective_tag (many s.kind)) x s
+      is : (b : Bool) → sides_of tags values b (connective_tag (many b)) x ≡ Some s → AreSides tags values n (connective_tag (many s.kind)) x s
       is b o =
           let (k, a) = sides-tree b (connective_tag (many b)) (bounds (many b)).0 (bounds (many b)).1 s o in
           subst (λ (b : Bool). AreSides tags values n (connective_tag (many b)) x s) (sym k) a

@@ -2,20 +2,21 @@
 --     Narrowing, narrow_start, narrow-more, narrow-end     the loop of `narrow_into`
 --     Writing, write-start, write-more, write-end          the loop of `write_back`
 -- Assumes nothing.
-use Prim.Native.Nat.{ℕ, ◌+◌, ◌≤◌, ◌<◌, min}
-use mathlib.Core.Path.{◌≡◌, refl, sym, ◌∙◌}
-use mathlib.Core.List.{List}
-use lib.ListN.{length, get_or, set, length-set}
-use lib.Seq.{get_or-set_same, get_or-set_other}
+use Prim.Native.Nat.{ℕ, ◌+◌, ◌-◌, ◌≤◌, ◌<◌, min}
+use mathlib.Core.Path.{◌≡◌, refl, ap, ◌∙◌}
+use mathlib.Core.List.{List, ◌++◌}
+use lib.ListN.{length, get_or, take, set, replicate, length-set, get_or-append, get_or-replicate}
+use lib.Seq.{length-take-le, get_or-take, get_or-append-add, get_or-set_same, get_or-set_other}
 use lib.Dec.{eqb}
 use native.Mathlib.Omega.{arith}
 use borrow.Author.Tests.{eqb-true, eqb-false}
 use Rattle.cells.specs.ByPlace.{by-test}
 use Rattle.cells.specs.Limits.{cell_limit}
-use Rattle.cells.proofs.Cells.{cell-past}
+use Rattle.descriptions.specs.Description.{zero_from}
 use Rattle.tag_layouts.specs.Narrowed.{narrow, NarrowedInto}
 use Rattle.tag_layouts.specs.WrittenBack.{written_back, BackFits}
 use Rattle.tag_layouts.proofs.Arrays.{byte-by-cells, back-by-cells}
+use Rattle.tag_layouts.proofs.WrittenBack.{zero-length}
 
 -- one store: what held below i, and holds of the new cell, holds below i + 1
 stored : (P : ℕ → ℕ → Type 0) (l : List ℕ) (i v : ℕ) → i < length l → P i v → (j : ℕ) → j < i + 1 → (j < i → P j (get_or l j 0)) → P j (get_or (set l i v) j 0)
@@ -36,13 +37,13 @@ pub narrow_start : (tags bytes : List ℕ) (k : ℕ) → k ≡ min cell_limit (l
 narrow_start tags bytes k e h = record { long = refl; room = h; count = e; upto = omega arith; done = λ j l. absurd (omega arith) }
 
 module _ (tags bytes₀ : List ℕ) (k : ℕ) (bytes : List ℕ) (i : ℕ) (w : Narrowing tags bytes₀ k bytes i) where
-  pub narrow-more : i < k → (v : ℕ) → v ≡ narrow (get_or tags i 0) → Narrowing tags bytes₀ k (set bytes i v) (i + 1)
+  pub narrow-more : i < k → (v : ℕ) → v ≡ narrow (get_or (take k tags) i 0) → Narrowing tags bytes₀ k (set bytes i v) (i + 1)
   narrow-more h v e = record {
     long = length-set bytes i v ∙ w.long;
     room = rw (length-set bytes i v) w.room;
     count = w.count;
     upto = omega arith;
-    done = λ j l. stored (λ (j x : ℕ). x ≡ narrow (get_or tags j 0)) bytes i v (omega (arith, w.room, w.count)) e j l (w.done j);
+    done = λ j l. stored (λ (j x : ℕ). x ≡ narrow (get_or tags j 0)) bytes i v (omega (arith, w.room, w.count)) (rw get_or-take at e) j l (w.done j);
   }
 
   pub narrow-end : k ≤ i → NarrowedInto tags k bytes
@@ -51,9 +52,20 @@ module _ (tags bytes₀ : List ℕ) (k : ℕ) (bytes : List ℕ) (i : ℕ) (w : 
     bytes-are = byte-by-cells bytes tags k w.count (omega (arith, w.room, w.count)) (λ j l. w.done j (omega arith));
   }
 
-pub ruleset narrowings = (narrow_start, narrow-more, narrow-end)
+-- ---- the cells of an array that is zeroed from m on
+module _ (m : ℕ) (l : List ℕ) (room : m ≤ length l) where
+  zero-below : (j : ℕ) → j < m → get_or (zero_from m l) j 0 ≡ get_or l j 0
+  unfolding zero_from
+  zero-below j h = get_or-append (take m l) (replicate (length l - m) 0) 0 j (rw (length-take-le m l room) h) ∙ get_or-take m l j 0 h
 
--- ---- writing back: the cells below n are the array's own, and those from n up to i are the bytes, 0 past them
+  zero-past : (j : ℕ) → m ≤ j → j < length l → get_or (zero_from m l) j 0 ≡ 0
+  unfolding zero_from
+  zero-past j h b =
+      let at : j ≡ length (take m l) + (j - m) = rw (length-take-le m l room) (omega arith) in
+      ap (λ (k : ℕ). get_or (take m l ++ replicate (length l - m) 0) k 0) at
+      ∙ (get_or-append-add (take m l) (replicate (length l - m) 0) (j - m) 0 ∙ get_or-replicate (length l - m) (j - m) 0 0 (omega arith))
+
+-- ---- writing back: the cells below n are the array's own, and those from n up to i are the bytes
 pub record Writing (cells bytes : List ℕ) (n : ℕ) (now : List ℕ) (i : ℕ) : Type 0 where
   pub long : length now ≡ length cells
   pub from : n ≤ i
@@ -72,9 +84,13 @@ module _ (cells bytes : List ℕ) (n : ℕ) (now : List ℕ) (i : ℕ) (w : Writ
     done = λ j l m. stored (λ (j x : ℕ). x ≡ get_or bytes j 0) now i v h e j m (λ b. w.done j l b);
   }
 
-  pub write-end : length now ≤ i → BackFits n cells bytes → now ≡ written_back n cells bytes
+  -- zeroes go past the bytes
+  pub write-end : length bytes ≤ i → BackFits n cells bytes → zero_from (length bytes) now ≡ written_back n cells bytes
   write-end h fits =
-      back-by-cells n cells bytes now fits.within fits.short w.long w.own (λ j l m. w.done j l (omega (arith, w.long)))
-      (λ j l m. w.done j (omega arith) (omega (arith, w.long)) ∙ sym (cell-past bytes j l))
+      let room : length bytes ≤ length now = rw w.long fits.short in
+      back-by-cells n cells bytes (zero_from (length bytes) now) fits.within fits.short (zero-length (length bytes) now room ∙ w.long)
+      (λ j l. zero-below (length bytes) now room j (omega (arith, fits.within)) ∙ w.own j l)
+      (λ j l m. zero-below (length bytes) now room j m ∙ w.done j l (omega arith))
+      (λ j l m. zero-past (length bytes) now room j l (rw w.long m))
 
 pub ruleset writings = (write-start, write-more, write-end)

@@ -1,17 +1,14 @@
-use Rattle.clausification.proofs.clause_search.Laws.{some-clause}
+use Rattle.clausification.proofs.clause_search.Laws.{any-start, any-all, any_here, any_next}
 use Rattle.clausification.proofs.clause_search.any_clause.Goals as goal
 
-pub loop-i-init : goal.loop-i-init
-loop-i-init c = search some-clause
-
-pub returns-then-ends-i : goal.returns-then-ends-i
-returns-then-ends-i c = search some-clause
+pub loop-end-init : goal.loop-end-init
+loop-end-init c = any-start _ _ _ _ _ _
 
 pub returns-then-is_clause : goal.returns-then-is_clause
-returns-then-is_clause c = search some-clause
+returns-then-is_clause c = any_here _ _ _ _ _ _ _ _ _ c.loop-end.invariant _ c.part-end-items.ensures c.loop-end-test.true _ c.part.ensures _ c.is_clause.ensures c.if-is_clause.true
 
-pub loop-i-preserved : goal.loop-i-preserved
-loop-i-preserved c = search some-clause
+pub loop-end-preserved : goal.loop-end-preserved
+loop-end-preserved c = any_next _ _ _ _ _ _ _ _ _ c.loop-end.invariant _ c.part-end-items.ensures c.loop-end-test.true _ c.part.ensures _ c.is_clause.ensures c.if-is_clause.false
 
 pub returns : goal.returns
-returns c = search some-clause
+returns c = any-all _ _ _ _ _ _ _ _ _ c.loop-end.invariant _ c.part-end-items.ensures c.loop-end-test.false

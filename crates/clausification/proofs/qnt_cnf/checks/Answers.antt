@@ -1,38 +1,47 @@
-use mathlib.Core.Bool.{not}
-use mathlib.Core.Path.{ap}
-use Rattle.clausification.proofs.qnt_cnf.Laws.{matching, leaves_all, leaves_after, sides-right, sides-rest, sides-are}
-use borrow.Author.Rules.{rules}
+use mathlib.Core.Path.{ap, ◌∙◌}
+use Rattle.answers.specs.Outcome.{answer_of}
+use Rattle.answers.proofs.Refusals.{asked}
+use Rattle.clausification.proofs.qnt_cnf.Laws.{leaves_all, leaves_after, sides-form, sides-left, sides-right, sides-kind, sides-right-kind, sides-rest, sides-are}
+use Rattle.clausification.proofs.qnt_cnf.checks.Goals.{then-not-left-via-then-not-left, then-not-left-via-else-not-left+then-not-right}
 use Rattle.clausification.proofs.qnt_cnf.checks.Goals as goal
 
-pub returns-in_default : goal.returns-in_default
-returns-in_default c = (record { leaves = search matching; index_2 = search rules })
+pub returns-in_err-l-clause-leaves : goal.returns-in_err-l-clause-leaves
+returns-in_err-l-clause-leaves c =
+    leaves_all _ _ _ _ _
+    (asked _ _ _ _ c.in_err-l.ensures.value c.from_residual.ensures.1 ∙ ap answer_of (sides-form _ _ _ _ _ c.implication_at.ensures c.in_err-l.ensures.ok_part))
 
-pub returns-in_default-quantified_at : goal.returns-in_default-quantified_at
-returns-in_default-quantified_at c = (record { leaves = search matching; index_2 = search rules })
+pub returns-in_err-left-clause-leaves : goal.returns-in_err-left-clause-leaves
+returns-in_err-left-clause-leaves c =
+    leaves_all _ _ _ _ _
+    (asked _ _ _ _ c.in_err-left.ensures.value c.from_residual-in_err-left.ensures.1
+    ∙ ap answer_of (sides-left _ _ _ _ _ c.implication_at.ensures _ c.in_ok-l.ensures.ok_part _ c.quantified_at.ensures c.in_err-left.ensures.ok_part))
 
-pub returns-in_default-quantified_at-2 : goal.returns-in_default-quantified_at-2
-returns-in_default-quantified_at-2 c = (record {
-  leaves = leaves_all _ _ _ _ _ _ _ _ c.refused-in_default-quantified_at-2.ensures (sides-right _ _ _ _ _ c.implication_at.ensures _ _ c.in-Are.is
-      _ c.quantified_at.ensures _ _ c.in-Is.is _ c.quantified_at-2.ensures c.in_default-quantified_at-2.is);
-  index_2 = search rules;
-})
+pub returns-in_err-right-clause-leaves : goal.returns-in_err-right-clause-leaves
+returns-in_err-right-clause-leaves c =
+    leaves_all _ _ _ _ _
+    (asked _ _ _ _ c.in_err-right.ensures.value c.from_residual-in_err-right.ensures.1
+    ∙ ap answer_of (sides-right _ _ _ _ _ c.implication_at.ensures _ c.in_ok-l.ensures.ok_part _ c.quantified_at.ensures _ c.in_ok-left.ensures.ok_part
+    _ c.quantified_at-2.ensures c.in_err-right.ensures.ok_part))
 
-pub returns-then-not-left_kind : goal.returns-then-not-left_kind
-returns-then-not-left_kind c = (record { leaves = search matching; index_2 = c.requires.index })
+pub returns-then-not-left-clause-leaves : goal.returns-then-not-left-clause-leaves
+returns-then-not-left-clause-leaves c =
+    leaves_all _ _ _ _ _
+    (elim c.then-not-left.branch [
+      | then-not-left-via-then-not-left w ↦ ap answer_of (
+          sides-kind _ _ _ _ _ c.implication_at.ensures _ c.in_ok-l.ensures.ok_part _ c.quantified_at.ensures _ c.in_ok-left.ensures.ok_part
+          _ c.quantified_at-2.ensures _ c.in_ok-right.ensures.ok_part w.if-not-left.true _ _ c.carried_tag-wanted.ensures c.carried_tag-found.ensures)
+      | then-not-left-via-else-not-left+then-not-right w ↦ ap answer_of (
+          sides-right-kind _ _ _ _ _ c.implication_at.ensures _ c.in_ok-l.ensures.ok_part _ c.quantified_at.ensures _ c.in_ok-left.ensures.ok_part
+          _ c.quantified_at-2.ensures _ c.in_ok-right.ensures.ok_part w.if-not-left.false w.if-not-right.true _ _ c.carried_tag-wanted.ensures c.carried_tag-found.ensures)
+    ])
 
-pub returns-then-not-right_kind : goal.returns-then-not-right_kind
-returns-then-not-right_kind c = (record { leaves = search matching; index_2 = c.requires.index })
+pub clausified-requires-clause-forall_sides : goal.clausified-requires-clause-forall_sides
+clausified-requires-clause-forall_sides c =
+    sides-are _ _ _ _ _ c.implication_at.ensures _ c.in_ok-l.ensures.ok_part _ c.quantified_at.ensures _ c.in_ok-left.ensures.ok_part
+    _ c.quantified_at-2.ensures _ c.in_ok-right.ensures.ok_part c.requires.checked_term
 
-pub clausified-requires : goal.clausified-requires
-clausified-requires c = (record {
-  index = c.requires.index;
-  forall_sides = sides-are _ _ _ _ _ c.implication_at.ensures _ _ c.in-Are.is _ c.quantified_at.ensures _ _ c.in-Is.is
-      _ c.quantified_at-2.ensures _ _ c.in-Is-quantified_at.is c.requires.checked_term;
-})
-
-pub returns : goal.returns
-returns c = (record {
-  leaves = leaves_after _ _ _ _ _ _ _ _ c.clausified.ensures.leaves (sides-rest _ _ _ _ _ c.implication_at.ensures _ _ c.in-Are.is
-      _ c.quantified_at.ensures _ _ c.in-Is.is _ c.quantified_at-2.ensures _ _ c.in-Is-quantified_at.is (ap not c.if-not-left_kind.false) (ap not c.if-not-right_kind.false));
-  index_2 = c.clausified.ensures.index_2;
-})
+pub returns-clause-leaves : goal.returns-clause-leaves
+returns-clause-leaves c =
+    leaves_after _ _ _ _ _ _ _ _ c.clausified.ensures.leaves
+    (sides-rest _ _ _ _ _ c.implication_at.ensures _ c.in_ok-l.ensures.ok_part _ c.quantified_at.ensures _ c.in_ok-left.ensures.ok_part
+    _ c.quantified_at-2.ensures _ c.in_ok-right.ensures.ok_part c.if-not-left.false c.if-not-right.false)

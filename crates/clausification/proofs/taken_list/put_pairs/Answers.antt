@@ -1,16 +1,11 @@
-use Rattle.clausification.proofs.taken_list.Laws.{puts}
+use Rattle.clausification.proofs.taken_list.Laws.{put-end, put_next}
 use native.Mathlib.Omega.{arith}
-use lib.ListN.{length-set}
 use Rattle.clausification.proofs.taken_list.put_pairs.Goals as goal
 
-pub loop-i-init : goal.loop-i-init
-loop-i-init c = search puts
-
-pub bounds-cells-j-in-loop-i : goal.bounds-cells-j-in-loop-i
-bounds-cells-j-in-loop-i c = simp length-set (omega arith)
-
-pub loop-i-preserved : goal.loop-i-preserved
-loop-i-preserved c = search puts
+pub loop-pair-preserved : goal.loop-pair-preserved
+loop-pair-preserved c =
+    put_next _ _ _ _ _ _ c.loop-pair.invariant c.in_ok-j.j (omega (arith, c.in_ok-j.ensures.0, c.in_ok-j.ensures.1)) c.requires
+    c.in-Some.pair _ c.in-Some.ensures.steps
 
 pub returns : goal.returns
-returns c = search puts
+returns c = put-end _ _ _ _ _ _ c.loop-pair.invariant c.in-None.ensures.steps.0

@@ -1,23 +1,26 @@
-use Rattle.clausification.proofs.taken_search.Laws.{walks, step-below, step-before, head-before, rest-before}
+use Rattle.clausification.proofs.taken_search.Laws.{walks, step-below, step-before, left-found, left-next, left-end}
 use native.Mathlib.Omega.{arith}
+use mathlib.Core.Path.{refl}
+use Rattle.formulas.proofs.Reading.{before_at}
 use borrow.Author.Rules.{rules}
 use Rattle.clausification.proofs.taken_search.+from_run_from_term.Goals as goal
 
-pub from_run-returns-then-run-eq0 : goal.from_run-returns-then-run-eq0
-from_run-returns-then-run-eq0 t c = search walks
+pub from_run-loop-u-init : goal.from_run-loop-u-init
+from_run-loop-u-init t c = record { right = c.requires.1; left = refl }
 
-pub from_run-from_term-f-requires : goal.from_run-from_term-f-requires
-from_run-from_term-f-requires t c = let h = head-before _ _ c.requires.2 c.if-run-eq0.false in
-    (omega (arith), (c.requires.0, c.requires.1))
+pub from_run-from_term-requires : goal.from_run-from_term-requires
+from_run-from_term-requires t c =
+    let h = before_at _ _ c.requires.2 _ c.loop-u-test.true in
+    (omega arith, (c.requires.0, c.loop-u.invariant.right))
 
-pub from_run-from_run-requires : goal.from_run-from_run-requires
-from_run-from_run-requires t c = (search rules, (c.requires.0, search rules, rest-before _ _ c.requires.2 c.if-run-eq0.false))
+pub from_run-returns-in-Some : goal.from_run-returns-in-Some
+from_run-returns-in-Some t c = left-found _ _ _ _ _ _ c.loop-u.invariant c.loop-u-test.true _ _ c.from_term.ensures _ c.in-Some.is
 
-pub from_run-returns-in-Name : goal.from_run-returns-in-Name
-from_run-returns-in-Name t c = search walks
+pub from_run-loop-u-preserved : goal.from_run-loop-u-preserved
+from_run-loop-u-preserved t c = left-next _ _ _ _ _ _ c.loop-u.invariant c.loop-u-test.true _ _ c.from_term.ensures c.in_default.is
 
-pub from_run-returns-in-Nothing : goal.from_run-returns-in-Nothing
-from_run-returns-in-Nothing t c = search walks
+pub from_run-returns : goal.from_run-returns
+from_run-returns t c = left-end _ _ _ _ _ _ c.loop-u.invariant c.loop-u-test.false
 
 pub from_term-from_term-f-requires : goal.from_term-from_term-f-requires
 from_term-from_term-f-requires t c = let h = step-below _ _ _ _ _ c.look-step.ensures _ c.in-Body.is in

@@ -1,11 +1,10 @@
-use Rattle.clausification.proofs.taken_search.Laws.{unbound}
+use mathlib.Core.Path.{ap, ◌∙◌}
+use mathlib.Core.Bool.{not}
+use Rattle.clausification.proofs.taken_search.Laws.{unbound-left, unbound-taken}
 use Rattle.clausification.proofs.taken_search.is_unbound.Goals as goal
 
-pub returns-then-has : goal.returns-then-has
-returns-then-has c = search unbound
+pub returns-then-not-has : goal.returns-then-not-has
+returns-then-not-has c = unbound-taken _ _ _ _ c.has.ensures c.if-not-has.true _ _ _ _ _ c.first_taken.ensures _ c.is_none.ensures
 
-pub returns-in-Name : goal.returns-in-Name
-returns-in-Name c = search unbound
-
-pub returns-in-Nothing : goal.returns-in-Nothing
-returns-in-Nothing c = search unbound
+pub returns-else-not-has : goal.returns-else-not-has
+returns-else-not-has c = ap not c.if-not-has.false ∙ unbound-left _ _ _ _ c.has.ensures c.if-not-has.false

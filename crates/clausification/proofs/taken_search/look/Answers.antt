@@ -10,8 +10,8 @@ returns-in-Literal c = search looks
 pub returns-in-Connective : goal.returns-in-Connective
 returns-in-Connective c = search looks
 
-pub returns-in-Name : goal.returns-in-Name
-returns-in-Name c = search looks
+pub returns-in-Some : goal.returns-in-Some
+returns-in-Some c = search looks
 
-pub returns-in-Nothing : goal.returns-in-Nothing
-returns-in-Nothing c = search looks
+pub returns-in-None : goal.returns-in-None
+returns-in-None c = search looks

@@ -1,17 +1,14 @@
-use Rattle.miniscoping.proofs.miniscope_distribute.Laws.{all}
+use mathlib.Core.Path.{sym, ap}
+use Rattle.answers.specs.Outcome.{answer_of}
+use Rattle.miniscoping.proofs.miniscope_distribute.Laws.{all_end, all-refused, all-next, passes_on}
+use Rattle.miniscoping.proofs.sides.Laws.{one-ended}
 use Rattle.miniscoping.proofs.miniscope_distribute.distributed_all.Goals as goal
 
-pub loop-i-init : goal.loop-i-init
-loop-i-init c = search all
+pub loop-t-preserved : goal.loop-t-preserved
+loop-t-preserved c = all-next _ _ _ _ _ _ c.loop-t.invariant _ _ _ _ c.in-Some.ensures.steps.0 c.in-Some.ensures.steps.1 c.in_ok-distributed.ensures
 
-pub returns-then-to-i : goal.returns-then-to-i
-returns-then-to-i c = search all
-
-pub returns-in-Refuses : goal.returns-in-Refuses
-returns-in-Refuses c = search all
-
-pub loop-i-preserved : goal.loop-i-preserved
-loop-i-preserved c = search all
+pub returns-in_err-distributed : goal.returns-in_err-distributed
+returns-in_err-distributed c = passes_on _ _ (all-refused _ _ _ _ _ _ c.loop-t.invariant _ _ _ _ c.in-Some.ensures.steps.0 c.in-Some.ensures.steps.1 _ c.in_err-distributed.ensures _ c.from_residual.ensures.1)
 
 pub returns : goal.returns
-returns c = search all
+returns c = ap answer_of (sym (all_end _ _ _ _ _ _ c.loop-t.invariant (one-ended _ _ c.in-None.ensures.steps)))

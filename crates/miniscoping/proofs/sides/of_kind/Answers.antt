@@ -1,11 +1,11 @@
-use Rattle.miniscoping.proofs.sides.Laws.{kinds}
+use Rattle.miniscoping.proofs.sides.Laws.{kind-none, kind-is, kind-other}
 use Rattle.miniscoping.proofs.sides.of_kind.Goals as goal
 
-pub returns-in_default : goal.returns-in_default
-returns-in_default c = search kinds
+pub returns-in_err-q : goal.returns-in_err-q
+returns-in_err-q c = rw c.from_residual.ensures (kind-none _ _ _ c.args.kind _ _ c.quantified_at.ensures c.in_err-q.was)
 
-pub returns-then-k-kind : goal.returns-then-k-kind
-returns-then-k-kind c = search kinds
+pub returns-then-q-kind : goal.returns-then-q-kind
+returns-then-q-kind c = kind-is _ _ _ _ _ _ c.quantified_at.ensures _ c.in_ok-q.was c.if-q-kind.true
 
-pub returns : goal.returns
-returns c = search kinds
+pub returns-else-q-kind : goal.returns-else-q-kind
+returns-else-q-kind c = kind-other _ _ _ _ _ _ c.quantified_at.ensures _ c.in_ok-q.was c.if-q-kind.false

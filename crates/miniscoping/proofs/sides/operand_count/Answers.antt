@@ -5,7 +5,7 @@ use Rattle.miniscoping.proofs.sides.Laws.{count_most}
 use Rattle.miniscoping.proofs.sides.operand_count.Goals as goal
 
 pub overflow_cast-result : goal.overflow_cast-result
-overflow_cast-result c = omega (arith, ap length c.operands.ensures, count_most c.args.tags.now c.args.values.now c.args.x.0, c.shared_slice_known-2-1.given c.args.x.0)
+overflow_cast-result c = omega (arith, ap length c.operands.ensures, count_most c.args.tags.now c.args.values.now c.args.x.0, (c.type_inv.values c.args.x.0).fits)
 
 pub returns : goal.returns
 returns c = ap length c.operands.ensures

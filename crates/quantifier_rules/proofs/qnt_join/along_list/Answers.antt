@@ -1,16 +1,13 @@
-use mathlib.Core.Path.{refl}
-use borrow.Author.Rules.{rules}
-use Rattle.quantifier_rules.proofs.qnt_join.Joining.{list-along}
+use Rattle.quantifier_rules.proofs.qnt_join.Joining.{list-end, list-off, list-next}
 use Rattle.quantifier_rules.proofs.qnt_join.along_list.Goals as goal
 
-pub loop-i-init : goal.loop-i-init
-loop-i-init c = (search rules, λ rest. refl)
+pub returns-in_err-k : goal.returns-in_err-k
+returns-in_err-k c =
+    rw c.from_residual.ensures
+    (list-off _ _ _ _ _ c.loop-pair.invariant _ _ c.in-Some.ensures.steps _ c.along_pair.ensures c.in_err-k.was)
 
-pub returns-in_default : goal.returns-in_default
-returns-in_default c = search list-along
-
-pub loop-i-preserved : goal.loop-i-preserved
-loop-i-preserved c = (search rules, search list-along)
+pub loop-pair-preserved : goal.loop-pair-preserved
+loop-pair-preserved c = list-next _ _ _ _ _ c.loop-pair.invariant _ _ c.in-Some.ensures.steps _ c.along_pair.ensures _ c.in_ok-k.was
 
 pub returns : goal.returns
-returns c = search list-along
+returns c = list-end _ _ _ _ _ c.loop-pair.invariant c.in-None.ensures.steps.0

@@ -1,10 +1,6 @@
+use Rattle.bindings.specs.BindingAnswer.{pairs_left}
 use Rattle.quantifier_rules.proofs.qnt_join.Joining.{StillFollows}
-use Prim.Native.Nat.{◌-◌, ◌≤◌}
-use lib.ListN.{length}
 use Rattle.quantifier_rules.proofs.qnt_join.along_list.Given as goal
 
-abbrev pub invariant-loop-i : goal.invariant-loop-i
-invariant-loop-i l = (l.i ≤ length l.list) × StillFollows l.list l.right l.j l.i l.k
-
-abbrev pub decreases-loop-i : goal.decreases-loop-i
-decreases-loop-i l = length l.list - l.i
+abbrev pub invariant-loop-pair : goal.invariant-loop-pair
+invariant-loop-pair l = StillFollows l.list l.right l.j (pairs_left l.pair-iterator) l.k

@@ -1,20 +1,23 @@
-use Rattle.quantifier_rules.proofs.qnt_rm_unused.Laws.{right_side}
+use mathlib.Core.Path.{◌∙◌, ap}
+use Rattle.answers.specs.Outcome.{answer_of}
+use Rattle.answers.proofs.Refusals.{asked}
+use Rattle.quantifier_rules.proofs.qnt_rm_unused.Laws.{removes-none, removes-kinds, removes-bodies, removes-new, removes-missing, removes-passes}
 use Rattle.quantifier_rules.proofs.qnt_rm_unused.removes.Goals as goal
 
-pub returns-in_default : goal.returns-in_default
-returns-in_default c = search right_side
+pub returns-in_err-right : goal.returns-in_err-right
+returns-in_err-right c = asked _ _ _ _ c.in_err-right.ensures.value c.from_residual.ensures.1 ∙ ap answer_of (removes-none _ _ _ c.args.left.kind _ c.args.left.body.0 _ _ c.quantified_at.ensures c.in_err-right.ensures.ok_part)
 
-pub returns-then-kind-right_kind : goal.returns-then-kind-right_kind
-returns-then-kind-right_kind c = search right_side
+pub returns-then-left-right : goal.returns-then-left-right
+returns-then-left-right c = ap answer_of (removes-kinds _ _ _ c.args.left.kind _ c.args.left.body.0 _ _ c.quantified_at.ensures _ c.in_ok-right.ensures.ok_part c.if-left-right.true _ _ c.carried_tag-wanted.ensures c.carried_tag-found.ensures)
 
-pub returns-then-body-right_body : goal.returns-then-body-right_body
-returns-then-body-right_body c = search right_side
+pub returns-then-ne : goal.returns-then-ne
+returns-then-ne c = ap answer_of (removes-bodies _ _ _ c.args.left.kind _ c.args.left.body.0 _ _ c.quantified_at.ensures _ c.in_ok-right.ensures.ok_part c.if-left-right.false _ c.ne.ensures c.if-ne.true)
 
-pub returns-in-Name : goal.returns-in-Name
-returns-in-Name c = search right_side
+pub returns-in-Some : goal.returns-in-Some
+returns-in-Some c = ap answer_of (removes-new _ _ _ c.args.left.kind _ c.args.left.body.0 _ _ c.quantified_at.ensures _ c.in_ok-right.ensures.ok_part c.if-left-right.false _ c.ne.ensures c.if-ne.false _ _ c.first_new.ensures c.bindings-right_list.ensures _ c.in-Some.is)
 
-pub returns-in-Name-first_missing : goal.returns-in-Name-first_missing
-returns-in-Name-first_missing c = search right_side
+pub returns-in-Some-first_missing : goal.returns-in-Some-first_missing
+returns-in-Some-first_missing c = ap answer_of (removes-missing _ _ _ c.args.left.kind _ c.args.left.body.0 _ _ c.quantified_at.ensures _ c.in_ok-right.ensures.ok_part c.if-left-right.false _ c.ne.ensures c.if-ne.false _ _ c.first_new.ensures c.bindings-right_list.ensures c.in_default.is _ c.first_missing.ensures _ c.in-Some-first_missing.is)
 
 pub returns : goal.returns
-returns c = search right_side
+returns c = ap answer_of (removes-passes _ _ _ c.args.left.kind _ c.args.left.body.0 _ _ c.quantified_at.ensures _ c.in_ok-right.ensures.ok_part c.if-left-right.false _ c.ne.ensures c.if-ne.false _ _ c.first_new.ensures c.bindings-right_list.ensures c.in_default.is _ c.first_missing.ensures c.in_default-first_missing.is)

@@ -1,22 +1,36 @@
-use native.Mathlib.Omega.{arith}
-use Rattle.rules.proofs.check.Laws.{step-rule, step_other, step-30, step-zeroed, one_place, place-ready, index-ready, indexed-after}
-use borrow.Author.Rules.{rules}
+use mathlib.Core.Path.{refl, sym, ◌∙◌}
+use borrow.Author.Tests.{eqb-true, eqb-false}
+use Rattle.pool.proofs.checks.Laws.{refused}
+use Rattle.rules.proofs.check.Laws.{step-rule, step_other, step-30, step-zeroed, place-ready, index-ready}
+use Rattle.rules.proofs.check.check_after.Goals.{then-rule-eq-CNF+then-not-is_bad_arrays, else-rule-eq-CNF, else-rule-eq-CNF-via-then-rule-eq-CNF+else-not-is_bad_arrays, else-rule-eq-CNF-via-else-rule-eq-CNF}
 use Rattle.rules.proofs.check.check_after.Goals as goal
 
-pub bounds-conclusion-0 : goal.bounds-conclusion-0
-bounds-conclusion-0 c = let one = one_place _ _ _ _ _ _ _ c.requires.checked_value _ c.before_rule-early.ensures c.if-early-eq0.true in omega (arith, one)
+pub apply-requires-clause-index : goal.apply-requires-clause-index
+apply-requires-clause-index c = index-ready _ _ _ _ _ _ _ c.requires.checked_value _ (sym c.in-Ok.ensures.0) refl _ c.requires.indexed
 
-pub apply-requires : goal.apply-requires
-apply-requires c = (record { index = search index-ready; checked_term = search place-ready })
+pub apply-requires-clause-checked_term : goal.apply-requires-clause-checked_term
+apply-requires-clause-checked_term c = rw c.in-Ok.ensures.2 (place-ready _ _ _ _ _ _ _ c.requires.checked_value _ (sym c.in-Ok.ensures.0) refl)
 
-pub returns-then-early-eq0 : goal.returns-then-early-eq0
-returns-then-early-eq0 c = (record { step = search step-rule; indexed_2 = search (indexed-after, rules) })
+pub returns-in-Ok-clause-step : goal.returns-in-Ok-clause-step
+returns-in-Ok-clause-step c =
+    rw c.from.ensures
+    (step-rule _ _ _ _ _ _ _ c.requires.checked_value _ (sym c.in-Ok.ensures.0) refl _ _ _
+    (rw (sym c.in-Ok.ensures.1, c.in-Ok.ensures.2) at c.apply.ensures.judged))
 
-pub returns-then-rule-ne-CNF : goal.returns-then-rule-ne-CNF
-returns-then-rule-ne-CNF c = (record { step = search step_other; indexed_2 = search (indexed-after, rules) })
-
-pub returns-then-early-eq30 : goal.returns-then-early-eq30
-returns-then-early-eq30 c = (record { step = search step-30; indexed_2 = search (indexed-after, rules) })
-
-pub returns : goal.returns
-returns c = (record { step = search step-zeroed; indexed_2 = search (indexed-after, rules) })
+pub returns-after-rule-eq-CNF-clause-step : goal.returns-after-rule-eq-CNF-clause-step
+returns-after-rule-eq-CNF-clause-step c =
+    rw c.from-in-Err.ensures
+    (elim c.if-rule-eq-CNF.branch [
+      | then-rule-eq-CNF+then-not-is_bad_arrays w ↦
+          rw (w.tags-is, w.values-is)
+          (step-zeroed _ _ _ _ _ _ _ c.requires.checked_value _ c.in-Err.ensures (refused _) w.if-rule-eq-CNF.true
+          (eqb-false _ _ (sym w.is_bad_arrays.ensures ∙ w.if-not-is_bad_arrays.true)) _ _ w.cut_back.ensures)
+      | else-rule-eq-CNF w ↦
+          rw (w.tags-is, w.values-is)
+          (elim w.else-rule-eq-CNF.branch [
+            | else-rule-eq-CNF-via-then-rule-eq-CNF+else-not-is_bad_arrays v ↦
+                step-30 _ _ _ _ _ _ _ c.requires.checked_value _ c.in-Err.ensures (refused _) (eqb-true _ _ (sym v.is_bad_arrays.ensures ∙ v.if-not-is_bad_arrays.false))
+            | else-rule-eq-CNF-via-else-rule-eq-CNF v ↦
+                step_other _ _ _ _ _ _ _ c.requires.checked_value _ c.in-Err.ensures (refused _) v.if-rule-eq-CNF.false
+          ])
+    ])

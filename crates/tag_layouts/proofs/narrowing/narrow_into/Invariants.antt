@@ -1,9 +1,5 @@
-use Prim.Native.Nat.{◌-◌}
 use Rattle.tag_layouts.proofs.narrowing.Laws.{Narrowing}
 use Rattle.tag_layouts.proofs.narrowing.narrow_into.Given as goal
 
 abbrev pub invariant-loop-i : goal.invariant-loop-i
 invariant-loop-i l = Narrowing l.tags l.initial.bytes l.k l.bytes l.i
-
-abbrev pub decreases-loop-i : goal.decreases-loop-i
-decreases-loop-i l = l.k - l.i
