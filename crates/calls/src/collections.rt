@@ -2,22 +2,14 @@
 // the name, the length of its call file and the file.
 ghost use Rattle.std.specs.Prelude.{◌≤◌, length};
 
-use crate::arrays::file_bytes;
+use crate::arrays::FILE_BYTES;
 use crate::one_call::run;
 use crate::report::{bad_file, name_line};
-use pool::run::wide;
 use std::io;
 use std::io::{Eprint, Read, Write};
 use std::rt::Files;
 use step_files::inputs::{open, read_full};
 use step_files::words::word;
-
-// A count or a length, or the file ends before it.
-#[derive(Clone, Copy)]
-enum Number {
-    Is(usize),
-    Missing,
-}
 
 pub fn is_collection(path: &[u8]) -> bool {
     path.ends_with(b".calls")
@@ -30,31 +22,24 @@ fn fill<R: Read>(file: &mut R, buf: &mut [u8], n: usize) -> bool
     read_full(file, &mut buf[..n]) == n
 }
 
-fn read_number<R: Read>(file: &mut R) -> Number {
+// A count or a length. None where the file ends before it.
+fn read_number<R: Read>(file: &mut R) -> Option<usize> {
     let mut bytes = [0u8; 4];
     if !fill(file, &mut bytes, 4) {
-        return Number::Missing;
+        return None;
     }
-    Number::Is(wide(word(&bytes, 0)))
+    Some(word(&bytes, 0) as usize)
 }
 
 // Whether the file has so many bytes more, which are read and left.
 fn skip<R: Read>(file: &mut R, size: usize) -> bool {
     let mut space = [0u8; 4096];
-    let mut rest = size;
-    while 4096 <= rest {
+    for _ in 0..size / 4096 {
         if !fill(file, &mut space, 4096) {
             return false;
         }
-        rest -= 4096;
     }
-    fill(file, &mut space, rest)
-}
-
-fn least(a: usize, b: usize) -> usize
-    ensures { (result ≤ a) × (result ≤ b) }
-{
-    if a < b { a } else { b }
+    fill(file, &mut space, size % 4096)
 }
 
 // Prints what the call file of that size gives, after its name, unless the collection ends first. Of one that is longer than any call
@@ -65,8 +50,8 @@ fn replay_file<R: Read, W: Write>(
     size: usize,
     out: &mut W,
 ) -> io::Result<bool> {
-    let mut bytes = file_bytes();
-    let kept = least(size, 109245);
+    let mut bytes = [0u8; FILE_BYTES];
+    let kept = size.min(FILE_BYTES);
     if !fill(file, &mut bytes, kept) {
         return Ok(false);
     }
@@ -80,7 +65,7 @@ fn replay_file<R: Read, W: Write>(
 
 // False where the collection ends too early, and where the name is too long.
 fn replay_call<R: Read, W: Write>(file: &mut R, out: &mut W) -> io::Result<bool> {
-    let Number::Is(length) = read_number(file) else {
+    let Some(length) = read_number(file) else {
         return Ok(false);
     };
     if 4096 < length {
@@ -90,7 +75,7 @@ fn replay_call<R: Read, W: Write>(file: &mut R, out: &mut W) -> io::Result<bool>
     if !fill(file, &mut name, length) {
         return Ok(false);
     }
-    let Number::Is(size) = read_number(file) else {
+    let Some(size) = read_number(file) else {
         return Ok(false);
     };
     replay_file(file, &name[..length], size, out)
@@ -107,7 +92,7 @@ fn replay_calls<R: Read, W: Write>(file: &mut R, count: usize, out: &mut W) -> i
 
 // Whether the collection ends with the last of its calls.
 fn replay_whole<R: Read, W: Write>(file: &mut R, out: &mut W) -> io::Result<bool> {
-    let Number::Is(count) = read_number(file) else {
+    let Some(count) = read_number(file) else {
         return Ok(false);
     };
     if !replay_calls(file, count, out)? {

@@ -3,15 +3,15 @@
 #![tactic(auto)]
 
 mod arrays;
-mod byte_calls;
 mod call_files;
 mod collections;
+mod layouts;
 mod one_call;
+mod pool_calls;
 mod report;
 mod table_call;
-mod word_calls;
 
-use crate::arrays::file_bytes;
+use crate::arrays::FILE_BYTES;
 use crate::collections::{is_collection, replay_collection};
 use crate::one_call::run;
 use crate::report::{bad_file, name_line};
@@ -21,7 +21,7 @@ use std::rt::{Env, Files};
 use step_files::inputs::{argument, open, read_full};
 
 fn run_file<R: Read, W: Write>(input: &mut R, out: &mut W) -> io::Result<()> {
-    let mut bytes = file_bytes();
+    let mut bytes = [0u8; FILE_BYTES];
     let n = read_full(input, &mut bytes);
     run(&bytes[..n], out)
 }

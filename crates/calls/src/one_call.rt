@@ -1,54 +1,72 @@
 // A call file from its bytes to what is printed.
+ghost use Rattle.std.specs.Prelude.{◌≡◌, length};
 ghost use Rattle.calls.specs.Format.{Bounded};
 
-use crate::arrays::read_entries;
+use crate::arrays::{MAX_ENTRIES, read_array, read_entries, read_tags};
 use crate::call_files::{
-    CHECK, CLAUSE_LIST, FREE_VARS, Head, LOAD, NORMAL_FORM, SORT, TABLE_HEAD, block_words,
-    entry_count, fit_bytes, has_table, is_whole, lent_in_bytes, read_head,
+    Call, HEAD, Head, MOST, TABLE_HEAD, block_words, entry_count, has_table, is_whole,
+    lent_in_bytes, read_head,
 };
+use crate::layouts::{Layout, Lent};
+use crate::pool_calls;
 use crate::report::bad_file;
 use crate::table_call::load;
-use crate::{byte_calls, word_calls};
 use sort_table::table::built_in;
 use std::io;
 use std::io::Write;
 use step_files::words::word;
 
-// The entries that a file may have, more than any table that loads.
-const MAX_ENTRIES: usize = 300;
-
-fn call_on_words<W: Write>(bytes: &[u8], table: &[u32], head: Head, out: &mut W) -> io::Result<()>
-    requires { Bounded head }
+// The call of the head, over the file's pool, whose tags are read to this array.
+fn call_on<T: Layout, W: Write>(
+    tags: &mut [T],
+    bytes: &[u8],
+    table: &[u32],
+    head: Head,
+    out: &mut W,
+) -> io::Result<()>
+    requires bounded { Bounded head }
+    requires tags_len { length tags.old ≡ head.tags }
 {
-    let call = head.call;
-    match call {
-        CHECK => word_calls::check(bytes, table, head, out),
-        SORT => word_calls::sort(bytes, table, head, out),
-        FREE_VARS => word_calls::free_vars(bytes, table, head, out),
-        NORMAL_FORM => word_calls::normal_form(bytes, table, head, out),
-        CLAUSE_LIST => word_calls::clause_list(bytes, table, head, out),
-        _ => bad_file(out),
+    if read_tags(bytes, tags).is_none() {
+        return bad_file(out);
+    }
+    let mut values = read_array(bytes, HEAD + head.tags, head.values);
+    let mut pool = Lent {
+        tags,
+        values: &mut values[..head.values],
+        table,
+        n: head.n,
+    };
+    match Call::try_from(head.call) {
+        Ok(Call::Check) => pool_calls::check(&mut pool, bytes, head, out),
+        Ok(Call::Sort) => pool_calls::sort(&pool, head, out),
+        Ok(Call::FreeVars) => pool_calls::free_vars(&pool, head, out),
+        Ok(Call::NormalForm) => pool_calls::normal_form(&mut pool, head, out),
+        Ok(Call::ClauseList) => pool_calls::clause_list(&mut pool, head, out),
+        Ok(Call::Load) | Err(_) => bad_file(out),
     }
 }
 
-fn call_on_bytes<W: Write>(bytes: &[u8], table: &[u32], head: Head, out: &mut W) -> io::Result<()>
+// The same, with an array for the tags in the layout that the file asks for.
+fn call_in_layout<W: Write>(
+    bytes: &[u8],
+    table: &[u32],
+    head: Head,
+    in_bytes: bool,
+    out: &mut W,
+) -> io::Result<()>
     requires { Bounded head }
 {
-    if !fit_bytes(bytes, head.tags) {
-        return bad_file(out);
+    if in_bytes {
+        let mut tags = [0u8; MOST];
+        return call_on(&mut tags[..head.tags], bytes, table, head, out);
     }
-    let call = head.call;
-    match call {
-        CHECK => byte_calls::check(bytes, table, head, out),
-        SORT => byte_calls::sort(bytes, table, head, out),
-        FREE_VARS => byte_calls::free_vars(bytes, table, head, out),
-        NORMAL_FORM => byte_calls::normal_form(bytes, table, head, out),
-        CLAUSE_LIST => byte_calls::clause_list(bytes, table, head, out),
-        _ => bad_file(out),
-    }
+    let mut tags = [0u32; MOST];
+    call_on(&mut tags[..head.tags], bytes, table, head, out)
 }
 
 // The bytes after the blocks, and the table in use.
+#[tactic(auto, unfolding(crate::specs::Format::is_whole))]
 fn run_call<W: Write>(bytes: &[u8], table: &[u32], in_bytes: bool, out: &mut W) -> io::Result<()> {
     if bytes.len() < 32 {
         return bad_file(out);
@@ -57,10 +75,7 @@ fn run_call<W: Write>(bytes: &[u8], table: &[u32], in_bytes: bool, out: &mut W) 
     if !is_whole(bytes, head) {
         return bad_file(out);
     }
-    if in_bytes {
-        return call_on_bytes(bytes, table, head, out);
-    }
-    call_on_words(bytes, table, head, out)
+    call_in_layout(bytes, table, head, in_bytes, out)
 }
 
 // A call with the entries that the file has, which begin the array `listed`. Without block 100 the built-in table is in use.
@@ -71,7 +86,7 @@ fn run_with<W: Write>(
     in_bytes: bool,
     out: &mut W,
 ) -> io::Result<()> {
-    if word(bytes, 0) == LOAD {
+    if word(bytes, 0) == Call::Load as u32 {
         return load(bytes, listed, out);
     }
     if has_table {

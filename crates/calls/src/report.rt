@@ -1,6 +1,7 @@
 // What is printed: lines of numbers in decimal, one space between, gathered in a text that is written when it is full.
-ghost use Rattle.std.specs.Prelude.{◌+◌, ◌≤◌, ◌≡◌, length, IfOk};
+ghost use Rattle.std.specs.Prelude.{◌+◌, ◌≤◌, length, IfOk};
 
+use crate::layouts::{Layout, Lent};
 use pool::Answer;
 use std::io;
 use std::io::Write;
@@ -14,12 +15,6 @@ pub fn bad_file<W: Write>(out: &mut W) -> io::Result<()> {
 pub fn name_line<W: Write>(name: &[u8], out: &mut W) -> io::Result<()> {
     out.write_all(name)?;
     out.write_all(b":\n")
-}
-
-fn wide(x: u8) -> u32
-    ensures { result ≡ x }
-{
-    x as u32
 }
 
 // Writes the text that ends at `end`.
@@ -52,42 +47,30 @@ fn put<W: Write>(text: &mut [u8], at: usize, n: u32, out: &mut W) -> io::Result<
     Ok(end)
 }
 
-fn put_numbers<W: Write>(text: &mut [u8], numbers: &[u32], out: &mut W) -> io::Result<usize>
+fn put_numbers<T: Copy + Into<u32>, W: Write>(
+    text: &mut [u8],
+    numbers: &[T],
+    out: &mut W,
+) -> io::Result<usize>
     requires { 11 ≤ length text.old }
     ensures { IfOk result (λ end. end ≤ length text.old) }
 {
     let mut end = 0;
     for number in numbers {
-        end = put(text, end, *number, out)?;
-    }
-    Ok(end)
-}
-
-fn put_bytes<W: Write>(text: &mut [u8], bytes: &[u8], out: &mut W) -> io::Result<usize>
-    requires { 11 ≤ length text.old }
-    ensures { IfOk result (λ end. end ≤ length text.old) }
-{
-    let mut end = 0;
-    for byte in bytes {
-        end = put(text, end, wide(*byte), out)?;
+        end = put(text, end, (*number).into(), out)?;
     }
     Ok(end)
 }
 
 // A line with a name and numbers.
-pub fn line<W: Write>(name: &[u8], numbers: &[u32], out: &mut W) -> io::Result<()> {
+pub fn line<T: Copy + Into<u32>, W: Write>(
+    name: &[u8],
+    numbers: &[T],
+    out: &mut W,
+) -> io::Result<()> {
     out.write_all(name)?;
     let mut text = [0u8; 4096];
     let end = put_numbers(&mut text, numbers, out)?;
-    write_text(&text, end, out)?;
-    out.write_all(b"\n")
-}
-
-// The same with bytes for numbers.
-pub fn byte_line<W: Write>(name: &[u8], bytes: &[u8], out: &mut W) -> io::Result<()> {
-    out.write_all(name)?;
-    let mut text = [0u8; 4096];
-    let end = put_bytes(&mut text, bytes, out)?;
     write_text(&text, end, out)?;
     out.write_all(b"\n")
 }
@@ -102,27 +85,13 @@ pub fn answer_line<W: Write>(a: Answer, count: u32, out: &mut W) -> io::Result<(
 }
 
 // The answer of a call and the pool that it leaves.
-pub fn pool_after<W: Write>(
+pub fn pool_after<T: Layout, W: Write>(
     a: Answer,
     count: u32,
-    tags: &[u32],
-    values: &[u32],
+    pool: &Lent<T>,
     out: &mut W,
 ) -> io::Result<()> {
     answer_line(a, count, out)?;
-    line(b"tags", tags, out)?;
-    line(b"values", values, out)
-}
-
-// The same where the tags were lent as bytes.
-pub fn byte_pool_after<W: Write>(
-    a: Answer,
-    count: u32,
-    tags: &[u8],
-    values: &[u32],
-    out: &mut W,
-) -> io::Result<()> {
-    answer_line(a, count, out)?;
-    byte_line(b"tags", tags, out)?;
-    line(b"values", values, out)
+    line(b"tags", pool.tags, out)?;
+    line(b"values", pool.values, out)
 }

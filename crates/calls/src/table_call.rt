@@ -8,17 +8,8 @@ use std::io::Write;
 
 // It has no pool: T, V and N are 0, and nothing follows the head.
 fn has_no_pool(bytes: &[u8]) -> bool {
-    if bytes.len() != 32 {
-        return false;
-    }
     let head = read_head(bytes);
-    if head.tags != 0 {
-        return false;
-    }
-    if head.values != 0 {
-        return false;
-    }
-    head.n == 0
+    bytes.len() == 32 && head.tags == 0 && head.values == 0 && head.n == 0
 }
 
 pub fn load<W: Write>(bytes: &[u8], entries: &[u32], out: &mut W) -> io::Result<()> {

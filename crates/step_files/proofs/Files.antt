@@ -48,10 +48,9 @@ module _ (bytes table out : List ℕ) where
               file-written _ _ p (omega arith)
               (rw (le-ltb _ _ h, le-ltb 8192 (word_at bytes 0) (omega arith), lt-ltb 256 (word_at bytes 1) (omega arith), is))
 
-          pub file-length : steps ≤ 256 → (m s : ℕ) → m ≡ n → s ≡ steps → (length bytes ≡ 4 * (2 + 2 * m + 2 * s) → ⊥) → a ≡ ill_formed 0
-              → Answered bytes table out r out'
+          pub file-length : steps ≤ 256 → (length bytes ≡ 4 * (2 + 2 * n + 2 * steps) → ⊥) → a ≡ ill_formed 0 → Answered bytes table out r out'
           unfolding file_text
-          file-length f m s same-m same_s other is =
+          file-length f other is =
               file-written _ _ p (omega arith)
               (rw (
                 le-ltb _ _ h,
@@ -61,10 +60,10 @@ module _ (bytes table out : List ℕ) where
                 is,
               ))
 
-    pub file-lines : 8 ≤ length bytes → (n steps m s : ℕ) → n ≡ word_at bytes 0 → steps ≡ word_at bytes 1 → n ≤ 8192 → steps ≤ 256 → m ≡ n
-        → s ≡ steps → length bytes ≡ 4 * (2 + 2 * m + 2 * s) → LinePut (lines bytes table steps) 11264 0 out r out' → Answered bytes table out r out'
+    pub file-lines : 8 ≤ length bytes → (n steps : ℕ) → n ≡ word_at bytes 0 → steps ≡ word_at bytes 1 → n ≤ 8192 → steps ≤ 256
+        → length bytes ≡ 4 * (2 + 2 * n + 2 * steps) → LinePut (lines bytes table steps) 11264 0 out r out' → Answered bytes table out r out'
     unfolding file_text
-    file-lines h n steps m s n-is steps-are g f same-m same_s size p =
+    file-lines h n steps n-is steps-are g f size p =
         file-written _ _ p (omega arith)
         (rw (
           le-ltb _ _ h,

@@ -1,36 +1,17 @@
 // Lines of numbers in decimal, written into a lent array.
 ghost use Rattle.std.specs.Prelude.{◌+◌, ◌≤◌, ◌≡◌, length};
-ghost use Rattle.std.proofs.lemmas.List.Edits.{sets};
 ghost use Rattle.step_files.specs.Decimal.{decimal};
 ghost use Rattle.step_files.specs.Text.{field, line, LinePut};
 
 use pool::Answer;
-
-fn long(x: u32) -> u64
-    ensures { result ≡ x }
-{
-    x as u64
-}
-
-// Copies the bytes into out from position at on.
-fn copy(out: &mut [u8], at: usize, bytes: &[u8])
-    requires { at + length bytes.now ≤ length out.old }
-    ensures { out.new ≡ sets out.old at bytes.now }
-{
-    let mut i = 0;
-    while i < bytes.len() {
-        out[at + i] = bytes[i];
-        i += 1;
-    }
-}
 
 pub fn put_number(out: &mut [u8], at: usize, n: u32) -> usize
     requires { at + 10 ≤ length out.old }
     ensures { LinePut (decimal n) 10 at out.old result out.new }
 {
     let mut digits = [0u8; 20];
-    let k = io::decimal(long(n), &mut digits);
-    copy(out, at, &digits[..k]);
+    let k = io::decimal(u64::from(n), &mut digits);
+    out[at..at + k].copy_from_slice(&digits[..k]);
     at + k
 }
 

@@ -40,6 +40,7 @@ pub fn read_full<R: Read>(input: &mut R, buf: &mut [u8]) -> usize
     ensures bytes { Consumes (R.remaining input.old) (R.remaining input.new) (take result buf.new) }
 {
     let mut done = 0;
+    // Kept: each turn moves on by as many bytes as its read gave, so no range and no iterator fits.
     while done < buf.len() {
         let Ok(n) = input.read(&mut buf[done..]) else {
             break;

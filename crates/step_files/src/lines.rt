@@ -1,5 +1,6 @@
 // The steps of a file of the right length, answered one after another over one pool.
 ghost use Rattle.std.specs.Prelude.{◌≤◌, ◌≡◌, length, get_or};
+ghost use Rattle.answers.specs.Refusal.{answer_of_check};
 ghost use Rattle.pool.specs.Check.{Indexed};
 ghost use Rattle.tag_layouts.specs.Narrowed.{narrow, narrowed};
 ghost use Rattle.step_files.specs.StepFile.{cells_from, lines};
@@ -8,17 +9,13 @@ ghost use Rattle.step_files.specs.Text.{LinePut};
 
 use crate::answer_lines::put_line;
 use crate::words::{read_words, word, word_after};
-use pool::Answer;
+use pool::Refusal;
 use pool::checks::index_pool;
 use pool::description::zero_from;
+use pool::index::INDEX;
+use pool::limits::CELLS;
 use rules::check::check_after;
 use tag_layouts::narrowing::byte_of;
-
-pub(crate) fn wide(x: u32) -> usize
-    ensures { result ≡ x }
-{
-    x as usize
-}
 
 // Reads n words of the file from position start on, with zeroes after them.
 fn read_cells(input: &[u8], start: usize, n: usize, cells: &mut [u32])
@@ -46,42 +43,37 @@ fn read_tags(input: &[u8], start: usize, n: usize, tags: &mut [u8])
     requires tags_len { length tags.old ≡ 8192 }
     ensures { tags.new ≡ narrowed (cells_from input.now start n) }
 {
-    let mut i = 0;
-    while i < tags.len() {
-        tags[i] = tag_of(input, start, n, i);
-        i += 1;
+    for (i, tag) in tags.iter_mut().enumerate() {
+        *tag = tag_of(input, start, n, i);
     }
 }
 
-// The line of every step, over the file's arrays and the answer of the pool check on them. Each step leaves the cells as they were.
+// The line of every step, over the file's arrays and what the pool check says of them. Each step leaves the cells as they were.
 fn put_lines(
     input: &[u8],
-    checked: Answer,
+    checked: Result<(), Refusal>,
     tags: &mut [u8],
     values: &mut [u32],
     table: &[u32],
-    index: &mut [u32; 12288],
+    index: &mut [u32; INDEX],
     n: usize,
     steps: u32,
     out: &mut [u8],
 ) -> usize
-    requires ready { Ready input.now n steps (length out.old) checked tags.old values.old table.now }
-    requires indexed { Indexed tags.old values.old n checked index.old }
+    requires ready { Ready input.now n steps (length out.old) (answer_of_check checked) tags.old values.old table.now }
+    requires indexed { Indexed tags.old values.old n (answer_of_check checked) index.old }
     ensures line_put { LinePut (lines input.now table.now steps) 11264 0 out.old result out.new }
     ensures tags_unchanged { (tags.new ≡ tags.old) × (values.new ≡ values.old) }
 {
     let rules = 2 + 2 * n;
-    let places = rules + wide(steps);
+    let places = rules + steps as usize;
     let mut at = 0;
-    let mut k = 0;
-    while k < steps {
-        let i = wide(k);
+    for k in 0..steps {
+        let i = k as usize;
         let rule = word(input, rules + i);
         let conclusion = [word(input, places + i)];
         let answer = check_after(checked, tags, values, table, index, n, rule, &conclusion);
-        let number = k + 1;
-        at = put_line(out, at, number, answer);
-        k = number;
+        at = put_line(out, at, k + 1, answer);
     }
     at
 }
@@ -97,11 +89,11 @@ pub(crate) fn answer_steps(
     requires { Sized input.now n steps (length out.old) }
     ensures { LinePut (lines input.now table.now steps) 11264 0 out.old result out.new }
 {
-    let mut tags = [0u8; 8192];
+    let mut tags = [0u8; CELLS];
     read_tags(input, 2, n, &mut tags);
-    let mut values = [0u32; 8192];
+    let mut values = [0u32; CELLS];
     read_cells(input, 2 + n, n, &mut values);
-    let mut index = [0u32; 12288];
+    let mut index = [0u32; INDEX];
     let checked = index_pool(&tags, &values, table, n, &mut index);
     put_lines(
         input,

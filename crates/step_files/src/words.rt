@@ -1,11 +1,11 @@
 // u32 little-endian words of a byte slice, which reads as zeroes past its end.
-ghost use Rattle.std.specs.Prelude.{◌+◌, ◌<◌, ◌≡◌, length, get_or};
+ghost use Rattle.std.specs.Prelude.{◌+◌, ◌≡◌, length, get_or};
 ghost use Rattle.step_files.specs.Words.{word_at, words_from};
 
-fn byte(bytes: &[u8], i: usize) -> u32
-    ensures { (result ≡ get_or bytes.now i 0) × (result < 256) }
+fn byte(bytes: &[u8], i: usize) -> u8
+    ensures { result ≡ get_or bytes.now i 0 }
 {
-    if i < bytes.len() { bytes[i] as u32 } else { 0 }
+    bytes.get(i).copied().unwrap_or(0)
 }
 
 // The word at i, counted in words.
@@ -16,9 +16,12 @@ pub fn word(bytes: &[u8], i: usize) -> u32
         return 0;
     }
     let at = 4 * i;
-    let low = byte(bytes, at) + 256 * byte(bytes, at + 1);
-    let high = byte(bytes, at + 2) + 256 * byte(bytes, at + 3);
-    low + 65536 * high
+    u32::from_le_bytes([
+        byte(bytes, at),
+        byte(bytes, at + 1),
+        byte(bytes, at + 2),
+        byte(bytes, at + 3),
+    ])
 }
 
 // The same where the sum of two positions may pass usize.
@@ -38,9 +41,7 @@ pub(crate) fn word_after(bytes: &[u8], start: usize, i: usize) -> u32
 pub fn read_words(bytes: &[u8], start: usize, out: &mut [u32])
     ensures { out.new ≡ words_from bytes.now start (length out.old) }
 {
-    let mut i = 0;
-    while i < out.len() {
-        out[i] = word_after(bytes, start, i);
-        i += 1;
+    for (i, cell) in out.iter_mut().enumerate() {
+        *cell = word_after(bytes, start, i);
     }
 }

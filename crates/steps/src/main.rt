@@ -2,8 +2,6 @@
 // is standard input.
 #![tactic(auto)]
 
-ghost use Rattle.std.specs.Prelude.{◌≡◌, length};
-
 use sort_table::table::built_in;
 use std::io;
 use std::io::{Eprint, Input, Read, Write};
@@ -12,32 +10,22 @@ use step_files::answer_file;
 use step_files::inputs::{argument, open, read_full};
 
 // One byte more than the longest step file, 4 * (2 + 2 * 8,192 + 2 * 256): a longer one has a wrong length too.
-fn file_bytes() -> [u8; 67593]
-    ensures { 67593 ≡ length result }
-{
-    [0; 67593]
-}
+const FILE_BYTES: usize = 67593;
 
-fn text_bytes() -> [u8; 11264]
-    ensures { 11264 ≡ length result }
-{
-    [0; 11264]
-}
+// The longest text that answers one: 256 lines of at most 44 bytes.
+const TEXT_BYTES: usize = 11264;
 
 fn answer<R: Read, W: Write>(input: &mut R, out: &mut W) -> io::Result<()> {
-    let mut file = file_bytes();
+    let mut file = [0u8; FILE_BYTES];
     let n = read_full(input, &mut file);
     let table = built_in();
-    let mut text = text_bytes();
+    let mut text = [0u8; TEXT_BYTES];
     let end = answer_file(&file[..n], &table, &mut text);
     out.write_all(&text[..end])
 }
 
 fn is_standard_input(path: &[u8]) -> bool {
-    if path.len() != 1 {
-        return false;
-    }
-    path[0] == b'-'
+    path == b"-".as_slice()
 }
 
 // The step file that an argument names.

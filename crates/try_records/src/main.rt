@@ -1,151 +1,64 @@
 // The comparison of joined lists, a line for each case.
 #![tactic(auto)]
 
-ghost use Rattle.std.specs.Prelude.{◌≤◌};
-
 use joined_records::{Binding, same_joined};
 use std::io;
 use std::io::Write;
 
-// The first n of four pairs.
-#[derive(Clone, Copy)]
-struct List {
-    pairs: [Binding; 4],
-    n: usize,
-}
+const X: Binding = Binding { name: 1, sort: 0 };
 
-fn pair(name: u32, sort: u32) -> Binding {
-    Binding { name, sort }
-}
+const Y: Binding = Binding { name: 2, sort: 0 };
 
-fn none() -> List
-    ensures { result.n ≤ 4 }
-{
-    let pairs = [pair(0, 0); 4];
-    List { pairs, n: 0 }
-}
+// The name of X under another sort.
+const Z: Binding = Binding { name: 1, sort: 3 };
 
-fn one(a: Binding) -> List
-    ensures { result.n ≤ 4 }
-{
-    let pairs = [a; 4];
-    List { pairs, n: 1 }
-}
-
-fn two(a: Binding, b: Binding) -> List
-    ensures { result.n ≤ 4 }
-{
-    let pairs = [a, b, b, b];
-    List { pairs, n: 2 }
-}
-
-fn three(a: Binding, b: Binding, c: Binding) -> List
-    ensures { result.n ≤ 4 }
-{
-    let pairs = [a, b, c, c];
-    List { pairs, n: 3 }
-}
-
-fn four(a: Binding, b: Binding, c: Binding, d: Binding) -> List
-    ensures { result.n ≤ 4 }
-{
-    let pairs = [a, b, c, d];
-    List { pairs, n: 4 }
-}
-
-// Lends the first n pairs of outer, the first m of inner and the first k of right.
-fn joins(
-    outer: [Binding; 4],
-    n: usize,
-    inner: [Binding; 4],
-    m: usize,
-    right: [Binding; 4],
-    k: usize,
-) -> bool
-    requires { (n ≤ 4) × ((m ≤ 4) × (k ≤ 4)) }
-{
-    same_joined(&outer[..n], &inner[..m], &right[..k])
-}
-
-fn case<W: Write>(name: &[u8], outer: List, inner: List, right: List, out: &mut W) -> io::Result<()>
-    requires { (outer.n ≤ 4) × ((inner.n ≤ 4) × (right.n ≤ 4)) }
-{
-    let a = outer.pairs;
-    let b = inner.pairs;
-    let c = right.pairs;
-    out.write_all(name)?;
-    if joins(a, outer.n, b, inner.n, c, right.n) {
-        out.write_all(b": equal\n")
+fn case<W: Write>(
+    name: &str,
+    outer: &[Binding],
+    inner: &[Binding],
+    right: &[Binding],
+    out: &mut W,
+) -> io::Result<()> {
+    let answer = if same_joined(outer, inner, right) {
+        "equal"
     } else {
-        out.write_all(b": not equal\n")
-    }
+        "not equal"
+    };
+    writeln!(out, "{name}: {answer}")
 }
 
 // Lists that meet in one pair, and lists that do not.
 fn meeting_lists<W: Write>(out: &mut W) -> io::Result<()> {
-    let x = pair(1, 0);
-    let y = pair(2, 0);
-    case(
-        b"x with y x, right x y x",
-        one(x),
-        two(y, x),
-        three(x, y, x),
-        out,
-    )?;
-    case(b"x with y x, right x y", one(x), two(y, x), two(x, y), out)?;
-    case(b"x with x, right x", one(x), one(x), one(x), out)?;
-    case(b"x with x, right x x", one(x), one(x), two(x, x), out)
+    case("x with y x, right x y x", &[X], &[Y, X], &[X, Y, X], out)?;
+    case("x with y x, right x y", &[X], &[Y, X], &[X, Y], out)?;
+    case("x with x, right x", &[X], &[X], &[X], out)?;
+    case("x with x, right x x", &[X], &[X], &[X, X], out)
 }
 
 fn empty_lists<W: Write>(out: &mut W) -> io::Result<()> {
-    let x = pair(1, 0);
-    let y = pair(2, 0);
-    case(b"none with none, right none", none(), none(), none(), out)?;
-    case(b"none with none, right x", none(), none(), one(x), out)?;
-    case(b"none with x, right x", none(), one(x), one(x), out)?;
-    case(
-        b"x y with none, right x y",
-        two(x, y),
-        none(),
-        two(x, y),
-        out,
-    )?;
-    case(b"x with none, right none", one(x), none(), none(), out)
+    case("none with none, right none", &[], &[], &[], out)?;
+    case("none with none, right x", &[], &[], &[X], out)?;
+    case("none with x, right x", &[], &[X], &[X], out)?;
+    case("x y with none, right x y", &[X, Y], &[], &[X, Y], out)?;
+    case("x with none, right none", &[X], &[], &[], out)
 }
 
-// A name under two sorts is x and z.
 fn two_sorts<W: Write>(out: &mut W) -> io::Result<()> {
-    let x = pair(1, 0);
-    let z = pair(1, 3);
-    case(b"x with z, right x z", one(x), one(z), two(x, z), out)?;
-    case(b"x with z, right x", one(x), one(z), one(x), out)
+    case("x with z, right x z", &[X], &[Z], &[X, Z], out)?;
+    case("x with z, right x", &[X], &[Z], &[X], out)
 }
 
 // Equal pairs within a list, and right lists in another order or of another length.
 fn right_lists<W: Write>(out: &mut W) -> io::Result<()> {
-    let x = pair(1, 0);
-    let y = pair(2, 0);
+    case("x x with x y, right x y", &[X, X], &[X, Y], &[X, Y], out)?;
+    case("x with y, right y x", &[X], &[Y], &[Y, X], out)?;
+    case("x with y, right x", &[X], &[Y], &[X], out)?;
+    case("x with y, right x y x", &[X], &[Y], &[X, Y, X], out)?;
     case(
-        b"x x with x y, right x y",
-        two(x, x),
-        two(x, y),
-        two(x, y),
-        out,
-    )?;
-    case(b"x with y, right y x", one(x), one(y), two(y, x), out)?;
-    case(b"x with y, right x", one(x), one(y), one(x), out)?;
-    case(
-        b"x with y, right x y x",
-        one(x),
-        one(y),
-        three(x, y, x),
-        out,
-    )?;
-    case(
-        b"x y with x y, right x y x y",
-        two(x, y),
-        two(x, y),
-        four(x, y, x, y),
+        "x y with x y, right x y x y",
+        &[X, Y],
+        &[X, Y],
+        &[X, Y, X, Y],
         out,
     )
 }

@@ -1,4 +1,5 @@
 // The same calls on a pool whose tags are u32.
+// Kept: C calls each of the two by its own name.
 ghost use Rattle.pool.specs.Check.{check_pool};
 ghost use Rattle.pool.specs.Calls.{sort_answer, FreeVars};
 ghost use Rattle.normal_form.specs.Promise.{NormalFormPromise, ClauseListPromise};

@@ -10,22 +10,21 @@ ghost use Rattle.normal_form.specs.Promise.{NormalFormPromise, ClauseListPromise
 ghost use Rattle.rules.specs.Step.{Step};
 
 pub use normal_form::call::Listed;
+use pool::Refusal;
 use pool::description::zero_from;
 use pool::limits::CELLS;
 pub use pool::{Answer, TermPlace};
+use rules::rule::CNF;
 pub use sort_table::loading::load;
 pub use sort_table::table::built_in;
 use tag_layouts::narrowing::{cut_back, narrow_into, write_back};
-
-// The code of `qnt_cnf`, the rule that builds.
-const CNF: u32 = 3;
 
 // The pool check: 30, 40, 41, 14, 15, 16.
 pub fn check_pool(tags: &[u32], values: &[u32], table: &[u32], n: usize) -> Answer
     ensures { result ≡ check_pool tags.now values.now table.now n }
 {
     if tags.len() != values.len() {
-        return Answer::refused(30, 0, 0);
+        return Answer::from(Refusal::BadArrays);
     }
     let mut bytes = [0u8; CELLS];
     let k = narrow_into(tags, &mut bytes);
@@ -37,7 +36,7 @@ pub fn sort_of_term(tags: &[u32], values: &[u32], table: &[u32], n: usize, t: Te
     ensures { result ≡ sort_answer tags.now values.now table.now n t.0 }
 {
     if tags.len() != values.len() {
-        return Answer::refused(30, 0, 0);
+        return Answer::from(Refusal::BadArrays);
     }
     let mut bytes = [0u8; CELLS];
     let k = narrow_into(tags, &mut bytes);
@@ -56,7 +55,7 @@ pub fn free_vars(
     ensures { FreeVars tags.now values.now table.now n t.0 marks.old result marks.new }
 {
     if tags.len() != values.len() {
-        return Answer::refused(30, 0, 0);
+        return Answer::from(Refusal::BadArrays);
     }
     let mut bytes = [0u8; CELLS];
     let k = narrow_into(tags, &mut bytes);
@@ -75,7 +74,7 @@ pub fn normal_form(
     ensures { NormalFormPromise tags.old values.old table.now n t.0 polarity result tags.new values.new }
 {
     if tags.len() != values.len() {
-        return Answer::refused(30, 0, 0);
+        return Answer::from(Refusal::BadArrays);
     }
     let mut bytes = [0u8; CELLS];
     let k = narrow_into(tags, &mut bytes);
@@ -109,7 +108,7 @@ pub fn clause_list(
 {
     if tags.len() != values.len() {
         return Listed {
-            answer: Answer::refused(30, 0, 0),
+            answer: Answer::from(Refusal::BadArrays),
             count: 0,
         };
     }
@@ -144,7 +143,7 @@ pub fn check(
     ensures { Step tags.old values.old table.now n rule conclusion.now result tags.new values.new }
 {
     if tags.len() != values.len() {
-        return Answer::refused(30, 0, 0);
+        return Answer::from(Refusal::BadArrays);
     }
     let mut bytes = [0u8; CELLS];
     let k = narrow_into(tags, &mut bytes);

@@ -1,10 +1,11 @@
 -- Laws of `Text`, one for each function.
 -- Assumes nothing.
-use Prim.Native.Nat.{ℕ, ◌+◌, ◌≤◌, ◌<◌}
+use Prim.Native.Nat.{ℕ, ◌+◌, ◌-◌, ◌≤◌, ◌<◌}
 use mathlib.Core.Path.{◌≡◌, refl, ◌∙◌}
-use mathlib.Core.List.{List, [], ◌∷◌, ◌++◌}
+use mathlib.Core.List.{List, [], ◌∷◌, ◌++◌, append_assoc}
 use lib.ListN.{length, set, length-append}
-use lib.Seq.{sets}
+use lib.Seq.{sets-eq, drop-drop}
+use borrow.Rule.Slice.PartMut.{put_mid}
 use native.Mathlib.Omega.{arith}
 use Rattle.io.specs.Digits.{last_digits, IsDigitCount}
 use Rattle.answers.specs.declared.Answer.{Answer}
@@ -14,12 +15,17 @@ use Rattle.step_files.proofs.answer_lines.Decimals.{digits_are, ten-digits}
 use Rattle.step_files.proofs.answer_lines.Sets.{sets-append}
 
 -- the digits are copied
-pub number_put : (n m r at : ℕ) (text out out' : List ℕ) → m ≡ n → IsDigitCount 10 1 m r → text ≡ last_digits 10 r m → r ≡ length text
-    → out' ≡ sets out at text → n < 4294967296 → LinePut (decimal n) 10 at out (at + r) out'
-number_put n m r at text out out' same few are size put h =
+pub number_put : (n m r at : ℕ) (text out : List ℕ) → m ≡ n → IsDigitCount 10 1 m r → text ≡ last_digits 10 r m → r ≡ length text
+    → at + 10 ≤ length out → n < 4294967296 → LinePut (decimal n) 10 at out (at + r) (put_mid at (at + r - at) out text)
+number_put n m r at text out same few are size room h =
     let e : text ≡ decimal n = are ∙ digits_are m r few ∙ rw same in
     let ten : r ≤ 10 = ten-digits m r few (omega arith) in
-    record { end = rw (← e) (omega arith); short = rw (← e) (omega arith); out-is = rw (← e) put }
+    let end : at + (at + r - at) ≡ at + length text = omega arith in
+    record {
+      end = rw (← e) (omega arith);
+      short = rw (← e) (omega arith);
+      out-is = rw (← e, sets-eq text out at (omega arith), drop-drop, end, append_assoc);
+    }
 
 -- one text after another
 pub put-append : {s t : List ℕ} {m k at : ℕ} {out : List ℕ} {r : ℕ} {mid : List ℕ} {r' : ℕ} {out' : List ℕ}

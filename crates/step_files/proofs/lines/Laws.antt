@@ -4,10 +4,10 @@ use Prim.Native.Nat.{ℕ, suc, ◌+◌, ◌-◌, ◌*◌, ◌≤◌, ◌<◌}
 use mathlib.Core.Path.{◌≡◌, refl, sym, ap, ◌∙◌}
 use mathlib.Core.Bool.{not, ◌&&◌}
 use mathlib.Core.List.{List, [], ◌∷◌, ◌++◌}
-use lib.ListN.{length, get_or, take, drop, set, replicate, length-append, length-replicate, length-set, get_or-replicate, get_or-append, get_or-eq_default}
-use lib.Seq.{take_at, drop_at, length-take-le, get_or-append-add, get_or-set_same, get_or-set_other, ext_get_or}
+use lib.ListN.{length, get_or, take, drop, replicate, length-append, length-replicate, get_or-replicate, get_or-append, get_or-eq_default}
+use lib.Seq.{take_at, drop_at, length-take-le, get_or-append-add, ext_get_or}
 use lib.Dec.{eqb, ltb}
-use borrow.Author.Tests.{eqb-true, eqb-false, ltb-true, ltb-false}
+use borrow.Author.Tests.{ltb-true, ltb-false}
 use native.Mathlib.Omega.{arith}
 use native.Mathlib.Numerals.{add-one}
 use Rattle.cells.specs.ByPlace.{by-test}
@@ -76,35 +76,12 @@ module _ (bytes : List ℕ) (start n i : ℕ) where
       get_or-append (words_from bytes start n) (replicate (8192 - n) 0) 0 i (rw length-words h) ∙ get_d_words bytes start n i h in
       rw (e, is, g)
 
--- the first i tags are read
-pub record TagsRead (bytes : List ℕ) (start n : ℕ) (tags₀ tags : List ℕ) (i : ℕ) : Type 0 where
-  pub size : length tags ≡ length tags₀
-  pub within : i ≤ length tags₀
-  pub are : (j : ℕ) → j < i → get_or tags j 0 ≡ narrow (get_or (cells_from bytes start n) j 0)
-
-module _ (bytes : List ℕ) (start n : ℕ) (tags₀ : List ℕ) where
-  pub tags-begin : TagsRead bytes start n tags₀ tags₀ 0
-  tags-begin = record { size = refl; within = omega arith; are = λ j h. absurd (omega arith) }
-
-  pub tags-next : (tags : List ℕ) (i b : ℕ) → TagsRead bytes start n tags₀ tags i → i < length tags → b ≡ narrow (get_or (cells_from bytes start n) i 0)
-      → TagsRead bytes start n tags₀ (set tags i b) (i + 1)
-  tags-next tags i b r h e =
-      record {
-        size = length-set tags i b ∙ r.size;
-        within = omega (arith, r.size);
-        are = λ j l. by-test (eqb j i)
-            (λ s. rw (eqb-true j i s) (get_or-set_same tags i b 0 h ∙ e))
-            (λ s. get_or-set_other tags i j b 0 (eqb-false j i s) ∙ r.are j (omega (arith, eqb-false j i s)));
-      }
-
-  pub tags-end : (tags : List ℕ) (i : ℕ) → n ≤ 8192 → length tags₀ ≡ 8192 → TagsRead bytes start n tags₀ tags i → length tags ≤ i
-      → tags ≡ narrowed (cells_from bytes start n)
-  tags-end tags i h long r l =
-      let size : length tags ≡ length (narrowed (cells_from bytes start n)) = r.size ∙ (long ∙ sym (narrowed-length (cells_from bytes start n) ∙ cells-length bytes start n h)) in
-      ext_get_or 0 tags (narrowed (cells_from bytes start n)) size
-      (λ j k. r.are j (omega arith) ∙ sym (narrowed_at (cells_from bytes start n) j))
-
-pub ruleset tags-from = (tags-begin, tags-next, tags-end)
+-- a list that holds the bytes of all of them
+pub tags_are : (bytes : List ℕ) (start n : ℕ) (tags : List ℕ) (i : ℕ) → n ≤ 8192 → length tags ≡ 8192
+    → ((j : ℕ) → j < i → get_or tags j 0 ≡ narrow (get_or (cells_from bytes start n) j 0)) → length tags ≤ i → tags ≡ narrowed (cells_from bytes start n)
+tags_are bytes start n tags i h long each l =
+    let size : length tags ≡ length (narrowed (cells_from bytes start n)) = long ∙ sym (narrowed-length (cells_from bytes start n) ∙ cells-length bytes start n h) in
+    ext_get_or 0 tags (narrowed (cells_from bytes start n)) size (λ j k. each j (omega arith) ∙ sym (narrowed_at (cells_from bytes start n) j))
 
 module _ (bytes : List ℕ) (start n : ℕ) (fits : n ≤ 8192) where
   -- past n there are zeroes already
@@ -146,17 +123,10 @@ made-ready bytes n steps room checked tags values table sized t v c =
 -- ---- one step
 module _ (bytes : List ℕ) (n steps room : ℕ) (checked : Answer) (tags₀ values₀ table : List ℕ) (ready : Ready bytes n steps room checked tags₀ values₀ table)
     (tags values : List ℕ) (same-tags : tags ≡ tags₀) (same-values : values ≡ values₀) where
-  pub checked-now : checked ≡ check_pool tags values table n
-  checked-now = rw (same-tags, same-values) ready.checked-is
-
-  pub indexed-now : (index : List ℕ) → Indexed tags₀ values₀ n checked index → Indexed tags values n checked index
-  indexed-now index i = rw (same-tags, same-values) i
-
   pub indexed-then : (index : List ℕ) → Indexed tags values n checked index → Indexed tags₀ values₀ n checked index
   indexed-then index i = rw (← same-tags, ← same-values) i
 
-  module _ (k i s rule place : ℕ) (i-is : i ≡ k) (s-is : s ≡ steps) (rule-is : rule ≡ word_at bytes (2 + 2 * n + i))
-      (place_is : place ≡ word_at bytes (2 + 2 * n + s + i)) (a : Answer) (tags' values' : List ℕ)
+  module _ (k rule place : ℕ) (rule-is : rule ≡ word_at bytes (2 + 2 * n + k)) (place_is : place ≡ word_at bytes (2 + 2 * n + steps + k)) (a : Answer) (tags' values' : List ℕ)
       (step : Step tags values table n rule (place ∷ []) a tags' values') where
     pub answer-is : a ≡ answer_to bytes table k
     answer-is = cc (step.answer, file-answer bytes table k, ready.tags-are, ready.values-are, ready.sized.n-is, ready.sized.steps-are)
@@ -179,6 +149,3 @@ module _ (bytes table : List ℕ) (k : ℕ) (out₀ : List ℕ) (at : ℕ) (out 
   lines_next a r out' is p =
       let e : 44 * suc k ≡ 44 * k + 44 = omega arith in
       rw (add-one, e, ← is) (put-append so_far (rw add-one at p))
-
-  pub lines-all : (steps : ℕ) → k ≡ steps → steps ≤ 256 → LinePut (lines bytes table steps) 11264 0 out₀ at out
-  lines-all steps e h = record { end = rw (← e) so_far.end; short = rw (← e) (omega (arith, so_far.short)); out-is = rw (← e) so_far.out-is }

@@ -1,6 +1,0 @@
-use borrow.Author.Rules.{rules}
-use Rattle.calls.proofs.call_files.Laws.{blocks}
-use Rattle.calls.proofs.call_files.has_table.Goals as goal
-
-pub returns : goal.returns
-returns c = search (blocks, rules)

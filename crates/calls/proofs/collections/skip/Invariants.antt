@@ -1,7 +1,0 @@
-use Rattle.calls.proofs.collections.skip.Given as goal
-
-abbrev pub invariant-loop-rest : goal.invariant-loop-rest
-invariant-loop-rest g l = Unit {0}
-
-abbrev pub decreases-loop-rest : goal.decreases-loop-rest
-decreases-loop-rest g l = l.rest
