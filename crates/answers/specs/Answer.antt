@@ -1,8 +1,7 @@
 -- The answers of the public calls: 01's number and the two numbers that it carries.
 -- 01, "What stops a step": "Each refusal carries two numbers, 0 where none is named. 0 is acceptance."
 -- Rests on the struct `Answer`.
-use Rattle.std.specs.Prelude.{Option, Some, None}
-use Rattle.std.specs.Prelude.{ℕ}
+use Rattle.std.specs.Prelude.{Option, Some, None, ℕ}
 use Rattle.answers.specs.declared.Answer.{Answer}
 
 -- the code, and the two numbers that it carries

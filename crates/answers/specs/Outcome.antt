@@ -1,8 +1,7 @@
 -- A rule's checks, one after another: the first that fails refuses the step.
 -- 01, "What stops a step": "Each refusal carries two numbers, 0 where none is named."
 -- Rests on Answer and the struct `Answer`.
-use Rattle.std.specs.Prelude.{ℕ, Bool, true, false}
-use Rattle.std.specs.Prelude.{Option, Some, None}
+use Rattle.std.specs.Prelude.{ℕ, Bool, true, false, Option, Some, None}
 use Rattle.answers.specs.Answer.{accepted, refused}
 use Rattle.answers.specs.declared.Answer.{Answer}
 

@@ -1,7 +1,6 @@
 -- Binding lists of quantifiers. A variable is its name with its sort; here the sort is its place.
 -- Rests on the library alone.
-use Rattle.std.specs.Prelude.{ℕ, Bool, true, false, ◌&&◌, ◌||◌, cond, List, [], ◌∷◌, eqb}
-use Rattle.std.specs.Prelude.{Option, Some, None}
+use Rattle.std.specs.Prelude.{ℕ, Bool, true, false, ◌&&◌, ◌||◌, cond, List, [], ◌∷◌, eqb, Option, Some, None}
 
 pub record Binding : Type 0 where
   pub name : ℕ

@@ -7,11 +7,10 @@
 --     5 * b + 4    1 + the last pair of bucket b, 0 where there is none
 -- A bucket for each record.
 -- Rests on cells' Limits, on answers' Outcome and Refusal, and on Binding, Used and Distinct.
-use Rattle.std.specs.Prelude.{ℕ, zero, suc, ◌+◌, ◌*◌, ◌/◌, ◌%◌, ◌≤◌, ◌<◌, ◌≡◌, Bool, true, false, ◌&&◌, not, cond, List, [], ◌∷◌, ◌++◌, length, get_or, set, eqb}
+use Rattle.std.specs.Prelude.{ℕ, zero, suc, ◌+◌, ◌*◌, ◌/◌, ◌%◌, ◌≤◌, ◌<◌, ◌≡◌, Bool, true, false, ◌&&◌, not, cond, List, [], ◌∷◌, ◌++◌, length, get_or, set, eqb, Result}
 use Rattle.cells.specs.Limits.{cell_limit}
 use Rattle.answers.specs.Outcome.{Outcome}
 use Rattle.answers.specs.Refusal.{outcome_of}
-use Rattle.std.specs.Prelude.{Result}
 use Rattle.answers.specs.declared.refusal.Refusal.{Refusal}
 use Rattle.bindings.specs.Binding.{Binding, same, has}
 use Rattle.bindings.specs.Used.{without}

@@ -114,7 +114,7 @@ fn use_pair(prepared: &mut [u32], pair: Variable) -> bool
     true
 }
 
-// Uses each pair of an inner list: 8 for the first that is not left.
+// Uses each pair of an inner list: a refusal for the first that is not left.
 pub fn use_all(prepared: &mut [u32], inner: &[u32]) -> Result<(), Refusal>
     requires { Prepared prepared.old }
     ensures { Leaves (use_all (bindings_of inner.now) (left_in prepared.old)) result prepared.new }

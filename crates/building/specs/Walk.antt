@@ -2,8 +2,7 @@
 -- The memo is no part of a public contract.
 -- Rests on cells' Cell, Limits and struct `TermPlace`, on descriptions' Index and Fills, on formulas' Formula, Normal and Built, and on
 -- Arrays.
-use Rattle.std.specs.Prelude.{Option, Some, None}
-use Rattle.std.specs.Prelude.{ℕ, suc, ◌+◌, ◌-◌, ◌≤◌, ◌<◌, ◌≡◌, Bool, true, false, not, cond, List, map, length, get_or, take, drop, ltb}
+use Rattle.std.specs.Prelude.{ℕ, suc, ◌+◌, ◌-◌, ◌≤◌, ◌<◌, ◌≡◌, Bool, true, false, not, cond, List, map, length, get_or, take, drop, ltb, Option, Some, None}
 use Rattle.cells.specs.Limits.{cell_limit}
 use Rattle.cells.specs.declared.TermPlace.{TermPlace}
 use Rattle.cells.specs.Cell.{operands_of}

@@ -3,8 +3,7 @@
 -- that is free in the clause and not bound right. A one-literal clause is the literal, a longer one an `or`."
 -- Rests on answers' Outcome, on cells' Cell, on bindings' Binding, on free_pairs' BindingFree, on formulas' Formula, Pattern, Normal, Built,
 -- Clauses and ClauseLists, and on building's Arrays.
-use Rattle.std.specs.Prelude.{ℕ, Bool, true, false, not, ◌&&◌, ◌||◌, cond, List, [], ◌∷◌, ◌++◌, map, length, get_or, eqb, leb}
-use Rattle.std.specs.Prelude.{Option, Some}
+use Rattle.std.specs.Prelude.{ℕ, Bool, true, false, not, ◌&&◌, ◌||◌, cond, List, [], ◌∷◌, ◌++◌, map, length, get_or, eqb, leb, Option, Some}
 use Rattle.cells.specs.Cell.{operands_of, same_cells}
 use Rattle.formulas.specs.Normal.{Normal, taken}
 use Rattle.formulas.specs.Clauses.{cnf, empty_or, literal_total}

@@ -1,9 +1,8 @@
 -- The search among the variables that are taken out of a term in normal form: what is sought, and what the walk and its memo promise.
 -- The memo is no part of a public contract.
--- Rests on cells' Cell, on bindings' Binding, BindingAnswer and the library's `Option`, on free_pairs' BindingFree, on free_variables' Names, on formulas' Formula,
+-- Rests on cells' Cell, on bindings' Binding and BindingAnswer, on free_pairs' BindingFree, on free_variables' Names, on formulas' Formula,
 -- Normal and Built, and on the enums `Sought` and `Step`.
-use Rattle.std.specs.Prelude.{Option, Some, None}
-use Rattle.std.specs.Prelude.{ℕ, ◌<◌, ◌≡◌, Bool, true, not, ◌&&◌, List, get_or, set}
+use Rattle.std.specs.Prelude.{ℕ, ◌<◌, ◌≡◌, Bool, true, not, ◌&&◌, List, get_or, set, Option, Some, None}
 use Rattle.cells.specs.Cell.{operands_of}
 use Rattle.free_variables.specs.Names.{free_in, NamesMarked}
 use Rattle.formulas.specs.Formula.{all_before}

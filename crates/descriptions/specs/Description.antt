@@ -1,8 +1,7 @@
 -- Check 15 and adding a term: descriptions, which are a header's tag and cells.
 -- 01, "Pool": "No two headers describe the same thing."
 -- Rests on cells' Cell and Headers, and on the enum `Added`.
-use Rattle.std.specs.Prelude.{Option, Some, None}
-use Rattle.std.specs.Prelude.{ℕ, ◌+◌, ◌-◌, ◌≤◌, ◌≡◌, Bool, true, false, ◌||◌, cond, List, ◌∷◌, ◌++◌, length, get_or, take, replicate, ltb}
+use Rattle.std.specs.Prelude.{ℕ, ◌+◌, ◌-◌, ◌≤◌, ◌≡◌, Bool, true, false, ◌||◌, cond, List, ◌∷◌, ◌++◌, length, get_or, take, replicate, ltb, Option, Some, None}
 use Rattle.std.proofs.lemmas.List.Edits.{sets}
 use Rattle.cells.specs.Cell.{cells_of, is_at}
 use Rattle.cells.specs.Headers.{first_header}

@@ -2,8 +2,7 @@
 --     below 8,192    for each header 1 + the one before it in its bucket, 0 where there is none
 --     from there on  for each bucket 1 + the last header in it, 0 where there is none
 -- Rests on cells' Cell and Limits, on headers' WellFormed, and on Description and the enum `Added`.
-use Rattle.std.specs.Prelude.{Option, Some, None}
-use Rattle.std.specs.Prelude.{ℕ, zero, suc, ◌+◌, ◌-◌, ◌*◌, ◌%◌, ◌≤◌, ◌<◌, ◌≡◌, Bool, cond, List, [], ◌∷◌, length, get_or, set, eqb}
+use Rattle.std.specs.Prelude.{ℕ, zero, suc, ◌+◌, ◌-◌, ◌*◌, ◌%◌, ◌≤◌, ◌<◌, ◌≡◌, Bool, cond, List, [], ◌∷◌, length, get_or, set, eqb, Option, Some, None}
 use Rattle.cells.specs.Limits.{cell_limit}
 use Rattle.cells.specs.Cell.{cells_of, is_at}
 use Rattle.descriptions.specs.Description.{find, first_repeat}

@@ -2,8 +2,7 @@
 -- 01, "Normal form and clauses": "New terms go after the count in the order of the finished term, operands first and left to right, each
 -- once." A pool here is its used cells alone: two lists of one length.
 -- Rests on cells' ByPlace, Cell and Place, on descriptions' Description, and on Formula, Normal and the enum `NormalView`.
-use Rattle.std.specs.Prelude.{Option, Some, None}
-use Rattle.std.specs.Prelude.{ℕ, Bool, true, false, cond, List, [], ◌∷◌, ◌++◌, length, get_or, drop, replicate, eqb, ltb}
+use Rattle.std.specs.Prelude.{ℕ, Bool, true, false, cond, List, [], ◌∷◌, ◌++◌, length, get_or, drop, replicate, eqb, ltb, Option, Some, None}
 use Rattle.cells.specs.Cell.{operands_of}
 use Rattle.cells.specs.ByPlace.{by_place}
 use Rattle.cells.specs.Place.{term_at}

@@ -1,8 +1,7 @@
 -- The forms that the rules match: quantifiers, and operators with so many operands.
 -- 01: "`=` with exactly 2 operands, `not` with 1, `or` of `qnt_cnf` with 2, `ite` with 3"; choice and lambda are no quantifiers.
 -- Rests on cells' Cell and on bindings' Binding.
-use Rattle.std.specs.Prelude.{ℕ, Bool, true, false, cond, List, [], ◌∷◌, get_or, drop, eqb}
-use Rattle.std.specs.Prelude.{Option, Some, None}
+use Rattle.std.specs.Prelude.{ℕ, Bool, true, false, cond, List, [], ◌∷◌, get_or, drop, eqb, Option, Some, None}
 use Rattle.cells.specs.Cell.{operands_of}
 use Rattle.bindings.specs.Binding.{Binding, bindings_of}
 

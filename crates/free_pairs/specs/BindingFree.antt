@@ -1,7 +1,6 @@
 -- Whether the variable of a pair of a binding list is free in a term.
 -- Rests on bindings' Binding, on descriptions' Description, and on free_variables' Free.
-use Rattle.std.specs.Prelude.{Option, Some, None}
-use Rattle.std.specs.Prelude.{ℕ, Bool, false, List, [], ◌∷◌}
+use Rattle.std.specs.Prelude.{ℕ, Bool, false, List, [], ◌∷◌, Option, Some, None}
 use Rattle.descriptions.specs.Description.{find}
 use Rattle.bindings.specs.Binding.{Binding}
 use Rattle.free_variables.specs.Free.{is_free}

@@ -1,8 +1,7 @@
 -- Whether the variable of a pair of a binding list is in the list of a term's free variables. That it is exactly if it is free there is
 -- `binding-listed` of proofs/Listed.antt (02, S-6).
 -- Rests on bindings' Binding, on descriptions' Description, and on free_variables' Once and Appearing.
-use Rattle.std.specs.Prelude.{Option, Some, None}
-use Rattle.std.specs.Prelude.{ℕ, Bool, false, List, [], ◌∷◌, eqb}
+use Rattle.std.specs.Prelude.{ℕ, Bool, false, List, [], ◌∷◌, eqb, Option, Some, None}
 use Rattle.descriptions.specs.Description.{find}
 use Rattle.bindings.specs.Binding.{Binding}
 use Rattle.free_variables.specs.Once.{among}

@@ -1,7 +1,6 @@
 -- Pairs that a list lacks, free in a term; and the first of them by a mask.
 -- Rests on bindings' Binding and on BindingFree.
-use Rattle.std.specs.Prelude.{ℕ, ◌/◌, ◌%◌, Bool, not, ◌&&◌, cond, List, [], ◌∷◌, eqb}
-use Rattle.std.specs.Prelude.{Option, Some, None}
+use Rattle.std.specs.Prelude.{ℕ, ◌/◌, ◌%◌, Bool, not, ◌&&◌, cond, List, [], ◌∷◌, eqb, Option, Some, None}
 use Rattle.bindings.specs.Binding.{Binding, has}
 use Rattle.free_pairs.specs.BindingFree.{binding_free}
 

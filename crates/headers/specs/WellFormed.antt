@@ -1,8 +1,7 @@
 -- Check 14: a pool whose headers and cells are well formed, and the first header that is not.
 -- 01, "Pool, from src/ast/term.rs": the tags of sorts and terms, their cells, and what a cell that names a sort or term holds.
 -- Rests on cells' Bounded, Headers and TermTag, and on the enums `Shape` and `CellKind`.
-use Rattle.std.specs.Prelude.{Option}
-use Rattle.std.specs.Prelude.{ℕ, ◌+◌, ◌-◌, ◌%◌, Bool, true, false, not, ◌&&◌, ◌||◌, cond, List, get_or, leb, ltb, eqb}
+use Rattle.std.specs.Prelude.{ℕ, ◌+◌, ◌-◌, ◌%◌, Bool, true, false, not, ◌&&◌, ◌||◌, cond, List, get_or, leb, ltb, eqb, Option}
 use Rattle.cells.specs.Bounded.{every}
 use Rattle.cells.specs.Headers.{first_header}
 unfoldable pub use Rattle.cells.specs.TermTag.{is_term_tag, is_term}

@@ -1,8 +1,7 @@
 -- What the answers of `miniscope_ite` say.
 -- Rests on bindings' Binding, on formulas' Pattern and PatternAnswer, on MiniscopeDistribute and MiniscopeIte, and on the struct
 -- `ItePlaces`.
-use Rattle.std.specs.Prelude.{ℕ, Bool, true, false, List, eqb}
-use Rattle.std.specs.Prelude.{Option, Some, None}
+use Rattle.std.specs.Prelude.{ℕ, Bool, true, false, List, eqb, Option, Some, None}
 use Rattle.bindings.specs.Binding.{bindings_of}
 use Rattle.formulas.specs.Pattern.{Quantifier, quantifier, and_then}
 use Rattle.formulas.specs.PatternAnswer.{pairs_of}

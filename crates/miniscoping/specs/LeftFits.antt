@@ -1,7 +1,6 @@
 -- What rule 5 asks of its left side.
 -- Rests on cells' Cell and on formulas' Pattern.
-use Rattle.std.specs.Prelude.{ℕ, ◌≤◌, ◌≡◌, List, length}
-use Rattle.std.specs.Prelude.{Some}
+use Rattle.std.specs.Prelude.{ℕ, ◌≤◌, ◌≡◌, List, length, Some}
 use Rattle.cells.specs.Cell.{operands_of}
 use Rattle.formulas.specs.Pattern.{equality}
 

@@ -1,9 +1,8 @@
 -- Rule 4, `miniscope_distribute`: `(= (forall L (and ..)) (and (forall L ..) ..))`, or with exists and `or`.
 -- 01: "2, 11, then by operand 2, 6, 5."
 -- Rests on answers' Outcome, on bindings' Binding, and on formulas' Pattern.
-use Rattle.std.specs.Prelude.{ℕ, Bool, true, false, cond, List, [], ◌∷◌, length, eqb}
+use Rattle.std.specs.Prelude.{ℕ, Bool, true, false, cond, List, [], ◌∷◌, length, eqb, Option, Some, None}
 use Rattle.std.specs.Bool.{beq}
-use Rattle.std.specs.Prelude.{Option, Some, None}
 use Rattle.answers.specs.Outcome.{Outcome, pass, ◌>>=◌, ◌>>◌, need, guard}
 use Rattle.bindings.specs.Binding.{Binding, same_all}
 use Rattle.formulas.specs.Pattern.{Quantifier, quantifier, operator, equality, and_then}

@@ -1,8 +1,7 @@
 -- Rule 6, `miniscope_ite`: `(= (forall L (ite a b c)) (ite a (forall L b) (forall L c)))`.
 -- 01: "2, 6, 6, 12." "A name written twice in a pattern means equal terms"; forall only. 12 carries the first operand of `ite`.
 -- Rests on answers' Outcome, on bindings' Binding, on free_pairs' BindingFree, and on formulas' Pattern.
-use Rattle.std.specs.Prelude.{ℕ, Bool, true, false, ◌&&◌, cond, List, eqb}
-use Rattle.std.specs.Prelude.{Option, Some, None}
+use Rattle.std.specs.Prelude.{ℕ, Bool, true, false, ◌&&◌, cond, List, eqb, Option, Some, None}
 use Rattle.answers.specs.Outcome.{Outcome, ◌>>=◌, ◌>>◌, need, guard, unless}
 use Rattle.bindings.specs.Binding.{Binding, same_all, first_of}
 use Rattle.free_pairs.specs.BindingFree.{binding_free}

@@ -1,7 +1,6 @@
 -- What the answers of `sides` say.
 -- Rests on cells' Cell, on bindings' Binding, on formulas' PatternAnswer, on MiniscopeDistribute, and on the struct `Places`.
-use Rattle.std.specs.Prelude.{ℕ, List}
-use Rattle.std.specs.Prelude.{Option, Some, None}
+use Rattle.std.specs.Prelude.{Option, Some, None, ℕ, List}
 use Rattle.cells.specs.Cell.{operands_of}
 use Rattle.bindings.specs.Binding.{bindings_of}
 use Rattle.formulas.specs.PatternAnswer.{pairs_of}

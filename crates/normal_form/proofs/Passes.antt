@@ -4,12 +4,11 @@
 --     normal-form-passes     of the normal form's call
 --     clause-list-passes     of the clause list's
 -- Assumes nothing.
-use Rattle.std.specs.Prelude.{None}
+use Rattle.std.specs.Prelude.{None, Some}
 use Prim.Native.Nat.{ℕ, ◌+◌, ◌≤◌, ◌<◌}
 use mathlib.Core.Path.{◌≡◌, refl, sym, ap, ◌∙◌}
 use mathlib.Core.Bool.{Bool, true, not}
 use mathlib.Core.List.{List, [], ◌∷◌}
-use Rattle.std.specs.Prelude.{Some}
 use lib.ListN.{length, get_or}
 use lib.Seq.{get_or-take}
 use lib.Dec.{ltb}

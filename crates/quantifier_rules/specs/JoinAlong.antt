@@ -1,10 +1,9 @@
 -- What the comparison of joined lists says of itself. As long as the lists agree, the pair before is the one before j in the right list.
 -- Rests on bindings' Binding and BindingAnswer, and on QntJoin.
-use Rattle.std.specs.Prelude.{ℕ, ◌-◌, ◌≡◌, Bool, false, not, ◌&&◌, cond, List, ◌++◌, drop, ltb}
+use Rattle.std.specs.Prelude.{ℕ, ◌-◌, ◌≡◌, Bool, false, not, ◌&&◌, cond, List, ◌++◌, drop, ltb, Option, Some, None}
 use Rattle.bindings.specs.Binding.{Binding, bindings_of, same, same_all}
 use Rattle.bindings.specs.BindingAnswer.{pair_at}
 use Rattle.quantifier_rules.specs.QntJoin.{after_pair, without_adjacent}
-use Rattle.std.specs.Prelude.{Option, Some, None}
 
 -- a pair equals the one before j
 unfoldable pub is_repeat : List ℕ → ℕ → Binding → Bool

@@ -1,9 +1,8 @@
 -- Rule 2, `qnt_rm_unused`.
 -- 01: "form; left quantifier; accept if no left variable is free in the body and the right is that body; right quantifier, 4, 5, 8, 9."
 -- Rests on answers' Outcome, on bindings' Binding, on free_pairs' BindingFree, and on formulas' Formula and Pattern.
-use Rattle.std.specs.Prelude.{ℕ, Bool, true, false, not, ◌&&◌, cond, List, eqb}
+use Rattle.std.specs.Prelude.{ℕ, Bool, true, false, not, ◌&&◌, cond, List, eqb, Option, Some, None}
 use Rattle.std.specs.Bool.{beq}
-use Rattle.std.specs.Prelude.{Option, Some, None}
 use Rattle.answers.specs.Outcome.{Outcome, pass, ◌>>=◌, ◌>>◌, need, guard, unless}
 use Rattle.bindings.specs.Binding.{Binding, has, first_of}
 use Rattle.free_pairs.specs.BindingFree.{binding_free}

@@ -3,8 +3,7 @@
 -- state: before the first wrong place they are the computed ones. No two headers of the pool describe the same thing, so that a sort is
 -- its place. The table of rules is a parameter.
 -- Rests on cells' Cell and Headers, on headers' WellFormed, and on the enum `Special`.
-use Rattle.std.specs.Prelude.{Option}
-use Rattle.std.specs.Prelude.{ℕ, ◌+◌, ◌-◌, Bool, true, false, not, ◌&&◌, ◌||◌, cond, length, get_or, drop, leb, ltb, eqb}
+use Rattle.std.specs.Prelude.{ℕ, ◌+◌, ◌-◌, Bool, true, false, not, ◌&&◌, ◌||◌, cond, length, get_or, drop, leb, ltb, eqb, Option}
 use mathlib.Core.List.{List, [], ◌∷◌, ◌++◌, map, reverse, drop_last}
 use Rattle.cells.specs.Cell.{cells_of, sort_of, operands_of, is_at}
 use Rattle.cells.specs.Headers.{first_header}

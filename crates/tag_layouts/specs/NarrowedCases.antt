@@ -1,9 +1,8 @@
 -- Why the correspondence rests on the order of the checks, by computation: 15 alone and 16 alone do tell a list of tags from its narrowed one.
 -- 01, "What stops a step": "Checks run 30, 14, 15, 16, ..", so that 14 has refused such a list.
--- Rests on cells' Bounded, Cell, Headers and the library's `Option`, on headers' WellFormed, on descriptions' Description, on sorts' SortRule, on pool's
--- Check, and on Narrowed.
-use Rattle.std.specs.Prelude.{Some, None}
-use Rattle.std.specs.Prelude.{ℕ, ◌≡◌, refl, List, [], ◌∷◌, replicate}
+-- Rests on cells' Bounded, Cell and Headers, on headers' WellFormed, on descriptions' Description, on sorts' SortRule, on pool's Check, and on
+-- Narrowed.
+use Rattle.std.specs.Prelude.{ℕ, ◌≡◌, refl, List, [], ◌∷◌, replicate, Some, None}
 use Rattle.cells.specs.Bounded.{every_in, every}
 use Rattle.cells.specs.Cell.{cells_of, sort_of, operands_of, same_cells, is_at}
 use Rattle.cells.specs.Headers.{first_in, first_from, first_header}

@@ -1,7 +1,6 @@
 -- Laws of the comparison of the right quantifier with the clauses: one for each answer, and that it reads the pool alone.
 -- Assumes nothing.
-use Rattle.std.specs.Prelude.{Option}
-use Rattle.std.specs.Prelude.{Some, None}
+use Rattle.std.specs.Prelude.{Some, None, Option}
 use Prim.Native.Nat.{ℕ, ◌<◌}
 use mathlib.Core.Path.{◌≡◌, refl, sym, ap, ap₂, fun_ext, ◌∙◌}
 use mathlib.Core.Bool.{Bool, true, false, not, ◌&&◌}

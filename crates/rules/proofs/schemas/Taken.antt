@@ -3,12 +3,11 @@
 --     new-there, new-back          refusal 8
 --     missing-there, missing-back  refusal 9
 -- Assumes nothing.
-use Rattle.std.specs.Prelude.{Option, Some}
+use Rattle.std.specs.Prelude.{Option, Some, None}
 use Prim.Native.Nat.{ℕ, ◌+◌, ◌<◌}
 use mathlib.Core.Path.{◌≡◌, refl, sym, ap, ap₂, ◌∙◌}
 use mathlib.Core.Bool.{Bool, true, false, not, ◌&&◌, ◌||◌, and-false}
 use mathlib.Core.List.{List, [], ◌∷◌, ◌++◌}
-use Rattle.std.specs.Prelude.{None}
 use lib.ListN.{get_or}
 use lib.Seq.{get_or-take}
 use native.Mathlib.Omega.{arith}
