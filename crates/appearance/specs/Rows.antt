@@ -3,6 +3,7 @@
 -- Rests on free_variables' Names and FreeMemo, and on Bits and Pairs.
 use Rattle.std.specs.Prelude.{ℕ, zero, suc, ◌+◌, ◌/◌, ◌≤◌, ◌<◌, ◌≡◌, Bool, true, false, cond, List, length, get_or, eqb}
 use Rattle.free_variables.specs.Names.{free_in}
+use Rattle.free_variables.specs.declared.pair_kind.PairKind.{PairKind}
 use Rattle.free_variables.specs.FreeMemo.{pairs_bind}
 use Rattle.appearance.specs.Bits.{in_row}
 use Rattle.appearance.specs.Pairs.{IndexedVariables}
@@ -63,11 +64,11 @@ pub record Adds (tags : List ℕ) (words : ℕ) (a : List ℕ) (m to : ℕ) (a' 
 
 -- what taking out the pairs of a run from the row at `to` leaves: the list below it and, of a pool whose variables are indexed and
 -- numbered, every variable that the pairs do not bind
-pub record Drops (tags values index a : List ℕ) (to : ℕ) (a' : List ℕ) (lets : Bool) (run : List ℕ) : Type 0 where
+pub record Drops (tags values index a : List ℕ) (to : ℕ) (a' : List ℕ) (kind : PairKind) (run : List ℕ) : Type 0 where
   pub long : length a' ≡ length a
   pub below : (i : ℕ) → i < to → get_or a' i 0 ≡ get_or a i 0
   pub kept : (n v : ℕ) → IndexedVariables tags values n index → Numbered tags n a → n ≤ to → v < n → get_or tags v 0 ≡ 21
-      → pairs_bind values lets v run ≡ false → in_row a to (number_of tags v) ≡ true → in_row a' to (number_of tags v) ≡ true
+      → pairs_bind values kind v run ≡ false → in_row a to (number_of tags v) ≡ true → in_row a' to (number_of tags v) ≡ true
 
 -- what making the row of the term at t leaves: the list below it and, of a pool whose variables are indexed and in which it is the next
 -- row, what is free in the term

@@ -8,6 +8,9 @@ use Rattle.descriptions.specs.Index.{PointsBack}
 use Rattle.free_variables.specs.Free.{is_free}
 use Rattle.free_variables.specs.Once.{among, leave_out, firsts}
 use Rattle.free_variables.specs.Occurs.{occurs_among}
+use Rattle.free_variables.specs.declared.pair_kind.PairKind.{PairKind}
+use Rattle.appearance.specs.declared.compute_free_vars.Rows.{Rows}
+use Rattle.appearance.specs.declared.compute_free_vars.Found.{Found}
 use Rattle.appearance.specs.Bits.{in_row, with_bit, without_bit, meets}
 use Rattle.appearance.specs.Pairs.{place_of, binders_of}
 use Rattle.appearance.specs.Rows.{number_of}
@@ -62,16 +65,16 @@ abbrev pub limit_at : ℕ → ℕ
 limit_at t = cell_limit * (cell_limit - t)
 
 -- every count is higher, or lower again, by the pairs that bind the place
-pub record Hid (tags values index : List ℕ) (lets : Bool) (pairs state state' : List ℕ) : Type 0 where
-  pub counts : (v : ℕ) → v < cell_limit → get_or state' v 0 ≡ get_or state v 0 + binders_of tags values index lets pairs v
+pub record Hid (tags values index : List ℕ) (kind : PairKind) (pairs state state' : List ℕ) : Type 0 where
+  pub counts : (v : ℕ) → v < cell_limit → get_or state' v 0 ≡ get_or state v 0 + binders_of tags values index kind pairs v
   pub wanted : Wanted tags values index state'
 
 -- every place has as many reasons as pairs that bind it
-pub record Bound (tags values index : List ℕ) (lets : Bool) (pairs state : List ℕ) : Type 0 where
-  pub at : (v : ℕ) → v < cell_limit → binders_of tags values index lets pairs v ≤ get_or state v 0
+pub record Bound (tags values index : List ℕ) (kind : PairKind) (pairs state : List ℕ) : Type 0 where
+  pub at : (v : ℕ) → v < cell_limit → binders_of tags values index kind pairs v ≤ get_or state v 0
 
-pub record Shown (tags values index : List ℕ) (lets : Bool) (pairs state state' : List ℕ) : Type 0 where
-  pub counts : (v : ℕ) → v < cell_limit → get_or state' v 0 + binders_of tags values index lets pairs v ≡ get_or state v 0
+pub record Shown (tags values index : List ℕ) (kind : PairKind) (pairs state state' : List ℕ) : Type 0 where
+  pub counts : (v : ℕ) → v < cell_limit → get_or state' v 0 + binders_of tags values index kind pairs v ≡ get_or state v 0
   pub wanted : Wanted tags values index state'
 
 -- the variable at v is not wanted
@@ -129,3 +132,17 @@ pub record Places (places found : List ℕ) (len : ℕ) : Type 0 where
 pub record Fresh (state : List ℕ) : Type 0 where
   pub size : length state ≡ state_size
   pub zeroes : (v : ℕ) → get_or state v 0 ≡ 0
+
+-- the same, of the walk's structs
+abbrev pub Asks : List ℕ → List ℕ → Rows → Found → ℕ → Type 0
+Asks tags values rows found t = Ask tags values rows.index.now rows.table.now rows.words found.state.now found.places.now found.len t
+
+abbrev pub Finds : List ℕ → List ℕ → Rows → Found → List ℕ → Found → Type 0
+Finds tags values rows before occurrences after =
+    Walked tags values rows.index.now before.state.now before.places.now before.len occurrences after.state.now after.places.now after.len
+
+-- the walk's arrays are those that they were
+pub record SameArrays (before after : Found) : Type 0 where
+  pub state : after.state.ghost_name ≡ before.state.ghost_name
+  pub places : after.places.ghost_name ≡ before.places.ghost_name
+  pub long : length after.places.now ≡ length before.places.now

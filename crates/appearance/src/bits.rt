@@ -11,7 +11,7 @@ pub fn set_bit(a: &mut [u32], from: u32, k: u32)
 {
     let i = from as usize + (k / 32) as usize;
     if i < a.len() {
-        a[i] = a[i] | (1 << (k % 32));
+        a[i] |= 1 << (k % 32);
     }
 }
 
@@ -25,7 +25,7 @@ pub fn clear_bit(a: &mut [u32], from: u32, k: u32)
         return;
     }
     if i < a.len() {
-        a[i] = a[i] ^ bit;
+        a[i] ^= bit;
     }
 }
 

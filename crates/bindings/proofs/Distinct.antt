@@ -18,7 +18,7 @@ pub clash : {P : Type 0} (b : Bool) → b ≡ true → b ≡ false → P
 clash b y n = absurd (let z : ◌≡◌ {A = ℕ} 0 1 = cc in omega arith)
 
 -- ---- lists of pairs
-or_assoc : (x y z : Bool) → (x || y) || z ≡ x || (y || z)
+pub or_assoc : (x y z : Bool) → (x || y) || z ≡ x || (y || z)
 or_assoc true y z = refl
 or_assoc false y z = refl
 

@@ -7,7 +7,7 @@
 --     5 * b + 4    1 + the last pair of bucket b, 0 where there is none
 -- A bucket for each record.
 -- Rests on cells' Limits, on answers' Outcome and Refusal, and on Binding, Used and Distinct.
-use Rattle.std.specs.Prelude.{ℕ, zero, suc, ◌+◌, ◌*◌, ◌/◌, ◌%◌, ◌≤◌, ◌<◌, ◌≡◌, Bool, true, false, ◌&&◌, not, cond, List, [], ◌∷◌, ◌++◌, length, get_or, set, eqb, Result}
+use Rattle.std.specs.Prelude.{ℕ, zero, suc, ◌+◌, ◌*◌, ◌/◌, ◌%◌, ◌≤◌, ◌<◌, ◌≡◌, Bool, true, false, ◌&&◌, not, cond, List, [], ◌∷◌, ◌++◌, length, get_or, set, eqb, Option, Some, None, Result}
 use Rattle.cells.specs.Limits.{cell_limit}
 use Rattle.answers.specs.Outcome.{Outcome}
 use Rattle.answers.specs.Refusal.{outcome_of}
@@ -22,6 +22,11 @@ pair_in cells k = record { name = get_or cells (5 * k) 0; sort = get_or cells (5
 
 abbrev pub link_of : List ℕ → ℕ → ℕ
 link_of cells k = get_or cells (5 * k + 3) 0
+
+-- the pair that a cell of a chain names
+abbrev pub named : ℕ → Option ℕ
+named zero = None
+named (suc k) = Some k
 
 abbrev pub head_of : List ℕ → ℕ → ℕ
 head_of cells b = get_or cells (5 * b + 4) 0
@@ -42,12 +47,12 @@ left_below cells (suc k) = left_below cells k ++ cond (still_left cells k) (pair
 unfoldable pub left_in : List ℕ → List Binding
 left_in cells = left_below cells (length cells)
 
--- 1 + the place where a stands among the first n pairs, as long as it is left, and 0 where it does not: by a scan
-unfoldable pub scan_below : List ℕ → Binding → ℕ → ℕ
-scan_below cells a zero = 0
-scan_below cells a (suc k) = cond (is_pair cells a k) (suc k) (scan_below cells a k)
+-- the place where a stands among the first n pairs, as long as it is left: by a scan
+unfoldable pub scan_below : List ℕ → Binding → ℕ → Option ℕ
+scan_below cells a zero = None
+scan_below cells a (suc k) = cond (is_pair cells a k) (Some k) (scan_below cells a k)
 
-unfoldable pub scan : List ℕ → Binding → ℕ
+unfoldable pub scan : List ℕ → Binding → Option ℕ
 scan cells a = scan_below cells a (length cells)
 
 -- the bucket of a pair, in an array of this size

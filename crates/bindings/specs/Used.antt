@@ -31,12 +31,6 @@ is_left a m b = eqb m 0 && same b a
 unfoldable pub mark_of : Binding → ℕ → Binding → ℕ
 mark_of a m b = cond (same b a) 1 m
 
--- the marks once a is used
-unfoldable pub marked : Binding → List ℕ → List Binding → List ℕ
-marked a [] bs = []
-marked a (m ∷ ms) [] = m ∷ ms
-marked a (m ∷ ms) (b ∷ bs) = mark_of a m b ∷ marked a ms bs
-
 -- r says whether a was left; then it is used, and otherwise nothing changes
 pub record Uses (a : Binding) (outer : List Binding) (used : List ℕ) (r : Bool) (after : List ℕ) : Type 0 where
   pub was : r ≡ has (left_of used outer) a

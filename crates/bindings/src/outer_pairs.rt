@@ -4,7 +4,7 @@ ghost use Rattle.std.specs.Prelude.{◌≡◌, ◌≤◌, length};
 ghost use Rattle.bindings.specs.Binding.{bindings_of};
 ghost use Rattle.bindings.specs.BindingAnswer.{binding};
 ghost use Rattle.bindings.specs.Used.{use_all};
-ghost use Rattle.bindings.specs.OuterPairs.{left_in, is_pair, link_of, scan, Prepared, Bucket, entered, Room, Filled, Puts, Blank, PreparedFor, UsesPrepared, Leaves};
+ghost use Rattle.bindings.specs.OuterPairs.{left_in, is_pair, link_of, named, scan, Prepared, Bucket, entered, Room, Filled, Puts, Blank, PreparedFor, UsesPrepared, Leaves};
 
 use crate::pairs::pairs_of;
 use answers::refusal::Refusal;
@@ -37,27 +37,34 @@ fn is_pair(prepared: &[u32], k: u32, pair: Variable) -> bool
     its_pair == pair
 }
 
-// One more than the pair before k in its bucket, or 0.
-fn link(prepared: &[u32], k: u32) -> u32
-    ensures { result ≡ link_of prepared.now k }
+// The pair that a cell of a chain names. The cell holds one more than it, or 0 for none: the array is of u32 alone.
+fn named(cell: u32) -> Option<u32>
+    ensures { result ≡ named cell }
 {
-    run::cell(prepared, RECORD * (k as usize) + 3)
+    cell.checked_sub(1)
 }
 
-// One more than the place of this pair among those that are left, or 0: what a scan of them finds.
-fn find(prepared: &[u32], pair: Variable) -> u32
+// The pair before k in its bucket.
+fn link(prepared: &[u32], k: u32) -> Option<u32>
+    ensures { result ≡ named (link_of prepared.now k) }
+{
+    named(run::cell(prepared, RECORD * (k as usize) + 3))
+}
+
+// The place of this pair among those that are left: what a scan of them finds.
+fn find(prepared: &[u32], pair: Variable) -> Option<u32>
     requires { Prepared prepared.now }
     ensures { result ≡ scan prepared.now (binding pair) }
 {
-    let mut c = prepared[RECORD * bucket(prepared, pair) + 4];
+    let mut next = named(prepared[RECORD * bucket(prepared, pair) + 4]);
     // Kept: each record names the next one of its chain, so no range and no iterator over places fits.
-    while 0 < c {
-        if is_pair(prepared, c - 1, pair) {
-            return c;
+    while let Some(k) = next {
+        if is_pair(prepared, k, pair) {
+            return Some(k);
         }
-        c = link(prepared, c - 1);
+        next = link(prepared, k);
     }
-    0
+    None
 }
 
 // Enters this pair as pair k, in front of the chain of bucket b.
@@ -82,7 +89,7 @@ fn put(prepared: &mut [u32], k: usize, pair: Variable) -> usize
     requires room { Room prepared.old k }
     ensures { Puts (binding pair) prepared.old k prepared.new result }
 {
-    if find(prepared, pair) != 0 {
+    if find(prepared, pair).is_some() {
         return k;
     }
     let b = bucket(prepared, pair);
@@ -106,11 +113,10 @@ fn use_pair(prepared: &mut [u32], pair: Variable) -> bool
     requires { Prepared prepared.old }
     ensures { UsesPrepared (binding pair) prepared.old result prepared.new }
 {
-    let c = find(prepared, pair);
-    if c == 0 {
+    let Some(k) = find(prepared, pair) else {
         return false;
-    }
-    prepared[RECORD * ((c - 1) as usize) + 2] = 0;
+    };
+    prepared[RECORD * (k as usize) + 2] = 0;
     true
 }
 

@@ -1,9 +1,9 @@
 // Rule 5's use of the outer pairs. A byte for each pair of the outer list says whether it is left (0) or used.
 ghost use Rattle.std.specs.Prelude.{◌≡◌};
-ghost use Rattle.bindings.specs.Binding.{bindings_of, has};
+ghost use Rattle.bindings.specs.Binding.{bindings_of};
 ghost use Rattle.answers.specs.Refusal.{outcome_of};
 ghost use Rattle.bindings.specs.BindingAnswer.{binding};
-ghost use Rattle.bindings.specs.Used.{use_all, left_of, is_left, mark_of, marked, Uses};
+ghost use Rattle.bindings.specs.Used.{use_all, left_of, is_left, mark_of, Uses};
 
 use crate::pairs::pairs_of;
 use answers::refusal::Refusal;
@@ -16,22 +16,6 @@ fn is_left_pair(mark: u8, pair: Variable, sought: Variable) -> bool
     mark == 0 && pair == sought
 }
 
-// Whether the pair is left.
-fn is_left(outer: &[u32], used: &[u8], sought: Variable) -> bool
-    ensures { result ≡ has (left_of used.now (bindings_of outer.now)) (binding sought) }
-{
-    let mut left = pairs_of(outer);
-    for mark in used {
-        let Some(pair) = left.next() else {
-            return false;
-        };
-        if is_left_pair(*mark, pair, sought) {
-            return true;
-        }
-    }
-    false
-}
-
 // The byte of the pair once this one is used.
 fn mark_of(mark: u8, pair: Variable, used: Variable) -> u8
     ensures { result ≡ mark_of (binding used) mark (binding pair) }
@@ -39,28 +23,21 @@ fn mark_of(mark: u8, pair: Variable, used: Variable) -> u8
     if pair == used { 1 } else { mark }
 }
 
-// Marks every pair that is this one.
-fn mark_used(outer: &[u32], used: &mut [u8], sought: Variable)
-    ensures { used.new ≡ marked (binding sought) used.old (bindings_of outer.now) }
-{
-    let mut left = pairs_of(outer);
-    for mark in used.iter_mut() {
-        let Some(pair) = left.next() else {
-            return;
-        };
-        *mark = mark_of(*mark, pair, sought);
-    }
-}
-
-// Uses the pair, wherever the outer list has it, if it is left.
+// Uses the pair, wherever the outer list has it, if it is left: whether it was.
+// In one pass that never ends early, which LLVM turns into vector code: a search first, and then a pass that marks, takes longer.
 fn use_pair(outer: &[u32], used: &mut [u8], pair: Variable) -> bool
     ensures { Uses (binding pair) (bindings_of outer.now) used.old result used.new }
 {
-    if is_left(outer, used, pair) {
-        mark_used(outer, used, pair);
-        return true;
+    let mut was_left = false;
+    let mut left = pairs_of(outer);
+    for mark in used.iter_mut() {
+        let Some(other) = left.next() else {
+            return was_left;
+        };
+        was_left |= is_left_pair(*mark, other, pair);
+        *mark = mark_of(*mark, other, pair);
     }
-    false
+    was_left
 }
 
 // Uses each pair of an inner list: a refusal for the first that is not left.

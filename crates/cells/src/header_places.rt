@@ -1,7 +1,5 @@
 // The headers of a pool in order.
-ghost use Rattle.std.specs.Prelude.{◌≡◌, ◌<◌, All};
 ghost use Rattle.std.specs.Iterator.{YieldsFirst, item_count};
-ghost use Rattle.cells.specs.Headers.{headers_from};
 ghost use Rattle.cells.specs.HeadersLeft.{headers_left};
 
 use crate::run::cell;
@@ -9,17 +7,9 @@ use crate::run::cell;
 // The places of the headers from `next` on, below the count n: one at 0, and after a header at p with k cells the next at p + 1 + k.
 #[derive(Clone, Copy)]
 pub struct HeaderPlaces<'a> {
-    values: &'a [u32],
-    n: usize,
-    next: usize,
-}
-
-// The headers of the first n cells.
-pub fn header_places(values: &[u32], n: usize) -> HeaderPlaces<'_>
-    ensures left { headers_left result ≡ headers_from values.now n 0 }
-    ensures below { All (λ p. p < n) (headers_left result) }
-{
-    HeaderPlaces { values, n, next: 0 }
+    pub(crate) values: &'a [u32],
+    pub(crate) n: usize,
+    pub(crate) next: usize,
 }
 
 impl Iterator for HeaderPlaces<'_> {

@@ -1,10 +1,11 @@
-// Cells of a shared term pool in document 01's packed form: two arrays of one length, tags in bytes and values in u32.
+// A shared term pool in document 01's packed form: two arrays of one length, tags in bytes and values in u32.
 #![tactic(auto)]
 
 pub mod cell_comparison;
 pub mod header_places;
 pub mod limits;
 pub mod marks;
+pub mod pool;
 pub mod run;
 pub mod tags;
 pub mod variable;

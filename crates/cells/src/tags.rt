@@ -1,8 +1,6 @@
-// The tags of document 01 by their names, a byte each; the tag of a cell, and whether a place is a term's.
-ghost use Rattle.std.specs.Prelude.{◌≡◌, get_or};
-ghost use Rattle.cells.specs.TermTag.{is_term_tag, is_term};
-
-use crate::TermPlace;
+// The tags of document 01 by their names, a byte each, and which of them are terms'.
+ghost use Rattle.std.specs.Prelude.{◌≡◌};
+ghost use Rattle.cells.specs.TermTag.{is_term_tag};
 
 // Sorts.
 pub const BOOL: u8 = 1;
@@ -69,24 +67,9 @@ pub const ITE: u8 = 41;
 
 pub const REL_PRODUCT: u8 = 166;
 
-// The tag at i, and 0 past the end.
-pub fn tag_at(tags: &[u8], i: usize) -> u8
-    ensures { result ≡ get_or tags.now i 0 }
-{
-    tags.get(i).copied().unwrap_or(0)
-}
-
 // Whether a header with this tag is a term's, in a pool that passes check 14.
 pub fn is_term_tag(tag: u8) -> bool
     ensures { result ≡ is_term_tag tag }
 {
     INTEGER <= tag
-}
-
-// Whether t is the place of a term of a well-formed pool.
-pub fn is_term(tags: &[u8], n: usize, t: TermPlace) -> bool
-    ensures { result ≡ is_term tags.now n t.0 }
-{
-    let at = t.0 as usize;
-    at < n && is_term_tag(tag_at(tags, at))
 }

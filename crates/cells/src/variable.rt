@@ -1,5 +1,4 @@
 // Variables.
-ghost use Rattle.std.specs.Prelude.{◌≡◌};
 
 use crate::SortPlace;
 

@@ -1,12 +1,10 @@
 -- Check 15 and adding a term: descriptions, which are a header's tag and cells.
 -- 01, "Pool": "No two headers describe the same thing."
--- Rests on cells' Cell and Headers, and on the enum `Added`.
+-- Rests on cells' Cell and Headers.
 use Rattle.std.specs.Prelude.{ℕ, ◌+◌, ◌-◌, ◌≤◌, ◌≡◌, Bool, true, false, ◌||◌, cond, List, ◌∷◌, ◌++◌, length, get_or, take, replicate, ltb, Option, Some, None}
 use Rattle.std.proofs.lemmas.List.Edits.{sets}
 use Rattle.cells.specs.Cell.{cells_of, is_at}
 use Rattle.cells.specs.Headers.{first_header}
-use Rattle.descriptions.specs.declared.description.Added.{Added}
-use Rattle.descriptions.specs.declared.description.Added.TheVariants.{There, New, Full}
 
 -- the first header below n with this tag and these cells
 unfoldable pub find : List ℕ → List ℕ → ℕ → ℕ → List ℕ → Option ℕ
@@ -30,34 +28,37 @@ unfoldable pub is_full : List ℕ → List ℕ → ℕ → ℕ → ℕ → Bool
 is_full tags values limit n k =
     ltb 4294967295 k || (ltb (length tags) (n + 1 + k) || (ltb (length values) (n + 1 + k) || ltb limit (n + 1 + k)))
 
--- an answer, and what the two arrays then hold
+-- the place or no room, the count then, and what the two arrays then hold
 pub record Adding : Type 0 where
-  pub answer : Added
+  pub place : Option ℕ
+  pub count : ℕ
   pub tags : List ℕ
   pub values : List ℕ
 
 unfoldable pub append : List ℕ → List ℕ → ℕ → ℕ → ℕ → List ℕ → Adding
 append tags values limit n tag cells =
     cond (is_full tags values limit n (length cells))
-    (record { answer = Full; tags = tags; values = values })
+    (record { place = None; count = n; tags = tags; values = values })
     (record {
-      answer = New n (n + 1 + length cells);
+      place = Some n;
+      count = n + 1 + length cells;
       tags = sets tags n (tag ∷ replicate (length cells) 0);
       values = sets values n (length cells ∷ cells);
     })
 
-unfoldable pub found_or : List ℕ → List ℕ → Option ℕ → Adding → Adding
-found_or tags values (Some p) new = record { answer = There p; tags = tags; values = values }
-found_or tags values None new = new
+unfoldable pub found_or : List ℕ → List ℕ → ℕ → Option ℕ → Adding → Adding
+found_or tags values n (Some p) new = record { place = Some p; count = n; tags = tags; values = values }
+found_or tags values n None new = new
 
 -- the place of an equal description; or the description after the count, and the new count; or no room, and nothing changed
 unfoldable pub adding : List ℕ → List ℕ → ℕ → ℕ → ℕ → List ℕ → Adding
 adding tags values limit n tag cells =
-    found_or tags values (find tags values n tag cells) (append tags values limit n tag cells)
+    found_or tags values n (find tags values n tag cells) (append tags values limit n tag cells)
 
--- r is the answer, and tags' and values' are the arrays
-pub record Added-is (tags values : List ℕ) (limit n tag : ℕ) (cells : List ℕ) (r : Added) (tags' values' : List ℕ) : Type 0 where
-  pub answer : r ≡ (adding tags values limit n tag cells).answer
+-- r is the place, m the count, and tags' and values' are the arrays
+pub record Added-is (tags values : List ℕ) (limit n tag : ℕ) (cells : List ℕ) (r : Option ℕ) (m : ℕ) (tags' values' : List ℕ) : Type 0 where
+  pub place : r ≡ (adding tags values limit n tag cells).place
+  pub count : m ≡ (adding tags values limit n tag cells).count
   pub tags-are : tags' ≡ (adding tags values limit n tag cells).tags
   pub values-are : values' ≡ (adding tags values limit n tag cells).values
 

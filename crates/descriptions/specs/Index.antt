@@ -1,14 +1,12 @@
 -- An index of descriptions by hash: the headers of each bucket stand in a chain, the last one first. It is one array,
 --     below 8,192    for each header 1 + the one before it in its bucket, 0 where there is none
 --     from there on  for each bucket 1 + the last header in it, 0 where there is none
--- Rests on cells' Cell and Limits, on headers' WellFormed, and on Description and the enum `Added`.
+-- Rests on cells' Cell and Limits, on headers' WellFormed, and on Description.
 use Rattle.std.specs.Prelude.{ℕ, zero, suc, ◌+◌, ◌-◌, ◌*◌, ◌%◌, ◌≤◌, ◌<◌, ◌≡◌, Bool, cond, List, [], ◌∷◌, length, get_or, set, eqb, Option, Some, None}
 use Rattle.cells.specs.Limits.{cell_limit}
 use Rattle.cells.specs.Cell.{cells_of, is_at}
 use Rattle.descriptions.specs.Description.{find, first_repeat}
 use Rattle.headers.specs.WellFormed.{first_bad}
-use Rattle.descriptions.specs.declared.description.Added.{Added}
-use Rattle.descriptions.specs.declared.description.Added.TheVariants.{There, New, Full}
 
 -- the number of buckets
 abbrev pub bucket_count : ℕ
@@ -26,23 +24,19 @@ bucket_of tag cells = hash_from (tag % bucket_count) cells
 abbrev pub head_of : List ℕ → ℕ → ℕ
 head_of index b = get_or index (cell_limit + b) 0
 
--- 1 + the first header on the chain from c where the test holds, and `last` where it holds at none, among at most f headers
-unfoldable pub chain_in : List ℕ → (ℕ → Bool) → ℕ → ℕ → ℕ → ℕ
+-- the first header on the chain from c where the test holds, and `last` where it holds at none, among at most f headers
+unfoldable pub chain_in : List ℕ → (ℕ → Bool) → ℕ → ℕ → Option ℕ → Option ℕ
 chain_in index test zero c last = last
 chain_in index test (suc f) zero last = last
-chain_in index test (suc f) (suc q) last = chain_in index test f (get_or index q 0) (cond (test q) (suc q) last)
+chain_in index test (suc f) (suc q) last = chain_in index test f (get_or index q 0) (cond (test q) (Some q) last)
 
 -- the same among all headers, of which there are at most c where links point back
-unfoldable pub on_chain : List ℕ → (ℕ → Bool) → ℕ → ℕ → ℕ
+unfoldable pub on_chain : List ℕ → (ℕ → Bool) → ℕ → Option ℕ → Option ℕ
 on_chain index test c last = chain_in index test c c last
-
-abbrev pub as_found : ℕ → Option ℕ
-as_found zero = None
-as_found (suc q) = Some q
 
 -- what the index has of a description
 unfoldable pub look_up : List ℕ → List ℕ → List ℕ → ℕ → List ℕ → Option ℕ
-look_up tags values index tag cells = as_found (on_chain index (λ q. is_at tags values q tag cells) (head_of index (bucket_of tag cells)) 0)
+look_up tags values index tag cells = on_chain index (λ q. is_at tags values q tag cells) (head_of index (bucket_of tag cells)) None
 
 -- no entry is above its own place: a chain goes back
 pub record PointsBack (index : List ℕ) : Type 0 where
@@ -99,9 +93,3 @@ pub record Earlier (values : List ℕ) (p m : ℕ) : Type 0 where
 -- after check 15: a well-formed pool without repeats is in the index
 pub record Indexes (tags values : List ℕ) (n : ℕ) (index : List ℕ) : Type 0 where
   pub whole : n ≤ cell_limit → first_bad tags values n ≡ None → first_repeat tags values n ≡ None → Index tags values n index
-
--- the count after adding to n cells
-abbrev pub count_after : ℕ → Added → ℕ
-count_after n (There p) = n
-count_after n (New p m) = m
-count_after n Full = n

@@ -2,21 +2,23 @@
 ghost use Rattle.std.specs.Prelude.{◌≡◌, ◌∷◌, ◌+◌, ◌≤◌, length, replicate};
 ghost use Rattle.descriptions.specs.Description.{is_full, Room, Put};
 
+use cells::pool::Pool;
+
 // Whether there is no room after n for a header with k cells.
-pub(crate) fn is_full(tags: &[u8], values: &[u32], limit: usize, n: usize, k: usize) -> bool
-    ensures { result ≡ is_full tags.now values.now limit n k }
+pub(crate) fn is_full(pool: &Pool<'_>, limit: usize, n: usize, k: usize) -> bool
+    ensures { result ≡ is_full pool.now.tags.now pool.now.values.now limit n k }
 {
     if 4294967295 < k {
         return true;
     }
-    if tags.len() <= n {
+    if pool.tags.len() <= n {
         return true;
     }
     // So that n + 1 + k fits.
-    if tags.len() - n <= k {
+    if pool.tags.len() - n <= k {
         return true;
     }
-    if values.len() < n + 1 + k {
+    if pool.values.len() < n + 1 + k {
         return true;
     }
     limit < n + 1 + k

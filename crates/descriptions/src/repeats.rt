@@ -7,21 +7,17 @@ use crate::description::{scan_repeats, zero_from};
 use crate::index;
 use crate::index::INDEX;
 use cells::limits::CELLS;
+use cells::pool::Pool;
 
 // Check 15: the first header below n that repeats an earlier one. The index then has the headers, if there is none; it has
 // room for 8,192 cells.
-pub fn first_repeat(
-    tags: &[u8],
-    values: &[u32],
-    n: usize,
-    index: &mut [u32; INDEX],
-) -> Option<usize>
-    ensures value { result ≡ first_repeat tags.now values.now n }
-    ensures indexes { Indexes tags.now values.now n index.new }
+pub fn first_repeat(pool: &Pool<'_>, n: usize, index: &mut [u32; INDEX]) -> Option<usize>
+    ensures value { result ≡ first_repeat pool.now.tags.now pool.now.values.now n }
+    ensures indexes { Indexes pool.now.tags.now pool.now.values.now n index.new }
 {
     if CELLS < n {
-        return scan_repeats(tags, values, n);
+        return scan_repeats(pool, n);
     }
     zero_from(index, 0);
-    index::first_repeat(tags, values, n, index)
+    index::first_repeat(pool, n, index)
 }

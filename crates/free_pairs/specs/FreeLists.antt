@@ -9,7 +9,7 @@ abbrev pub is_missing : List ℕ → List ℕ → ℕ → ℕ → List Binding �
 is_missing tags values n t other a = not (has other a) && binding_free tags values n t a
 
 -- a list lacks the pair a, and the mask's lowest bit is set
-unfoldable pub is_marked : List Binding → ℕ → Binding → Bool
+abbrev pub is_marked : List Binding → ℕ → Binding → Bool
 is_marked other m a = not (eqb (m % 2) 0) && not (has other a)
 
 -- the first pair that the mask has and another list lacks

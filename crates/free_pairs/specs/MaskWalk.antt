@@ -1,14 +1,21 @@
 -- What the walk of `free_masks` says of itself: what the memo holds, and what a walk leaves.
--- Rests on bindings' Binding, on free_variables' Free, and on BindingFree and Mask.
+-- Rests on cells' Cell, on bindings' Binding, on free_variables' Free and FreeMemo, and on BindingFree and Mask.
 use Rattle.std.specs.Prelude.{ℕ, ◌+◌, ◌-◌, ◌≡◌, Bool, false, cond, List, get_or, set, ltb}
+use Rattle.cells.specs.Cell.{operands_of}
 use Rattle.free_variables.specs.Free.{any_of}
+use Rattle.free_variables.specs.FreeMemo.{pair_kind_of}
 use Rattle.bindings.specs.Binding.{Binding, bindings_of}
 use Rattle.free_pairs.specs.BindingFree.{binding_free}
-use Rattle.free_pairs.specs.Mask.{mask_of}
+use Rattle.free_pairs.specs.Mask.{mask_of, bound_in}
 
 -- the pair a is free in the term at u, which stands before t; false of any other place
 unfoldable pub binding_below : List ℕ → List ℕ → ℕ → Binding → ℕ → ℕ → Bool
 binding_below tags values n a t u = cond (ltb u t) (binding_free tags values n u a) false
+
+-- the pair a is free in the body at u of the term at t, and the term's own pairs do not bind it
+unfoldable pub binding_under : List ℕ → List ℕ → ℕ → ℕ → ℕ → Binding → Bool
+binding_under tags values n t u a =
+    cond (bound_in values (pair_kind_of (get_or tags t 0)) (operands_of tags values t) a) false (binding_free tags values n u a)
 
 -- the pairs of a list that are free in a term of the run that stands before t
 unfoldable pub mask_among : List ℕ → List ℕ → ℕ → List ℕ → ℕ → List ℕ → ℕ

@@ -11,6 +11,7 @@ use crate::free_masks::{free_mask, group};
 use bindings::binding::has;
 use bindings::pairs::pairs_of;
 use cells::limits::CELLS;
+use cells::pool::Pool;
 use cells::variable::Variable;
 use cells::{SortPlace, TermPlace};
 use free_variables::term_names::{mark_names, may_be_free};
@@ -19,10 +20,7 @@ use free_variables::term_names::{mark_names, may_be_free};
 fn is_marked(mask: u32, other: &[u32], pair: Variable) -> bool
     ensures { result ≡ is_marked (bindings_of other.now) mask (binding pair) }
 {
-    if mask % 2 == 0 {
-        return false;
-    }
-    !has(other, pair)
+    mask % 2 != 0 && !has(other, pair)
 }
 
 // The first pair of a list that the mask has and another list lacks.
@@ -41,16 +39,15 @@ fn first_marked(list: &[u32], mask: u32, other: &[u32]) -> Option<u32>
 
 // The first pair among the first 31 of a list that another lacks and whose variable is free in the term at t: by one walk.
 fn first_in_group(
-    tags: &[u8],
-    values: &[u32],
+    pool: &Pool<'_>,
     n: usize,
     t: TermPlace,
     list: &[u32],
     other: &[u32],
 ) -> Option<u32>
-    ensures { result ≡ name_of (first_of (is_missing tags.now values.now n t.0 (bindings_of other.now)) (bindings_of (take 62 list.now))) }
+    ensures { result ≡ name_of (first_of (is_missing pool.now.tags.now pool.now.values.now n t.0 (bindings_of other.now)) (bindings_of (take 62 list.now))) }
 {
-    let mask = free_mask(tags, values, n, t, list);
+    let mask = free_mask(pool, n, t, list);
     first_marked(group(list), mask, other)
 }
 
@@ -58,24 +55,21 @@ fn first_in_group(
 fn may_be_missing(names: &[u8], other: &[u32], pair: Variable) -> bool
     ensures { result ≡ (not (has (bindings_of other.now) (binding pair)) && may_be_free names.now pair.name pair.sort.0) }
 {
-    if !may_be_free(names, pair) {
-        return false;
-    }
-    !has(other, pair)
+    // The table first: it takes no scan.
+    may_be_free(names, pair) && !has(other, pair)
 }
 
 // The first pair of a list that another lacks and whose variable is free in the term at t, with the table of the term's names.
 pub fn first_missing_by(
-    tags: &[u8],
-    values: &[u32],
+    pool: &Pool<'_>,
     n: usize,
     names: &[u8],
     t: TermPlace,
     list: &[u32],
     other: &[u32],
 ) -> Option<u32>
-    requires { NamesMarked tags.now values.now names.now (free_in tags.now values.now t.0) }
-    ensures { result ≡ name_of (first_of (is_missing tags.now values.now n t.0 (bindings_of other.now)) (bindings_of list.now)) }
+    requires { NamesMarked pool.now.tags.now pool.now.values.now names.now (free_in pool.now.tags.now pool.now.values.now t.0) }
+    ensures { result ≡ name_of (first_of (is_missing pool.now.tags.now pool.now.values.now n t.0 (bindings_of other.now)) (bindings_of list.now)) }
 {
     let mut rest = list;
     // Kept: a turn passes one pair or a whole group of them, so no iterator over pairs fits.
@@ -85,7 +79,7 @@ pub fn first_missing_by(
             sort: SortPlace(*sort),
         };
         if may_be_missing(names, other, pair) {
-            let found = first_in_group(tags, values, n, t, rest, other);
+            let found = first_in_group(pool, n, t, rest, other);
             if found.is_some() {
                 return found;
             }
@@ -99,23 +93,22 @@ pub fn first_missing_by(
 
 // The first pair of a list that another lacks and whose variable is free in the term at t.
 pub fn first_missing(
-    tags: &[u8],
-    values: &[u32],
+    pool: &Pool<'_>,
     n: usize,
     t: TermPlace,
     list: &[u32],
     other: &[u32],
 ) -> Option<u32>
-    ensures { result ≡ name_of (first_of (λ a. not (has (bindings_of other.now) a) && binding_free tags.now values.now n t.0 a) (bindings_of list.now)) }
+    ensures { result ≡ name_of (first_of (λ a. not (has (bindings_of other.now) a) && binding_free pool.now.tags.now pool.now.values.now n t.0 a) (bindings_of list.now)) }
 {
     let mut names = [0u8; CELLS];
-    mark_names(tags, values, t, &mut names);
-    first_missing_by(tags, values, n, &names, t, list, other)
+    mark_names(pool, t, &mut names);
+    first_missing_by(pool, n, &names, t, list, other)
 }
 
 // The first pair of a list whose variable is free in the term at t.
-pub fn first_free(tags: &[u8], values: &[u32], n: usize, t: TermPlace, list: &[u32]) -> Option<u32>
-    ensures { result ≡ name_of (first_of (binding_free tags.now values.now n t.0) (bindings_of list.now)) }
+pub fn first_free(pool: &Pool<'_>, n: usize, t: TermPlace, list: &[u32]) -> Option<u32>
+    ensures { result ≡ name_of (first_of (binding_free pool.now.tags.now pool.now.values.now n t.0) (bindings_of list.now)) }
 {
-    first_missing(tags, values, n, t, list, &list[..0])
+    first_missing(pool, n, t, list, &list[..0])
 }

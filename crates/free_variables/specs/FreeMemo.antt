@@ -1,22 +1,29 @@
 -- What the walk of `free_vars` says of itself: how a pair is read, what a step means, what the memo holds.
--- Rests on cells' Cell, and on Free and the enum `Step`.
+-- Rests on cells' Cell, and on Free and the enums `PairKind` and `Step`.
 use Rattle.std.specs.Prelude.{ℕ, ◌+◌, ◌<◌, ◌≡◌, Bool, true, false, cond, ◌&&◌, ◌||◌, List, get_or, drop, ltb, eqb}
 use Rattle.cells.specs.Cell.{sort_of, operands_of}
 use Rattle.free_variables.specs.Free.{pair_in, any_of, let_values, is_free}
+use Rattle.free_variables.specs.declared.pair_kind.PairKind.{PairKind}
+use Rattle.free_variables.specs.declared.pair_kind.PairKind.TheVariants.{SortedVar, VarBinding}
 use Rattle.free_variables.specs.declared.free_vars.Step.{Step}
 use Rattle.free_variables.specs.declared.free_vars.Step.TheVariants.{Yes, No, Body, Run, Values, Let}
 
--- the sort that a pair's second cell gives: of the value there in a let, itself in a binder
-unfoldable pub pair_sort : List ℕ → Bool → ℕ → ℕ
-pair_sort values lets b = cond lets (sort_of values b) b
+-- a let's pairs are variable bindings, another binder's are sorted variables
+unfoldable pub pair_kind_of : ℕ → PairKind
+pair_kind_of tag = cond (eqb tag 27) VarBinding SortedVar
+
+-- the sort that a pair's second cell gives: itself, or that of the value there
+unfoldable pub pair_sort : List ℕ → PairKind → ℕ → ℕ
+pair_sort values SortedVar b = b
+pair_sort values VarBinding b = sort_of values b
 
 -- the pair a, b is this name with this sort
-unfoldable pub is_pair : List ℕ → Bool → ℕ → ℕ → ℕ → ℕ → Bool
-is_pair values lets name sort a b = eqb a name && eqb (pair_sort values lets b) sort
+unfoldable pub is_pair : List ℕ → PairKind → ℕ → ℕ → ℕ → ℕ → Bool
+is_pair values kind name sort a b = eqb a name && eqb (pair_sort values kind b) sort
 
 -- the pairs of a run, after its body, bind the variable at v: `bound_by` and `let_binds` in one
-unfoldable pub pairs_bind : List ℕ → Bool → ℕ → List ℕ → Bool
-pairs_bind values lets v run = pair_in (pair_sort values lets) (get_or values (v + 2) 0) (sort_of values v) (drop 1 run)
+unfoldable pub pairs_bind : List ℕ → PairKind → ℕ → List ℕ → Bool
+pairs_bind values kind v run = pair_in (pair_sort values kind) (get_or values (v + 2) 0) (sort_of values v) (drop 1 run)
 
 -- v is free in the term at u, which stands before t; false of any other place
 unfoldable pub free_below : List ℕ → List ℕ → ℕ → ℕ → ℕ → Bool

@@ -3,7 +3,7 @@
 use Rattle.std.specs.Prelude.{ℕ, ◌<◌, ◌≡◌, Bool, true, false, cond, ◌||◌, List, get_or, eqb}
 use Rattle.cells.specs.Cell.{operands_of}
 use Rattle.free_variables.specs.Free.{any_of, let_values}
-use Rattle.free_variables.specs.FreeMemo.{pairs_bind, free_below}
+use Rattle.free_variables.specs.FreeMemo.{pair_kind_of, pairs_bind, free_below}
 use Rattle.free_variables.specs.Names.{may_be_free, free_in, NamesMarked}
 use Rattle.free_variables.specs.declared.term_names.FreeFrom.{FreeFrom}
 use Rattle.free_variables.specs.declared.term_names.FreeFrom.TheVariants.{Nothing, Variable, Body, Run, Values, Let}
@@ -18,7 +18,7 @@ pub record Exactly (tags values : List ℕ) (t : ℕ) (test : ℕ → Bool) : Ty
 
 -- the variable at v is free in the body at u of the term at t, and the term's pairs do not bind it
 unfoldable pub free_under : List ℕ → List ℕ → ℕ → ℕ → ℕ → Bool
-free_under tags values t u v = cond (pairs_bind values (eqb (get_or tags t 0) 27) v (operands_of tags values t)) false (free_in tags values u v)
+free_under tags values t u v = cond (pairs_bind values (pair_kind_of (get_or tags t 0)) v (operands_of tags values t)) false (free_in tags values u v)
 
 -- the variable at v is free in a value of the let at t, or in its body at u, and the let's pairs do not bind it
 unfoldable pub free_in_let : List ℕ → List ℕ → ℕ → ℕ → ℕ → Bool

@@ -2,4 +2,5 @@
 #![tactic(auto)]
 
 pub mod free_vars;
+pub mod pair_kind;
 pub mod term_names;

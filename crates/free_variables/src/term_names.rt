@@ -12,8 +12,9 @@ use crate::free_vars::variable_at;
 use cells::TermPlace;
 use cells::limits::CELLS;
 use cells::marks::{mark_at, set_mark};
-use cells::run::{cell, operands};
-use cells::tags::{APPLICATION, BINDERS_END, FORALL, LET, VARIABLE, tag_at};
+use cells::pool::Pool;
+use cells::run::cell;
+use cells::tags::{APPLICATION, BINDERS_END, FORALL, LET, VARIABLE};
 use cells::variable::Variable;
 
 // The buckets of a table of names, a prime below 8,192.
@@ -30,18 +31,14 @@ fn bucket(v: Variable) -> usize
 pub fn may_be_free(names: &[u8], v: Variable) -> bool
     ensures { result ≡ may_be_free names.now v.name v.sort.0 }
 {
-    let at = bucket(v);
-    if names.len() <= at {
-        return true;
-    }
-    names[at] == 1
+    names.get(bucket(v)).copied().unwrap_or(1) == 1
 }
 
 // Sets the bucket of the variable at v.
-fn mark_name(values: &[u32], names: &mut [u8], v: TermPlace)
-    ensures { names.new ≡ set names.old (bucket_of (get_or values.now (v.0 + 2) 0) (sort_of values.now v.0)) 1 }
+fn mark_name(pool: &Pool<'_>, names: &mut [u8], v: TermPlace)
+    ensures { names.new ≡ set names.old (bucket_of (get_or pool.now.values.now (v.0 + 2) 0) (sort_of pool.now.values.now v.0)) 1 }
 {
-    let at = bucket(variable_at(values, v));
+    let at = bucket(variable_at(pool, v));
     if at < names.len() {
         names[at] = 1;
     }
@@ -60,12 +57,12 @@ pub enum FreeFrom {
 }
 
 // Where the free variables of the term at t are.
-pub fn free_from(tags: &[u8], values: &[u32], t: TermPlace) -> FreeFrom
-    ensures means { FreeFromMeans tags.now values.now t.0 result }
-    ensures occurs { OccursFrom tags.now values.now t.0 result }
+pub fn free_from(pool: &Pool<'_>, t: TermPlace) -> FreeFrom
+    ensures means { FreeFromMeans pool.now.tags.now pool.now.values.now t.0 result }
+    ensures occurs { OccursFrom pool.now.tags.now pool.now.values.now t.0 result }
 {
     let at = t.0 as usize;
-    let tag = tag_at(tags, at);
+    let tag = pool.tag_at(at);
     if tag < VARIABLE {
         return FreeFrom::Nothing;
     }
@@ -78,7 +75,7 @@ pub fn free_from(tags: &[u8], values: &[u32], t: TermPlace) -> FreeFrom
     if BINDERS_END <= tag {
         return FreeFrom::Run;
     }
-    let body = cell(operands(tags, values, t), 0);
+    let body = cell(pool.operands(t), 0);
     if tag == LET {
         if t.0 <= body {
             return FreeFrom::Values;
@@ -93,93 +90,68 @@ pub fn free_from(tags: &[u8], values: &[u32], t: TermPlace) -> FreeFrom
 
 // Marks the names of the term at t: the term walker.
 #[cycle(names_of_run_names_of_term_names_of_values)]
-fn names_of_term(tags: &[u8], values: &[u32], seen: &mut [u8], names: &mut [u8], t: TermPlace)
-    requires { NamesMemo tags.now values.now seen.old names.old }
-    ensures { NamesWalked tags.now values.now names.old seen.new names.new (free_in tags.now values.now t.0) }
+fn names_of_term(pool: &Pool<'_>, seen: &mut [u8], names: &mut [u8], t: TermPlace)
+    requires { NamesMemo pool.now.tags.now pool.now.values.now seen.old names.old }
+    ensures { NamesWalked pool.now.tags.now pool.now.values.now names.old seen.new names.new (free_in pool.now.tags.now pool.now.values.now t.0) }
 {
     if mark_at(seen, t) == 1 {
         return;
     }
-    let place = free_from(tags, values, t);
-    match place {
-        FreeFrom::Nothing => set_mark(seen, t),
-        FreeFrom::Variable => {
-            mark_name(values, names, t);
-            set_mark(seen, t)
-        }
-        FreeFrom::Body(u) => {
-            names_of_term(tags, values, seen, names, u);
-            set_mark(seen, t)
-        }
-        FreeFrom::Run => {
-            names_of_run(tags, values, seen, names, t, operands(tags, values, t));
-            set_mark(seen, t)
-        }
-        FreeFrom::Values => {
-            names_of_values(tags, values, seen, names, t, operands(tags, values, t));
-            set_mark(seen, t)
-        }
+    let run = pool.operands(t);
+    match free_from(pool, t) {
+        FreeFrom::Nothing => {}
+        FreeFrom::Variable => mark_name(pool, names, t),
+        FreeFrom::Body(u) => names_of_term(pool, seen, names, u),
+        FreeFrom::Run => names_of_run(pool, seen, names, t, run),
+        FreeFrom::Values => names_of_values(pool, seen, names, t, run),
         FreeFrom::Let(u) => {
-            names_of_values(tags, values, seen, names, t, operands(tags, values, t));
-            names_of_term(tags, values, seen, names, u);
-            set_mark(seen, t)
+            names_of_values(pool, seen, names, t, run);
+            names_of_term(pool, seen, names, u)
         }
     }
+    set_mark(seen, t)
 }
 
 // Marks the names of the terms of a run that stand before t: the run walker.
 #[cycle(names_of_run_names_of_term_names_of_values)]
-fn names_of_run(
-    tags: &[u8],
-    values: &[u32],
-    seen: &mut [u8],
-    names: &mut [u8],
-    t: TermPlace,
-    run: &[u32],
-)
-    requires { NamesMemo tags.now values.now seen.old names.old }
-    ensures { NamesWalked tags.now values.now names.old seen.new names.new (free_among tags.now values.now t.0 run.now) }
+fn names_of_run(pool: &Pool<'_>, seen: &mut [u8], names: &mut [u8], t: TermPlace, run: &[u32])
+    requires { NamesMemo pool.now.tags.now pool.now.values.now seen.old names.old }
+    ensures { NamesWalked pool.now.tags.now pool.now.values.now names.old seen.new names.new (free_among pool.now.tags.now pool.now.values.now t.0 run.now) }
 {
     if run.len() == 0 {
         return;
     }
     let u = run[0];
     if t.0 <= u {
-        return names_of_run(tags, values, seen, names, t, &run[1..]);
+        return names_of_run(pool, seen, names, t, &run[1..]);
     }
-    names_of_term(tags, values, seen, names, TermPlace(u));
-    names_of_run(tags, values, seen, names, t, &run[1..])
+    names_of_term(pool, seen, names, TermPlace(u));
+    names_of_run(pool, seen, names, t, &run[1..])
 }
 
 // Marks the names of a let's values that stand before t: the values walker. The run's first cell is the body, or a value that the
 // walk has passed.
+// Kept beside the run walker: one for both would take where a list begins and its step, and laws of every second cell.
 #[cycle(names_of_run_names_of_term_names_of_values)]
-fn names_of_values(
-    tags: &[u8],
-    values: &[u32],
-    seen: &mut [u8],
-    names: &mut [u8],
-    t: TermPlace,
-    run: &[u32],
-)
-    requires { NamesMemo tags.now values.now seen.old names.old }
-    ensures { NamesWalked tags.now values.now names.old seen.new names.new (free_among tags.now values.now t.0 (let_values run.now)) }
+fn names_of_values(pool: &Pool<'_>, seen: &mut [u8], names: &mut [u8], t: TermPlace, run: &[u32])
+    requires { NamesMemo pool.now.tags.now pool.now.values.now seen.old names.old }
+    ensures { NamesWalked pool.now.tags.now pool.now.values.now names.old seen.new names.new (free_among pool.now.tags.now pool.now.values.now t.0 (let_values run.now)) }
 {
     if run.len() < 3 {
         return;
     }
     let u = run[2];
     if t.0 <= u {
-        return names_of_values(tags, values, seen, names, t, &run[2..]);
+        return names_of_values(pool, seen, names, t, &run[2..]);
     }
-    names_of_term(tags, values, seen, names, TermPlace(u));
-    names_of_values(tags, values, seen, names, t, &run[2..])
+    names_of_term(pool, seen, names, TermPlace(u));
+    names_of_values(pool, seen, names, t, &run[2..])
 }
 
 // Sets the bucket of every variable that is free in the term at t.
-pub fn mark_names(tags: &[u8], values: &[u32], t: TermPlace, names: &mut [u8])
-    ensures { NamesMarked tags.now values.now names.new (free_in tags.now values.now t.0) }
+pub fn mark_names(pool: &Pool<'_>, t: TermPlace, names: &mut [u8])
+    ensures { NamesMarked pool.now.tags.now pool.now.values.now names.new (free_in pool.now.tags.now pool.now.values.now t.0) }
 {
     let mut seen = [0u8; CELLS];
-    names_of_term(tags, values, &mut seen, names, t)
+    names_of_term(pool, &mut seen, names, t)
 }

@@ -5,14 +5,12 @@ ghost use Rattle.std.proofs.Common.{Fits};
 ghost use Rattle.cells.specs.Bounded.{every};
 ghost use Rattle.headers.specs.WellFormed.{shape_of, count_fits, pair_kind, kind_at, is_sort_tag, value_fits, cell_fits, bool_first, header_fits, first_bad};
 
-use cells::header_places::header_places;
-use cells::run::cell;
+use cells::pool::Pool;
 use cells::tags::{
     APPLICATION, ARRAY, ATOM, BIT_VEC, BIT_VECTOR, BOOL, FORALL, FUNCTION, INTEGER, LAMBDA, LET,
     PARAM_BIT_VEC, REG_LAN_CONSTANT, REL_PRODUCT, SET, SORT_VAR, SORTS_END, TRUE, TUPLE, VARIABLE,
-    tag_at,
+    is_term_tag,
 };
-pub use cells::tags::{is_term, is_term_tag};
 
 // How the cells of a header are laid out.
 #[derive(Clone, Copy)]
@@ -158,69 +156,69 @@ fn is_sort_tag(tag: u8) -> bool
 }
 
 // Whether a cell of the header at p may hold v, where the cell is of this kind.
-fn value_fits(tags: &[u8], p: usize, kind: CellKind, v: u32) -> bool
-    ensures { result ≡ value_fits tags.now p kind v }
+fn value_fits(pool: &Pool<'_>, p: usize, kind: CellKind, v: u32) -> bool
+    ensures { result ≡ value_fits pool.now.tags.now p kind v }
 {
     let at = v as usize;
     match kind {
         CellKind::Number => true,
-        CellKind::OfSort => at < p && is_sort_tag(tag_at(tags, at)),
-        CellKind::OfTerm => at < p && is_term_tag(tag_at(tags, at)),
+        CellKind::OfSort => at < p && is_sort_tag(pool.tag_at(at)),
+        CellKind::OfTerm => at < p && is_term_tag(pool.tag_at(at)),
     }
 }
 
 // Whether the cell at position j of the header at p, an index that fits, has tag 0 and holds what it must.
-fn cell_fits(tags: &[u8], values: &[u32], p: usize, shape: Shape, j: usize) -> bool
+fn cell_fits(pool: &Pool<'_>, p: usize, shape: Shape, j: usize) -> bool
     requires { Fits w64 (p + 1 + j) }
-    ensures { result ≡ cell_fits tags.now values.now p shape j }
+    ensures { result ≡ cell_fits pool.now.tags.now pool.now.values.now p shape j }
 {
     let at = p + 1 + j;
-    if tag_at(tags, at) != 0 {
+    if pool.tag_at(at) != 0 {
         return false;
     }
-    value_fits(tags, p, kind_at(shape, j), cell(values, at))
+    value_fits(pool, p, kind_at(shape, j), pool.cell(at))
 }
 
 // Whether each of the k cells of the header at p does.
-fn cells_fit(tags: &[u8], values: &[u32], p: usize, shape: Shape, k: usize) -> bool
+fn cells_fit(pool: &Pool<'_>, p: usize, shape: Shape, k: usize) -> bool
     requires { Fits w64 (p + 1 + k) }
-    ensures { result ≡ every (cell_fits tags.now values.now p shape) 0 k }
+    ensures { result ≡ every (cell_fits pool.now.tags.now pool.now.values.now p shape) 0 k }
 {
-    (0..k).all(|j| cell_fits(tags, values, p, shape, j))
+    (0..k).all(|j| cell_fits(pool, p, shape, j))
 }
 
 // Whether cell 0, where p is 0, is the sort Bool.
-fn bool_first(tags: &[u8], p: usize) -> bool
-    ensures { result ≡ bool_first tags.now p }
+fn bool_first(pool: &Pool<'_>, p: usize) -> bool
+    ensures { result ≡ bool_first pool.now.tags.now p }
 {
-    p != 0 || tag_at(tags, p) == BOOL
+    p != 0 || pool.tag_at(p) == BOOL
 }
 
 // Whether the header at p is well formed among n cells.
-fn header_fits(tags: &[u8], values: &[u32], n: usize, p: usize) -> bool
+fn header_fits(pool: &Pool<'_>, n: usize, p: usize) -> bool
     requires { p < n }
-    ensures { result ≡ header_fits tags.now values.now n p }
+    ensures { result ≡ header_fits pool.now.tags.now pool.now.values.now n p }
 {
-    if !bool_first(tags, p) {
+    if !bool_first(pool, p) {
         return false;
     }
-    let k = cell(values, p) as usize;
+    let k = pool.cell(p) as usize;
     if n - p <= k {
         return false;
     }
-    let shape = shape_of(tag_at(tags, p));
+    let shape = shape_of(pool.tag_at(p));
     if !count_fits(shape, k) {
         return false;
     }
-    cells_fit(tags, values, p, shape, k)
+    cells_fit(pool, p, shape, k)
 }
 
 // The first header of the first n cells that is not well formed.
-pub fn first_bad(tags: &[u8], values: &[u32], n: usize) -> Option<usize>
-    ensures { result ≡ first_bad tags.now values.now n }
+pub fn first_bad(pool: &Pool<'_>, n: usize) -> Option<usize>
+    ensures { result ≡ first_bad pool.now.tags.now pool.now.values.now n }
 {
-    for p in header_places(values, n) {
-        if !header_fits(tags, values, n, p) {
+    for p in pool.header_places(n) {
+        if !header_fits(pool, n, p) {
             return Some(p);
         }
     }

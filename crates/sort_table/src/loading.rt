@@ -1,5 +1,5 @@
 // S-2: the table of sort rules in use. Which entries may be loaded, and the call that loads them.
-ghost use Rattle.std.specs.Prelude.{◌<◌, ◌≡◌, not, ◌&&◌, ◌||◌, length, ltb, eqb};
+ghost use Rattle.std.specs.Prelude.{◌≡◌, not, ◌&&◌, ◌||◌, length, ltb, eqb};
 ghost use Rattle.answers.specs.Refusal.{answer_of_check};
 ghost use Rattle.sort_table.specs.TableAnswer.{entry_count, first_entry, forbids, is_connective, loses_bool, table_answer, Loaded};
 

@@ -7,12 +7,12 @@ use crate::list_sorts::{ListRule, by_list};
 use crate::plain::{is_plain, is_single};
 use crate::special::Special;
 use crate::special_sorts::by_special;
-use cells::header_places::header_places;
+use cells::pool::Pool;
 use cells::tags::{
     APPLICATION, BINDERS_END, BIT_VEC, BIT_VECTOR, BOOL, CHOICE, FORALL, INTEGER, LAMBDA, LET,
-    TRUE, VARIABLE, tag_at,
+    TRUE, VARIABLE,
 };
-use cells::{SortPlace, TermPlace, run};
+use cells::{SortPlace, TermPlace};
 
 // The special rule of an operator code. 01: "special sort rules are decided by operator code".
 fn special_of(op: u8) -> Special
@@ -39,13 +39,13 @@ fn special_of(op: u8) -> Special
 }
 
 // The first operand's sort.
-fn first_sort(tags: &[u8], values: &[u32], s: SortPlace, os: &[u32]) -> bool
-    ensures { result ≡ is_sort tags.now values.now s.0 (first_sort values.now os.now) }
+fn first_sort(pool: &Pool<'_>, s: SortPlace, os: &[u32]) -> bool
+    ensures { result ≡ is_sort pool.now.tags.now pool.now.values.now s.0 (first_sort pool.now.values.now os.now) }
 {
     if os.len() == 0 {
         return false;
     }
-    let sort = run::sort_of(values, TermPlace(os[0]));
+    let sort = pool.sort_of(TermPlace(os[0]));
     s == sort
 }
 
@@ -59,23 +59,23 @@ fn plain_tag(rule: u32) -> u8
 
 // Whether the sort at s is the one that a rule of the table gives the operands of an operator. Rules 0 to 4 are the sorts with tags
 // 1 to 5, 5 is the first operand's, 6 the second's, and above that the operator's own.
-fn by_rule(tags: &[u8], values: &[u32], s: SortPlace, rule: u32, op: u8, os: &[u32]) -> bool
-    ensures { result ≡ is_sort tags.now values.now s.0
-        (by_rule tags.now values.now rule op os.now) }
+fn by_rule(pool: &Pool<'_>, s: SortPlace, rule: u32, op: u8, os: &[u32]) -> bool
+    ensures { result ≡ is_sort pool.now.tags.now pool.now.values.now s.0
+        (by_rule pool.now.tags.now pool.now.values.now rule op os.now) }
 {
     if rule < 5 {
-        return is_plain(tags, values, s, plain_tag(rule));
+        return is_plain(pool, s, plain_tag(rule));
     }
     if rule == 5 {
-        return first_sort(tags, values, s, os);
+        return first_sort(pool, s, os);
     }
     if rule == 6 {
         if os.len() == 0 {
             return false;
         }
-        return first_sort(tags, values, s, &os[1..]);
+        return first_sort(pool, s, &os[1..]);
     }
-    by_special(tags, values, s, special_of(op), os)
+    by_special(pool, s, special_of(op), os)
 }
 
 // The rule of an operator, and 7 past the end of the table.
@@ -87,8 +87,8 @@ fn rule_of(rules: &[u32], op: u8) -> u32
 }
 
 // choice: its first variable's sort. `os` is the binder's run: the body, and then the pairs.
-fn choice(tags: &[u8], values: &[u32], s: SortPlace, os: &[u32]) -> bool
-    ensures { result ≡ is_sort tags.now values.now s.0 (choice os.now) }
+fn choice(pool: &Pool<'_>, s: SortPlace, os: &[u32]) -> bool
+    ensures { result ≡ is_sort pool.now.tags.now pool.now.values.now s.0 (choice os.now) }
 {
     if os.len() < 3 {
         return false;
@@ -108,59 +108,59 @@ fn after(tag: u8, first: u8) -> u8
 
 // Whether the term at t states the sort that `compute_sort` gives by this table of rules. A constant's tag is `TO_CONSTANT` above its
 // sort's, a variable's sort is the one it states, a quantifier's is Bool, and a let's its body's.
-pub fn states_sort(tags: &[u8], values: &[u32], rules: &[u32], t: TermPlace) -> bool
-    ensures { result ≡ states_sort tags.now values.now rules.now t.0 }
+pub fn states_sort(pool: &Pool<'_>, rules: &[u32], t: TermPlace) -> bool
+    ensures { result ≡ states_sort pool.now.tags.now pool.now.values.now rules.now t.0 }
 {
     let at = t.0 as usize;
-    let tag = tag_at(tags, at);
-    let s = run::sort_of(values, TermPlace(t.0));
+    let tag = pool.tag_at(at);
+    let s = pool.sort_of(TermPlace(t.0));
     if tag < BIT_VECTOR {
-        return is_plain(tags, values, s, after(tag, TO_CONSTANT));
+        return is_plain(pool, s, after(tag, TO_CONSTANT));
     }
     if tag < VARIABLE {
-        return is_single(tags, values, s, BIT_VEC, run::cell(values, at + 2));
+        return is_single(pool, s, BIT_VEC, pool.cell(at + 2));
     }
     if tag < APPLICATION {
         return true;
     }
-    let os = run::operands(tags, values, t);
+    let os = pool.operands(t);
     if tag < FORALL {
-        return by_list(tags, values, s, ListRule::Application, os);
+        return by_list(pool, s, ListRule::Application, os);
     }
     if tag < CHOICE {
-        return is_plain(tags, values, s, BOOL);
+        return is_plain(pool, s, BOOL);
     }
     if tag < LAMBDA {
-        return choice(tags, values, s, os);
+        return choice(pool, s, os);
     }
     if tag < LET {
-        return by_list(tags, values, s, ListRule::Lambda, os);
+        return by_list(pool, s, ListRule::Lambda, os);
     }
     if tag < BINDERS_END {
-        return first_sort(tags, values, s, os);
+        return first_sort(pool, s, os);
     }
     let op = after(tag, TRUE);
-    by_rule(tags, values, s, rule_of(rules, op), op, os)
+    by_rule(pool, s, rule_of(rules, op), op, os)
 }
 
 // Whether the header at t is a term's with the wrong sort.
-fn states_wrong(tags: &[u8], values: &[u32], rules: &[u32], t: TermPlace) -> bool
-    ensures { result ≡ (is_term_tag (get_or tags.now t.0 0) && not (states_sort tags.now values.now rules.now t.0)) }
+fn states_wrong(pool: &Pool<'_>, rules: &[u32], t: TermPlace) -> bool
+    ensures { result ≡ (is_term_tag (get_or pool.now.tags.now t.0 0) && not (states_sort pool.now.tags.now pool.now.values.now rules.now t.0)) }
 {
     let at = t.0 as usize;
-    if tag_at(tags, at) < INTEGER {
+    if pool.tag_at(at) < INTEGER {
         return false;
     }
-    !states_sort(tags, values, rules, t)
+    !states_sort(pool, rules, t)
 }
 
 // 01, "16 wrong sort (the first place)". A place is a u32, so the count must fit one.
-pub fn first_wrong_sort(tags: &[u8], values: &[u32], rules: &[u32], n: usize) -> Option<usize>
+pub fn first_wrong_sort(pool: &Pool<'_>, rules: &[u32], n: usize) -> Option<usize>
     requires { n ≤ 4294967295 }
-    ensures { result ≡ first_wrong_sort tags.now values.now rules.now n }
+    ensures { result ≡ first_wrong_sort pool.now.tags.now pool.now.values.now rules.now n }
 {
-    for p in header_places(values, n) {
-        if states_wrong(tags, values, rules, TermPlace(p as u32)) {
+    for p in pool.header_places(n) {
+        if states_wrong(pool, rules, TermPlace(p as u32)) {
             return Some(p);
         }
     }

@@ -6,8 +6,8 @@ ghost use Rattle.cells.specs.Cell.{cells_of, sort_of, same_cells, is_at};
 ghost use Rattle.sorts.specs.SortRule.{made, relation, is_sort, pair_sorts, apply, is_relation, relation_sorts, transpose, join, product, application, lambda};
 ghost use Rattle.sorts.specs.ListRule.{by_list};
 
-use cells::cell_comparison::is_at;
-use cells::tags::{FUNCTION, SET, TUPLE, tag_at};
+use cells::pool::Pool;
+use cells::tags::{FUNCTION, SET, TUPLE};
 use cells::{SortPlace, TermPlace, run};
 
 // The rules.
@@ -40,10 +40,10 @@ fn but_last(a: &[u32]) -> &[u32]
 }
 
 // Whether the cells are the sorts of the terms at os.
-fn same_sorts(values: &[u32], cells: &[u32], os: &[u32]) -> bool
-    ensures { result ≡ same_cells cells.now (map (sort_of values.now) os.now) }
+fn same_sorts(pool: &Pool<'_>, cells: &[u32], os: &[u32]) -> bool
+    ensures { result ≡ same_cells cells.now (map (sort_of pool.now.values.now) os.now) }
 {
-    let sorts = os.iter().map(|o| run::sort_of(values, TermPlace(*o)).0);
+    let sorts = os.iter().map(|o| pool.sort_of(TermPlace(*o)).0);
     cells.iter().copied().eq(sorts)
 }
 
@@ -70,37 +70,37 @@ fn same_joined(a: &[u32], left: &[u32], right: &[u32]) -> bool
 
 // ---- tuples and functions
 // A tuple: the Tuple of its operands' sorts.
-fn tuple_of(tags: &[u8], values: &[u32], s: SortPlace, os: &[u32]) -> bool
-    ensures { result ≡ is_sort tags.now values.now s.0 (made 13 (map (sort_of values.now) os.now)) }
+fn tuple_of(pool: &Pool<'_>, s: SortPlace, os: &[u32]) -> bool
+    ensures { result ≡ is_sort pool.now.tags.now pool.now.values.now s.0 (made 13 (map (sort_of pool.now.values.now) os.now)) }
 {
     let at = s.0 as usize;
-    if tag_at(tags, at) != TUPLE {
+    if pool.tag_at(at) != TUPLE {
         return false;
     }
-    same_sorts(values, run::cells(values, at), os)
+    same_sorts(pool, pool.cells(at), os)
 }
 
 // A lambda: the Function of its variables' sorts and its body's. The run is the body and then the pairs of name and sort.
-fn lambda(tags: &[u8], values: &[u32], s: SortPlace, os: &[u32]) -> bool
-    ensures { result ≡ is_sort tags.now values.now s.0 (lambda values.now os.now) }
+fn lambda(pool: &Pool<'_>, s: SortPlace, os: &[u32]) -> bool
+    ensures { result ≡ is_sort pool.now.tags.now pool.now.values.now s.0 (lambda pool.now.values.now os.now) }
 {
     let at = s.0 as usize;
-    if tag_at(tags, at) != FUNCTION {
+    if pool.tag_at(at) != FUNCTION {
         return false;
     }
-    let [front @ .., last] = run::cells(values, at) else {
+    let [front @ .., last] = pool.cells(at) else {
         return false;
     };
     let body = TermPlace(run::cell(os, 0));
-    if *last != run::sort_of(values, body).0 {
+    if *last != pool.sort_of(body).0 {
         return false;
     }
     same_pair_sorts(front, past(os, 1))
 }
 
 // m arguments to a Function with these entries: to one fewer, the last entry, else the Function of the entries that are left.
-fn apply(tags: &[u8], values: &[u32], s: SortPlace, m: usize, entries: &[u32]) -> bool
-    ensures { result ≡ is_sort tags.now values.now s.0 (apply m entries.now) }
+fn apply(pool: &Pool<'_>, s: SortPlace, m: usize, entries: &[u32]) -> bool
+    ensures { result ≡ is_sort pool.now.tags.now pool.now.values.now s.0 (apply m entries.now) }
 {
     let rest = past(entries, m);
     if rest.len() == 1 {
@@ -108,163 +108,161 @@ fn apply(tags: &[u8], values: &[u32], s: SortPlace, m: usize, entries: &[u32]) -
     }
     if m <= entries.len() {
         let at = s.0 as usize;
-        return is_at(tags, values, at, FUNCTION, rest);
+        return pool.is_at(at, FUNCTION, rest);
     }
     false
 }
 
 // An application: the run is the function and then its arguments.
-fn application(tags: &[u8], values: &[u32], s: SortPlace, os: &[u32]) -> bool
-    ensures { result ≡ is_sort tags.now values.now s.0 (application tags.now values.now os.now) }
+fn application(pool: &Pool<'_>, s: SortPlace, os: &[u32]) -> bool
+    ensures { result ≡ is_sort pool.now.tags.now pool.now.values.now s.0 (application pool.now.tags.now pool.now.values.now os.now) }
 {
     if os.len() == 0 {
         return false;
     }
-    let function = run::sort_of(values, TermPlace(os[0]));
+    let function = pool.sort_of(TermPlace(os[0]));
     let at = function.0 as usize;
-    if tag_at(tags, at) != FUNCTION {
+    if pool.tag_at(at) != FUNCTION {
         return false;
     }
-    apply(tags, values, s, os.len() - 1, run::cells(values, at))
+    apply(pool, s, os.len() - 1, pool.cells(at))
 }
 
 // ---- relations, Sets of Tuples
 // Whether the sort that the term at o states is a relation.
-fn is_relation(tags: &[u8], values: &[u32], o: TermPlace) -> bool
-    ensures { result ≡ is_relation tags.now values.now o.0 }
+fn is_relation(pool: &Pool<'_>, o: TermPlace) -> bool
+    ensures { result ≡ is_relation pool.now.tags.now pool.now.values.now o.0 }
 {
-    let set = run::sort_of(values, o);
+    let set = pool.sort_of(o);
     let at = set.0 as usize;
-    if tag_at(tags, at) != SET {
+    if pool.tag_at(at) != SET {
         return false;
     }
-    let part = run::cell(values, at + 1) as usize;
-    tag_at(tags, part) == TUPLE
+    let part = pool.cell(at + 1) as usize;
+    pool.tag_at(part) == TUPLE
 }
 
 // The cells of the sort that the Set at s is of.
-fn part_cells(values: &[u32], s: SortPlace) -> &[u32]
-    ensures { result.now ≡ cells_of values.now (get_or values.now (s.0 + 1) 0) }
+fn part_cells<'a>(pool: &Pool<'a>, s: SortPlace) -> &'a [u32]
+    ensures { result.now ≡ cells_of pool.now.values.now (get_or pool.now.values.now (s.0 + 1) 0) }
 {
     let at = s.0 as usize;
-    let part = run::cell(values, at + 1) as usize;
-    run::cells(values, part)
+    let part = pool.cell(at + 1) as usize;
+    pool.cells(part)
 }
 
 // The sorts of the relation that the term at o states.
-fn relation_sorts<'a>(values: &'a [u32], o: TermPlace) -> &'a [u32]
-    ensures { result.now ≡ relation_sorts values.now o.0 }
+fn relation_sorts<'a>(pool: &Pool<'a>, o: TermPlace) -> &'a [u32]
+    ensures { result.now ≡ relation_sorts pool.now.values.now o.0 }
 {
-    part_cells(values, run::sort_of(values, o))
+    part_cells(pool, pool.sort_of(o))
 }
 
 // Whether the sort at s is a Set of a Tuple and has no other cell.
-fn is_tuple_set(tags: &[u8], values: &[u32], s: SortPlace) -> bool
-    ensures { result ≡ (is_at tags.now values.now s.0 12 (get_or values.now (s.0 + 1) 0 ∷ []) && eqb (get_or tags.now (get_or values.now (s.0 + 1) 0) 0) 13) }
+fn is_tuple_set(pool: &Pool<'_>, s: SortPlace) -> bool
+    ensures { result ≡ (is_at pool.now.tags.now pool.now.values.now s.0 12 (get_or pool.now.values.now (s.0 + 1) 0 ∷ []) && eqb (get_or pool.now.tags.now (get_or pool.now.values.now (s.0 + 1) 0) 0) 13) }
 {
     let at = s.0 as usize;
-    let part = run::cell(values, at + 1);
-    if !is_at(tags, values, at, SET, &[part]) {
+    let part = pool.cell(at + 1);
+    if !pool.is_at(at, SET, &[part]) {
         return false;
     }
-    tag_at(tags, part as usize) == TUPLE
+    pool.tag_at(part as usize) == TUPLE
 }
 
 // Whether the sort at s is the relation of these sorts in reverse.
-fn is_reversed(tags: &[u8], values: &[u32], s: SortPlace, sorts: &[u32]) -> bool
-    ensures { result ≡ is_sort tags.now values.now s.0 (relation (reverse sorts.now)) }
+fn is_reversed(pool: &Pool<'_>, s: SortPlace, sorts: &[u32]) -> bool
+    ensures { result ≡ is_sort pool.now.tags.now pool.now.values.now s.0 (relation (reverse sorts.now)) }
 {
     let set = s.0;
-    if !is_tuple_set(tags, values, SortPlace(set)) {
+    if !is_tuple_set(pool, SortPlace(set)) {
         return false;
     }
-    same_reversed(part_cells(values, SortPlace(set)), sorts)
+    same_reversed(part_cells(pool, SortPlace(set)), sorts)
 }
 
 // Whether the sort at s is the relation of the sorts of left and then those of right.
-fn is_joined(tags: &[u8], values: &[u32], s: SortPlace, left: &[u32], right: &[u32]) -> bool
-    ensures { result ≡ is_sort tags.now values.now s.0 (relation (left.now ++ right.now)) }
+fn is_joined(pool: &Pool<'_>, s: SortPlace, left: &[u32], right: &[u32]) -> bool
+    ensures { result ≡ is_sort pool.now.tags.now pool.now.values.now s.0 (relation (left.now ++ right.now)) }
 {
     let set = s.0;
-    if !is_tuple_set(tags, values, SortPlace(set)) {
+    if !is_tuple_set(pool, SortPlace(set)) {
         return false;
     }
-    same_joined(part_cells(values, SortPlace(set)), left, right)
+    same_joined(part_cells(pool, SortPlace(set)), left, right)
 }
 
 // RelTranspose: the sorts reversed.
-fn transpose(tags: &[u8], values: &[u32], s: SortPlace, os: &[u32]) -> bool
-    ensures { result ≡ is_sort tags.now values.now s.0 (transpose tags.now values.now os.now) }
+fn transpose(pool: &Pool<'_>, s: SortPlace, os: &[u32]) -> bool
+    ensures { result ≡ is_sort pool.now.tags.now pool.now.values.now s.0 (transpose pool.now.tags.now pool.now.values.now os.now) }
 {
     if os.len() == 0 {
         return false;
     }
-    if !is_relation(tags, values, TermPlace(os[0])) {
+    if !is_relation(pool, TermPlace(os[0])) {
         return false;
     }
-    is_reversed(tags, values, s, relation_sorts(values, TermPlace(os[0])))
+    is_reversed(pool, s, relation_sorts(pool, TermPlace(os[0])))
 }
 
 // RelJoin: the left's sorts but the last, then the right's but the first, of which there must be one.
-fn join(tags: &[u8], values: &[u32], s: SortPlace, os: &[u32]) -> bool
-    ensures { result ≡ is_sort tags.now values.now s.0 (join tags.now values.now os.now) }
+fn join(pool: &Pool<'_>, s: SortPlace, os: &[u32]) -> bool
+    ensures { result ≡ is_sort pool.now.tags.now pool.now.values.now s.0 (join pool.now.tags.now pool.now.values.now os.now) }
 {
     if os.len() < 2 {
         return false;
     }
-    if !is_relation(tags, values, TermPlace(os[0])) {
+    if !is_relation(pool, TermPlace(os[0])) {
         return false;
     }
-    if !is_relation(tags, values, TermPlace(os[1])) {
+    if !is_relation(pool, TermPlace(os[1])) {
         return false;
     }
-    let right = relation_sorts(values, TermPlace(os[1]));
+    let right = relation_sorts(pool, TermPlace(os[1]));
     if right.len() == 0 {
         return false;
     }
     is_joined(
-        tags,
-        values,
+        pool,
         s,
-        but_last(relation_sorts(values, TermPlace(os[0]))),
+        but_last(relation_sorts(pool, TermPlace(os[0]))),
         past(right, 1),
     )
 }
 
 // RelProduct: the left's sorts, then the right's.
-fn product(tags: &[u8], values: &[u32], s: SortPlace, os: &[u32]) -> bool
-    ensures { result ≡ is_sort tags.now values.now s.0 (product tags.now values.now os.now) }
+fn product(pool: &Pool<'_>, s: SortPlace, os: &[u32]) -> bool
+    ensures { result ≡ is_sort pool.now.tags.now pool.now.values.now s.0 (product pool.now.tags.now pool.now.values.now os.now) }
 {
     if os.len() < 2 {
         return false;
     }
-    if !is_relation(tags, values, TermPlace(os[0])) {
+    if !is_relation(pool, TermPlace(os[0])) {
         return false;
     }
-    if !is_relation(tags, values, TermPlace(os[1])) {
+    if !is_relation(pool, TermPlace(os[1])) {
         return false;
     }
     is_joined(
-        tags,
-        values,
+        pool,
         s,
-        relation_sorts(values, TermPlace(os[0])),
-        relation_sorts(values, TermPlace(os[1])),
+        relation_sorts(pool, TermPlace(os[0])),
+        relation_sorts(pool, TermPlace(os[1])),
     )
 }
 
 // ---- any of the rules
 // Whether the sort at s is the one that a rule gives.
-pub fn by_list(tags: &[u8], values: &[u32], s: SortPlace, rule: ListRule, os: &[u32]) -> bool
-    ensures { result ≡ is_sort tags.now values.now s.0
-        (by_list tags.now values.now rule os.now) }
+pub fn by_list(pool: &Pool<'_>, s: SortPlace, rule: ListRule, os: &[u32]) -> bool
+    ensures { result ≡ is_sort pool.now.tags.now pool.now.values.now s.0
+        (by_list pool.now.tags.now pool.now.values.now rule os.now) }
 {
     match rule {
-        ListRule::Tuple => tuple_of(tags, values, s, os),
-        ListRule::Lambda => lambda(tags, values, s, os),
-        ListRule::Application => application(tags, values, s, os),
-        ListRule::Transpose => transpose(tags, values, s, os),
-        ListRule::Join => join(tags, values, s, os),
-        ListRule::Product => product(tags, values, s, os),
+        ListRule::Tuple => tuple_of(pool, s, os),
+        ListRule::Lambda => lambda(pool, s, os),
+        ListRule::Application => application(pool, s, os),
+        ListRule::Transpose => transpose(pool, s, os),
+        ListRule::Join => join(pool, s, os),
+        ListRule::Product => product(pool, s, os),
     }
 }

@@ -7,85 +7,88 @@ ghost use Rattle.sorts.specs.SortRule.{is_sort, made, last_sort, sort_tag, any_r
 use crate::list_sorts::{ListRule, by_list};
 use crate::plain::{is_plain, is_single};
 use crate::special::Special;
-use cells::tags::{ARRAY, BIT_VEC, INT, INTEGER, PARAM_BIT_VEC, REAL, SET, TUPLE, tag_at};
-use cells::{SortPlace, TermPlace, run};
+use cells::pool::Pool;
+use cells::tags::{ARRAY, BIT_VEC, INT, INTEGER, PARAM_BIT_VEC, REAL, SET, TUPLE};
+use cells::{SortPlace, TermPlace};
 
 // The tag of the sort that the term at o states.
-fn sort_tag(tags: &[u8], values: &[u32], o: TermPlace) -> u8
-    ensures { result ≡ sort_tag tags.now values.now o.0 }
+fn sort_tag(pool: &Pool<'_>, o: TermPlace) -> u8
+    ensures { result ≡ sort_tag pool.now.tags.now pool.now.values.now o.0 }
 {
-    let sort = run::sort_of(values, o);
+    let sort = pool.sort_of(o);
     let at = sort.0 as usize;
-    tag_at(tags, at)
+    pool.tag_at(at)
 }
 
 // The last operand's sort.
-fn last_sort(tags: &[u8], values: &[u32], s: SortPlace, os: &[u32]) -> bool
-    ensures { result ≡ is_sort tags.now values.now s.0 (last_sort values.now os.now) }
+fn last_sort(pool: &Pool<'_>, s: SortPlace, os: &[u32]) -> bool
+    ensures { result ≡ is_sort pool.now.tags.now pool.now.values.now s.0 (last_sort pool.now.values.now os.now) }
 {
     let [.., o] = os else {
         return false;
     };
-    let sort = run::sort_of(values, TermPlace(*o));
+    let sort = pool.sort_of(TermPlace(*o));
     s == sort
 }
 
 // Whether an operand is Real.
-fn any_real(tags: &[u8], values: &[u32], os: &[u32]) -> bool
-    ensures { result ≡ any_real tags.now values.now os.now }
+fn any_real(pool: &Pool<'_>, os: &[u32]) -> bool
+    ensures { result ≡ any_real pool.now.tags.now pool.now.values.now os.now }
 {
-    os.iter()
-        .any(|o| sort_tag(tags, values, TermPlace(*o)) == REAL)
+    os.iter().any(|o| sort_tag(pool, TermPlace(*o)) == REAL)
 }
 
 // Add, Sub, Mult: Real if an operand is Real, else Int.
-fn arithmetic(tags: &[u8], values: &[u32], s: SortPlace, os: &[u32]) -> bool
-    ensures { result ≡ is_sort tags.now values.now s.0
-        (made (cond (any_real tags.now values.now os.now) 3 2) []) }
+fn arithmetic(pool: &Pool<'_>, s: SortPlace, os: &[u32]) -> bool
+    ensures { result ≡ is_sort pool.now.tags.now pool.now.values.now s.0
+        (made (cond (any_real pool.now.tags.now pool.now.values.now os.now) 3 2) []) }
 {
-    if any_real(tags, values, os) {
-        return is_plain(tags, values, s, REAL);
+    if any_real(pool, os) {
+        return is_plain(pool, s, REAL);
     }
-    is_plain(tags, values, s, INT)
+    is_plain(pool, s, INT)
 }
 
 // Select: the second sort of the first operand's Array.
-fn selected(tags: &[u8], values: &[u32], s: SortPlace, os: &[u32]) -> bool
-    ensures { result ≡ is_sort tags.now values.now s.0
-        (selected tags.now values.now os.now) }
+fn selected(pool: &Pool<'_>, s: SortPlace, os: &[u32]) -> bool
+    ensures { result ≡ is_sort pool.now.tags.now pool.now.values.now s.0
+        (selected pool.now.tags.now pool.now.values.now os.now) }
 {
     if os.len() == 0 {
         return false;
     }
-    if sort_tag(tags, values, TermPlace(os[0])) != ARRAY {
+    if sort_tag(pool, TermPlace(os[0])) != ARRAY {
         return false;
     }
-    let array = run::sort_of(values, TermPlace(os[0]));
+    let array = pool.sort_of(TermPlace(os[0]));
     let at = array.0 as usize;
-    s.0 == run::cell(values, at + 2)
+    s.0 == pool.cell(at + 2)
 }
 
 // A bit-vector operation: the sort of the first operand that isn't ParamBitVec, which must be BitVec.
-fn bit_vector(tags: &[u8], values: &[u32], s: SortPlace, os: &[u32]) -> bool
-    ensures { result ≡ is_sort tags.now values.now s.0
-        (bit_vector tags.now values.now os.now) }
+fn bit_vector(pool: &Pool<'_>, s: SortPlace, os: &[u32]) -> bool
+    ensures { result ≡ is_sort pool.now.tags.now pool.now.values.now s.0
+        (bit_vector pool.now.tags.now pool.now.values.now os.now) }
 {
-    match os.iter().find(|o| sort_tag(tags, values, TermPlace(**o)) != PARAM_BIT_VEC) {
-        None => is_plain(tags, values, s, PARAM_BIT_VEC),
+    match os
+        .iter()
+        .find(|o| sort_tag(pool, TermPlace(**o)) != PARAM_BIT_VEC)
+    {
+        None => is_plain(pool, s, PARAM_BIT_VEC),
         Some(o) => {
             let o = TermPlace(*o);
-            sort_tag(tags, values, o) == BIT_VEC && s.0 == run::sort_of(values, o).0
+            sort_tag(pool, o) == BIT_VEC && s.0 == pool.sort_of(o).0
         }
     }
 }
 
 // The first part of the sort that the term at o states, a bit vector's width.
-fn first_part(values: &[u32], o: TermPlace) -> u32
-    ensures { result ≡ get_or values.now (sort_of values.now o.0 + 1) 0 }
+fn first_part(pool: &Pool<'_>, o: TermPlace) -> u32
+    ensures { result ≡ get_or pool.now.values.now (sort_of pool.now.values.now o.0 + 1) 0 }
 {
-    let sort = run::sort_of(values, o);
+    let sort = pool.sort_of(o);
     let at = sort.0 as usize;
-    run::cell(values, at + 1)
+    pool.cell(at + 1)
 }
 
 // The sum of two widths. One that is past u32 already stays as it is, so that no sum is past u64.
@@ -99,76 +102,76 @@ fn add_width(width: u64, more: u32) -> u64
 }
 
 // BvConcat: ParamBitVec if an operand is that, else the sum of the widths, if it fits u32.
-fn concat(tags: &[u8], values: &[u32], s: SortPlace, os: &[u32]) -> bool
-    ensures { result ≡ is_sort tags.now values.now s.0
-        (concat_from tags.now values.now 0 false os.now) }
+fn concat(pool: &Pool<'_>, s: SortPlace, os: &[u32]) -> bool
+    ensures { result ≡ is_sort pool.now.tags.now pool.now.values.now s.0
+        (concat_from pool.now.tags.now pool.now.values.now 0 false os.now) }
 {
     let mut width: u64 = 0;
     let mut param = false;
     for o in os {
         let o = TermPlace(*o);
-        match sort_tag(tags, values, o) {
-            BIT_VEC => width = add_width(width, first_part(values, o)),
+        match sort_tag(pool, o) {
+            BIT_VEC => width = add_width(width, first_part(pool, o)),
             PARAM_BIT_VEC => param = true,
             _ => return false,
         }
     }
     if param {
-        return is_plain(tags, values, s, PARAM_BIT_VEC);
+        return is_plain(pool, s, PARAM_BIT_VEC);
     }
     if width < 4294967296 {
-        return is_single(tags, values, s, BIT_VEC, width as u32);
+        return is_single(pool, s, BIT_VEC, width as u32);
     }
     false
 }
 
 // BvConst: the width is the second operand, where that is an integer.
-fn bv_const(tags: &[u8], values: &[u32], s: SortPlace, os: &[u32]) -> bool
-    ensures { result ≡ is_sort tags.now values.now s.0
-        (bv_const tags.now values.now os.now) }
+fn bv_const(pool: &Pool<'_>, s: SortPlace, os: &[u32]) -> bool
+    ensures { result ≡ is_sort pool.now.tags.now pool.now.values.now s.0
+        (bv_const pool.now.tags.now pool.now.values.now os.now) }
 {
     if os.len() < 2 {
         return false;
     }
     let at = os[1] as usize;
-    if tag_at(tags, at) == INTEGER {
-        return is_single(tags, values, s, BIT_VEC, run::cell(values, at + 2));
+    if pool.tag_at(at) == INTEGER {
+        return is_single(pool, s, BIT_VEC, pool.cell(at + 2));
     }
-    is_plain(tags, values, s, PARAM_BIT_VEC)
+    is_plain(pool, s, PARAM_BIT_VEC)
 }
 
 // RareList: the first operand's sort, and Var of name 0, which is "?", where there is none.
-fn rare_list(tags: &[u8], values: &[u32], s: SortPlace, os: &[u32]) -> bool
-    ensures { result ≡ is_sort tags.now values.now s.0 (rare_list values.now os.now) }
+fn rare_list(pool: &Pool<'_>, s: SortPlace, os: &[u32]) -> bool
+    ensures { result ≡ is_sort pool.now.tags.now pool.now.values.now s.0 (rare_list pool.now.values.now os.now) }
 {
     if os.len() == 0 {
-        return is_single(tags, values, s, 8, 0);
+        return is_single(pool, s, 8, 0);
     }
-    let sort = run::sort_of(values, TermPlace(os[0]));
+    let sort = pool.sort_of(TermPlace(os[0]));
     s == sort
 }
 
 // SetSingleton: the Set of the first operand's sort.
-fn singleton(tags: &[u8], values: &[u32], s: SortPlace, os: &[u32]) -> bool
-    ensures { result ≡ is_sort tags.now values.now s.0 (singleton values.now os.now) }
+fn singleton(pool: &Pool<'_>, s: SortPlace, os: &[u32]) -> bool
+    ensures { result ≡ is_sort pool.now.tags.now pool.now.values.now s.0 (singleton pool.now.values.now os.now) }
 {
     if os.len() == 0 {
         return false;
     }
-    let sort = run::sort_of(values, TermPlace(os[0]));
-    is_single(tags, values, s, SET, sort.0)
+    let sort = pool.sort_of(TermPlace(os[0]));
+    is_single(pool, s, SET, sort.0)
 }
 
 // Whether the sort at s is BitVec with as many bits as there are operands. The width is compared as an index, since a count of
 // operands may not fit a cell.
-fn bit_count(tags: &[u8], values: &[u32], s: SortPlace, os: &[u32]) -> bool
-    ensures { result ≡ is_at tags.now values.now s.0 7 (length os.now ∷ []) }
+fn bit_count(pool: &Pool<'_>, s: SortPlace, os: &[u32]) -> bool
+    ensures { result ≡ is_at pool.now.tags.now pool.now.values.now s.0 7 (length os.now ∷ []) }
 {
     let at = s.0 as usize;
-    if tag_at(tags, at) != BIT_VEC {
+    if pool.tag_at(at) != BIT_VEC {
         return false;
     }
-    let parts = run::cells(values, at);
+    let parts = pool.cells(at);
     if parts.len() != 1 {
         return false;
     }
@@ -176,26 +179,26 @@ fn bit_count(tags: &[u8], values: &[u32], s: SortPlace, os: &[u32]) -> bool
 }
 
 // Whether the sort at s is the one that a special rule gives.
-pub fn by_special(tags: &[u8], values: &[u32], s: SortPlace, special: Special, os: &[u32]) -> bool
-    ensures { result ≡ is_sort tags.now values.now s.0
-        (by_special tags.now values.now special os.now) }
+pub fn by_special(pool: &Pool<'_>, s: SortPlace, special: Special, os: &[u32]) -> bool
+    ensures { result ≡ is_sort pool.now.tags.now pool.now.values.now s.0
+        (by_special pool.now.tags.now pool.now.values.now special os.now) }
 {
     match special {
-        Special::Arithmetic => arithmetic(tags, values, s, os),
-        Special::Select => selected(tags, values, s, os),
-        Special::BitVectors => bit_vector(tags, values, s, os),
-        Special::Concat => concat(tags, values, s, os),
-        Special::OneBit => is_single(tags, values, s, BIT_VEC, 1),
-        Special::BitCount => bit_count(tags, values, s, os),
-        Special::BvConst => bv_const(tags, values, s, os),
-        Special::RareList => rare_list(tags, values, s, os),
-        Special::Singleton => singleton(tags, values, s, os),
-        Special::Insert => last_sort(tags, values, s, os),
-        Special::TupleOf => by_list(tags, values, s, ListRule::Tuple, os),
-        Special::TupleUnit => is_plain(tags, values, s, TUPLE),
-        Special::Transpose => by_list(tags, values, s, ListRule::Transpose, os),
-        Special::Join => by_list(tags, values, s, ListRule::Join, os),
-        Special::Product => by_list(tags, values, s, ListRule::Product, os),
+        Special::Arithmetic => arithmetic(pool, s, os),
+        Special::Select => selected(pool, s, os),
+        Special::BitVectors => bit_vector(pool, s, os),
+        Special::Concat => concat(pool, s, os),
+        Special::OneBit => is_single(pool, s, BIT_VEC, 1),
+        Special::BitCount => bit_count(pool, s, os),
+        Special::BvConst => bv_const(pool, s, os),
+        Special::RareList => rare_list(pool, s, os),
+        Special::Singleton => singleton(pool, s, os),
+        Special::Insert => last_sort(pool, s, os),
+        Special::TupleOf => by_list(pool, s, ListRule::Tuple, os),
+        Special::TupleUnit => is_plain(pool, s, TUPLE),
+        Special::Transpose => by_list(pool, s, ListRule::Transpose, os),
+        Special::Join => by_list(pool, s, ListRule::Join, os),
+        Special::Product => by_list(pool, s, ListRule::Product, os),
         Special::NoRule => false,
     }
 }

@@ -15,6 +15,7 @@ use Rattle.cells.specs.ByPlace.{by-test}
 use Rattle.cells.specs.Limits.{cell_limit}
 use Rattle.cells.specs.Cell.{sort_of}
 use Rattle.free_variables.specs.Free.{pair_in}
+use Rattle.free_variables.specs.declared.pair_kind.PairKind.{PairKind}
 use Rattle.free_variables.specs.FreeMemo.{pair_sort}
 use Rattle.appearance.specs.Bits.{in_row, with_bit}
 use Rattle.appearance.specs.Pairs.{place_of, variable_of, is_place, binders_of}
@@ -121,49 +122,49 @@ module _ (table state : List ℕ) (w : ℕ) (h : w < cell_limit) (size : length 
         (λ e. rw (e, show-at v l, get_or-set_other state w v (get_or state w 0 - 1) 0 (λ q. eqb-false w v e (sym q))) (add-zero (get_or state v 0)))
 
 -- ---- the pairs of a run
-module _ (tags values index table : List ℕ) (pairs : PairTable tags values index table) (lets : Bool) where
+module _ (tags values index table : List ℕ) (pairs : PairTable tags values index table) (kind : PairKind) where
   -- a pair is that of a known variable if its variable is found there
   pair_place : (v : ℕ) → Known tags values index v → (a b : ℕ)
-      → (eqb a (get_or values (v + 2) 0) && eqb (pair_sort values lets b) (sort_of values v)) ≡ is_place (variable_of tags values index lets a b) v
+      → (eqb a (get_or values (v + 2) 0) && eqb (pair_sort values kind b) (sort_of values v)) ≡ is_place (variable_of tags values index kind a b) v
   unfolding variable_of
-  pair_place v k a b = by-found (place_of tags values index a (pair_sort values lets b)) refl
+  pair_place v k a b = by-found (place_of tags values index a (pair_sort values kind b)) refl
     where
-      by-found : (f : Option ℕ) → place_of tags values index a (pair_sort values lets b) ≡ f
-          → (eqb a (get_or values (v + 2) 0) && eqb (pair_sort values lets b) (sort_of values v)) ≡ is_place f v
+      by-found : (f : Option ℕ) → place_of tags values index a (pair_sort values kind b) ≡ f
+          → (eqb a (get_or values (v + 2) 0) && eqb (pair_sort values kind b) (sort_of values v)) ≡ is_place f v
       by-found f e = by-test (eqb a (get_or values (v + 2) 0))
-          (λ p. by-test (eqb (pair_sort values lets b) (sort_of values v))
-          (λ q. rw (p, q) (is-there f (sym e ∙ rw (eqb-true a (get_or values (v + 2) 0) p, eqb-true (pair_sort values lets b) (sort_of values v) q) k.place)))
-          (λ q. rw (p, q) (not_there f e (λ g. eqb-false (pair_sort values lets b) (sort_of values v) q (sym g.1)))))
+          (λ p. by-test (eqb (pair_sort values kind b) (sort_of values v))
+          (λ q. rw (p, q) (is-there f (sym e ∙ rw (eqb-true a (get_or values (v + 2) 0) p, eqb-true (pair_sort values kind b) (sort_of values v) q) k.place)))
+          (λ q. rw (p, q) (not_there f e (λ g. eqb-false (pair_sort values kind b) (sort_of values v) q (sym g.1)))))
           (λ p. rw p (not_there f e (λ g. eqb-false a (get_or values (v + 2) 0) p (sym g.0))))
         where
           is-there : (f : Option ℕ) → f ≡ Some v → true ≡ is_place f v
           is-there f e = rw e (sym (eq-eqb v v refl))
 
-          not_there : (f : Option ℕ) → place_of tags values index a (pair_sort values lets b) ≡ f
-              → ((get_or values (v + 2) 0 ≡ a) × (sort_of values v ≡ pair_sort values lets b) → ⊥) → false ≡ is_place f v
+          not_there : (f : Option ℕ) → place_of tags values index a (pair_sort values kind b) ≡ f
+              → ((get_or values (v + 2) 0 ≡ a) × (sort_of values v ≡ pair_sort values kind b) → ⊥) → false ≡ is_place f v
           not_there (Some u) e n = by-test (eqb u v)
-              (λ q. absurd (n (rw (eqb-true u v q) at (pairs.found a (pair_sort values lets b) u e).1.1)))
+              (λ q. absurd (n (rw (eqb-true u v q) at (pairs.found a (pair_sort values kind b) u e).1.1)))
               (λ q. sym q)
           not_there None e n = refl
 
   -- the pairs bind a known variable exactly if one of them is found at its place
   pub binds-some : (v : ℕ) → Known tags values index v → (list : List ℕ)
-      → pair_in (pair_sort values lets) (get_or values (v + 2) 0) (sort_of values v) list ≡ not (eqb (binders_of tags values index lets list v) 0)
+      → pair_in (pair_sort values kind) (get_or values (v + 2) 0) (sort_of values v) list ≡ not (eqb (binders_of tags values index kind list v) 0)
   unfolding pair_in binders_of
   binds-some v k [] = refl
   binds-some v k (a ∷ []) = refl
-  binds-some v k (a ∷ (b ∷ rest)) = rw (pair_place v k a b, binds-some v k rest) (one-or (is_place (variable_of tags values index lets a b) v) (binders_of tags values index lets rest v))
+  binds-some v k (a ∷ (b ∷ rest)) = rw (pair_place v k a b, binds-some v k rest) (one-or (is_place (variable_of tags values index kind a b) v) (binders_of tags values index kind rest v))
     where
       one-or : (c : Bool) (m : ℕ) → (c || not (eqb m 0)) ≡ not (eqb (cond c 1 0 + m) 0)
       one-or true m = sym (ap not (ne_eqb (1 + m) 0 (λ e. omega arith)))
       one-or false m = ap (λ (x : ℕ). not (eqb x 0)) (sym (zero-add m))
 
   -- a list has no more pairs than cells
-  pub binders-few : (v : ℕ) (list : List ℕ) → binders_of tags values index lets list v ≤ length list
+  pub binders-few : (v : ℕ) (list : List ℕ) → binders_of tags values index kind list v ≤ length list
   unfolding binders_of
   binders-few v [] = omega arith
   binders-few v (a ∷ []) = omega arith
-  binders-few v (a ∷ (b ∷ rest)) = omega (arith, binders-few v rest, one-most (is_place (variable_of tags values index lets a b) v))
+  binders-few v (a ∷ (b ∷ rest)) = omega (arith, binders-few v rest, one-most (is_place (variable_of tags values index kind a b) v))
     where
       one-most : (c : Bool) → cond c 1 0 ≤ 1
       one-most true = omega arith

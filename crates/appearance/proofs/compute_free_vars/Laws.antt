@@ -15,7 +15,8 @@ use Rattle.cells.specs.ByPlace.{by-test}
 use Rattle.cells.specs.Limits.{cell_limit}
 use Rattle.cells.specs.Cell.{operands_of}
 use Rattle.free_variables.specs.Free.{let_values}
-use Rattle.free_variables.specs.FreeMemo.{pairs_bind}
+use Rattle.free_variables.specs.declared.pair_kind.PairKind.{PairKind}
+use Rattle.free_variables.specs.FreeMemo.{pair_kind_of, pairs_bind}
 use Rattle.free_variables.specs.Once.{among, leave_out, firsts}
 use Rattle.free_variables.specs.Appearing.{occurrences_at}
 use Rattle.free_variables.specs.NamesWalk.{FreeFromMeans}
@@ -144,8 +145,8 @@ under-below : (tags values : List ℕ) (t u : ℕ) → u < cell_limit → (v : �
 unfolding occurs_under
 under-below tags values t u l v e =
     (below-limit tags values u l).at v
-    (and_split (not (pairs_bind values (eqb (get_or tags t 0) 27) v (operands_of tags values t))) (among eqb (occurrences_at tags values u) v)
-    (sym (among-leave_out eqb eqb_is eqb_refl (λ w. pairs_bind values (eqb (get_or tags t 0) 27) w (operands_of tags values t)) (occurrences_at tags values u) v) ∙ e)).1
+    (and_split (not (pairs_bind values (pair_kind_of (get_or tags t 0)) v (operands_of tags values t))) (among eqb (occurrences_at tags values u) v)
+    (sym (among-leave_out eqb eqb_is eqb_refl (λ w. pairs_bind values (pair_kind_of (get_or tags t 0)) w (operands_of tags values t)) (occurrences_at tags values u) v) ∙ e)).1
 
 module _ (tags values index table : List ℕ) (words : ℕ) (state found : List ℕ) (len t : ℕ) (ask : Ask tags values index table words state found len t) where
   -- an occurrence in the term is a known variable
@@ -225,10 +226,10 @@ module _ (tags values index table : List ℕ) (words : ℕ) (state found : List 
         or_no false = refl
 
   -- ---- the body at u under the pairs of the term at t
-  module _ (u : ℕ) (l : u < t) (run : List ℕ) (o : run ≡ operands_of tags values t) (state₁ : List ℕ) (lets : Bool)
-      (hid : Hid tags values index lets (drop 1 run) state state₁) where
-    few-pairs : (v : ℕ) → binders_of tags values index lets (drop 1 run) v ≤ cell_limit
-    few-pairs v = omega (arith, binders-few tags values index table ask.prepared.pairs lets v (drop 1 run), length-drop 1 run, rw (← o) at (ask.prepared.short t (omega arith)))
+  module _ (u : ℕ) (l : u < t) (run : List ℕ) (o : run ≡ operands_of tags values t) (state₁ : List ℕ) (kind : PairKind)
+      (hid : Hid tags values index kind (drop 1 run) state state₁) where
+    few-pairs : (v : ℕ) → binders_of tags values index kind (drop 1 run) v ≤ cell_limit
+    few-pairs v = omega (arith, binders-few tags values index table ask.prepared.pairs kind v (drop 1 run), length-drop 1 run, rw (← o) at (ask.prepared.short t (omega arith)))
 
     pub body-ask : Ask tags values index table words state₁ found len u
     body-ask = record {
@@ -239,19 +240,19 @@ module _ (tags values index table : List ℕ) (words : ℕ) (state found : List 
     }
 
     module _ (state₂ found' : List ℕ) (len' : ℕ) (walked : Walked tags values index state₁ found len (occurrences_at tags values u) state₂ found' len') where
-      module _ (q : lets ≡ eqb (get_or tags t 0) 27) (state₃ : List ℕ) (shown : Shown tags values index lets (drop 1 run) state₂ state₃) where
+      module _ (q : kind ≡ pair_kind_of (get_or tags t 0)) (state₃ : List ℕ) (shown : Shown tags values index kind (drop 1 run) state₂ state₃) where
         same_new : new_in state₁ (occurrences_at tags values u) ≡ new_in state (occurs_under tags values t u)
         unfolding new_in occurs_under pairs_bind is_hidden
         same_new = rw (← q, ← o) (ap (firsts eqb)
-            (leave_out-on (is_hidden state₁) (λ v. is_hidden state v || pairs_bind values lets v run) (occurrences_at tags values u) both
-            ∙ sym (leave_out-twice (is_hidden state) (λ v. pairs_bind values lets v run) (occurrences_at tags values u))))
+            (leave_out-on (is_hidden state₁) (λ v. is_hidden state v || pairs_bind values kind v run) (occurrences_at tags values u) both
+            ∙ sym (leave_out-twice (is_hidden state) (λ v. pairs_bind values kind v run) (occurrences_at tags values u))))
           where
-            both : (v : ℕ) → among eqb (occurrences_at tags values u) v ≡ true → is_hidden state₁ v ≡ (is_hidden state v || pairs_bind values lets v run)
+            both : (v : ℕ) → among eqb (occurrences_at tags values u) v ≡ true → is_hidden state₁ v ≡ (is_hidden state v || pairs_bind values kind v run)
             both v e =
                 let k = known u v (omega arith) e in
                 let low : v < cell_limit = omega (arith, (occurs-var tags values v u e).1, ask.prepared.small) in
-                rw (hid.counts v low, binds-some tags values index table ask.prepared.pairs lets v k (drop 1 run))
-                (sum-hidden (get_or state v 0) (binders_of tags values index lets (drop 1 run) v))
+                rw (hid.counts v low, binds-some tags values index table ask.prepared.pairs kind v k (drop 1 run))
+                (sum-hidden (get_or state v 0) (binders_of tags values index kind (drop 1 run) v))
               where
                 sum-hidden : (a b : ℕ) → not (eqb (a + b) 0) ≡ (not (eqb a 0) || not (eqb b 0))
                 sum-hidden a b = by-test (eqb a 0)

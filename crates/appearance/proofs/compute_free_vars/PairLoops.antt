@@ -12,6 +12,7 @@ use native.Mathlib.Omega.{arith}
 use borrow.Author.Tests.{eq-eqb, ltb-true, ltb-false}
 use Rattle.cells.specs.ByPlace.{by-test}
 use Rattle.cells.specs.Limits.{cell_limit}
+use Rattle.free_variables.specs.declared.pair_kind.PairKind.{PairKind}
 use Rattle.free_variables.specs.FreeMemo.{pair_sort}
 use Rattle.appearance.specs.Pairs.{place_of, variable_of, is_place, binders_of}
 use Rattle.appearance.specs.Walk.{Known, PairTable, hide_at, show_at, Wanted, Hid, Bound, Shown}
@@ -24,47 +25,47 @@ two run i l h =
     let after : suc i ≡ i + 2 - 1 = omega arith in
     drop-cons run (i - 1) 0 (omega arith) ∙ rw next (ap (λ (x : List ℕ). get_or run (i - 1) 0 ∷ x) (drop-cons run i 0 h ∙ rw after))
 
-none_left : (tags values index : List ℕ) (lets : Bool) (run : List ℕ) (i v : ℕ) → length run ≤ i → binders_of tags values index lets (drop (i - 1) run) v ≡ 0
+none_left : (tags values index : List ℕ) (kind : PairKind) (run : List ℕ) (i v : ℕ) → length run ≤ i → binders_of tags values index kind (drop (i - 1) run) v ≡ 0
 unfolding binders_of
-none_left tags values index lets run i v h = by-test (ltb (i - 1) (length run))
+none_left tags values index kind run i v h = by-test (ltb (i - 1) (length run))
     (λ e. let l = ltb-true (i - 1) (length run) e in
     rw (drop-cons run (i - 1) 0 l, drop_of_length-le run {i = suc (i - 1)} (omega arith)))
     (λ e. rw (drop_of_length-le run {i = i - 1} (ltb-false (i - 1) (length run) e)))
 
-pub record Hiding (tags values index : List ℕ) (lets : Bool) (run state₀ state : List ℕ) (i : ℕ) : Type 0 where
+pub record Hiding (tags values index : List ℕ) (kind : PairKind) (run state₀ state : List ℕ) (i : ℕ) : Type 0 where
   pub from : 2 ≤ i
-  pub counts : (v : ℕ) → v < cell_limit → get_or state₀ v 0 + binders_of tags values index lets (drop 1 run) v
-      ≡ get_or state v 0 + binders_of tags values index lets (drop (i - 1) run) v
+  pub counts : (v : ℕ) → v < cell_limit → get_or state₀ v 0 + binders_of tags values index kind (drop 1 run) v
+      ≡ get_or state v 0 + binders_of tags values index kind (drop (i - 1) run) v
   pub wanted : Wanted tags values index state
   pub few : (v : ℕ) → v < cell_limit → get_or state v 0 ≤ 67108864 + i
 
-pub record Showing (tags values index : List ℕ) (lets : Bool) (run state₀ state : List ℕ) (i : ℕ) : Type 0 where
+pub record Showing (tags values index : List ℕ) (kind : PairKind) (run state₀ state : List ℕ) (i : ℕ) : Type 0 where
   pub from : 2 ≤ i
-  pub counts : (v : ℕ) → v < cell_limit → get_or state v 0 + binders_of tags values index lets (drop 1 run) v
-      ≡ get_or state₀ v 0 + binders_of tags values index lets (drop (i - 1) run) v
+  pub counts : (v : ℕ) → v < cell_limit → get_or state v 0 + binders_of tags values index kind (drop 1 run) v
+      ≡ get_or state₀ v 0 + binders_of tags values index kind (drop (i - 1) run) v
   pub wanted : Wanted tags values index state
 
-module _ (tags values index : List ℕ) (lets : Bool) (run : List ℕ) (state₀ state : List ℕ) (i : ℕ) where
-  pub hiding-end : Hiding tags values index lets run state₀ state i → length run ≤ i → Hid tags values index lets (drop 1 run) state₀ state
+module _ (tags values index : List ℕ) (kind : PairKind) (run : List ℕ) (state₀ state : List ℕ) (i : ℕ) where
+  pub hiding-end : Hiding tags values index kind run state₀ state i → length run ≤ i → Hid tags values index kind (drop 1 run) state₀ state
   hiding-end s h = record {
-    counts = λ v l. omega (arith, s.counts v l, none_left tags values index lets run i v h);
+    counts = λ v l. omega (arith, s.counts v l, none_left tags values index kind run i v h);
     wanted = s.wanted;
   }
 
-  pub showing-end : Showing tags values index lets run state₀ state i → length run ≤ i → Shown tags values index lets (drop 1 run) state₀ state
+  pub showing-end : Showing tags values index kind run state₀ state i → length run ≤ i → Shown tags values index kind (drop 1 run) state₀ state
   showing-end s h = record {
-    counts = λ v l. omega (arith, s.counts v l, none_left tags values index lets run i v h);
+    counts = λ v l. omega (arith, s.counts v l, none_left tags values index kind run i v h);
     wanted = s.wanted;
   }
 
-  module _ (h : i < length run) (f : Option ℕ) (is : f ≡ variable_of tags values index lets (get_or run (i - 1) 0) (get_or run i 0)) (from : 2 ≤ i) where
+  module _ (h : i < length run) (f : Option ℕ) (is : f ≡ variable_of tags values index kind (get_or run (i - 1) 0) (get_or run i 0)) (from : 2 ≤ i) where
     -- the pairs from i on: the one there, and the rest
-    one-pair : (v : ℕ) → binders_of tags values index lets (drop (i - 1) run) v ≡ cond (is_place f v) 1 0 + binders_of tags values index lets (drop (i + 2 - 1) run) v
+    one-pair : (v : ℕ) → binders_of tags values index kind (drop (i - 1) run) v ≡ cond (is_place f v) 1 0 + binders_of tags values index kind (drop (i + 2 - 1) run) v
     unfolding binders_of
     one-pair v = rw (two run i from h, is)
 
     module _ (e : f ≡ None) where
-      pub hiding-none : Hiding tags values index lets run state₀ state i → Hiding tags values index lets run state₀ state (i + 2)
+      pub hiding-none : Hiding tags values index kind run state₀ state i → Hiding tags values index kind run state₀ state (i + 2)
       hiding-none s = record {
         from = omega arith;
         counts = λ v l. omega (arith, s.counts v l, rw e at (one-pair v));
@@ -72,11 +73,11 @@ module _ (tags values index : List ℕ) (lets : Bool) (run : List ℕ) (state₀
         few = λ v l. omega (arith, s.few v l);
       }
 
-      pub showing-none : Showing tags values index lets run state₀ state i → Showing tags values index lets run state₀ state (i + 2)
+      pub showing-none : Showing tags values index kind run state₀ state i → Showing tags values index kind run state₀ state (i + 2)
       showing-none s = record { from = omega arith; counts = λ v l. omega (arith, s.counts v l, rw e at (one-pair v)); wanted = s.wanted }
 
     module _ (w : ℕ) (e : f ≡ Some w) (table : List ℕ) (pairs : PairTable tags values index table) where
-      there : place_of tags values index (get_or run (i - 1) 0) (pair_sort values lets (get_or run i 0)) ≡ Some w
+      there : place_of tags values index (get_or run (i - 1) 0) (pair_sort values kind (get_or run i 0)) ≡ Some w
       unfolding variable_of
       there = sym is ∙ e
 
@@ -86,14 +87,14 @@ module _ (tags values index : List ℕ) (lets : Bool) (run : List ℕ) (state₀
       pub pair-below : w < cell_limit
       pair-below = below tags values index table pairs w known
 
-      module _ (s : Hiding tags values index lets run state₀ state i) where
+      module _ (s : Hiding tags values index kind run state₀ state i) where
         pub hiding-within : w < length state
         hiding-within = omega (arith, pair-below, s.wanted.size)
 
         pub hiding-small : length run ≤ cell_limit → get_or state w 0 < 4294967295
         hiding-small l = omega (arith, s.few w pair-below)
 
-        pub hiding-next : (after : List ℕ) → after ≡ hide_at table state w → Hiding tags values index lets run state₀ after (i + 2)
+        pub hiding-next : (after : List ℕ) → after ≡ hide_at table state w → Hiding tags values index kind run state₀ after (i + 2)
         hiding-next after a = record {
           from = omega arith;
           counts = λ v l. omega (arith, s.counts v l, one v l, rw e at (one-pair v));
@@ -108,14 +109,14 @@ module _ (tags values index : List ℕ) (lets : Bool) (run : List ℕ) (state₀
             one-most true = omega arith
             one-most false = omega arith
 
-      module _ (s : Showing tags values index lets run state₀ state i) (bound : Bound tags values index lets (drop 1 run) state₀) where
+      module _ (s : Showing tags values index kind run state₀ state i) (bound : Bound tags values index kind (drop 1 run) state₀) where
         pub showing-within : w < length state
         showing-within = omega (arith, pair-below, s.wanted.size)
 
         pub showing-some : 0 < get_or state w 0
         showing-some = omega (arith, s.counts w pair-below, bound.at w pair-below, rw (e, eq-eqb w w refl) at (one-pair w))
 
-        pub showing-next : (after : List ℕ) → after ≡ show_at table state w → Showing tags values index lets run state₀ after (i + 2)
+        pub showing-next : (after : List ℕ) → after ≡ show_at table state w → Showing tags values index kind run state₀ after (i + 2)
         showing-next after a = record {
           from = omega arith;
           counts = λ v l. omega (arith, s.counts v l, one v l, rw e at (one-pair v));

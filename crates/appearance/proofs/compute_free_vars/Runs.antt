@@ -15,9 +15,14 @@ use Rattle.free_variables.specs.Free.{values_in, let_values}
 use Rattle.free_variables.specs.Appearing.{joined, occurrences_at}
 use Rattle.free_variables.specs.Occurs.{occurs_among}
 use Rattle.free_variables.proofs.appearing.Steps.{occurs-below, occurs-not-below}
-use Rattle.appearance.specs.Walk.{Walked, Going, Ask}
+use Rattle.appearance.specs.declared.compute_free_vars.Found.{Found}
+use Rattle.appearance.specs.Walk.{Walked, Going, Ask, SameArrays}
 use Rattle.appearance.proofs.compute_free_vars.Gathering.{new_none, gather_none, gather-then}
 use Rattle.appearance.proofs.compute_free_vars.Laws.{below-limit}
+
+-- arrays that two walks after each other leave what they were
+pub same-then : (a b c : Found) → SameArrays a b → SameArrays b c → SameArrays a c
+same-then a b c s s' = record { state = s'.state ∙ s.state; places = s'.places ∙ s.places; long = s'.long ∙ s.long }
 
 -- what is left of a let's values, where the loop is at i
 unfoldable pub values_from : List ℕ → ℕ → List ℕ

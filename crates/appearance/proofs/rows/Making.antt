@@ -5,13 +5,13 @@ use mathlib.Core.Path.{◌≡◌, refl, sym, ◌∙◌}
 use mathlib.Core.Bool.{Bool, ◌||◌}
 use mathlib.Core.List.{List}
 use lib.ListN.{get_or}
-use lib.Dec.{eqb}
 use native.Mathlib.Omega.{arith}
 use Rattle.cells.specs.ByPlace.{by-test}
 use Rattle.cells.specs.Cell.{operands_of}
 use Rattle.cells.specs.declared.TermPlace.{TermPlace}
 use Rattle.free_variables.specs.Free.{let_values}
-use Rattle.free_variables.specs.FreeMemo.{pairs_bind}
+use Rattle.free_variables.specs.declared.pair_kind.PairKind.{PairKind}
+use Rattle.free_variables.specs.FreeMemo.{pair_kind_of, pairs_bind}
 use Rattle.free_variables.specs.Names.{free_in}
 use Rattle.free_variables.specs.NamesWalk.{free_among, free_under, free_in_let, Exactly, FreeFromMeans}
 use Rattle.free_variables.specs.declared.term_names.FreeFrom.{FreeFrom}
@@ -57,16 +57,16 @@ module _ (tags values index : List ℕ) (words : ℕ) (a : List ℕ) (to t : ℕ
       }
 
       -- the body at u, and then without what the pairs bind
-      module _ (tag : ℕ) (is : tag ≡ get_or tags t 0) (lets : Bool) (y : lets ≡ eqb tag 27) (u : TermPlace)
+      module _ (tag : ℕ) (is : tag ≡ get_or tags t 0) (kind : PairKind) (y : kind ≡ pair_kind_of tag) (u : TermPlace)
           (b : List ℕ) (d : Adds tags words a (u.0 + 1) to b (λ values. free_in tags values u.0))
-          (c : List ℕ) (p : Drops tags values index b to c lets run) where
+          (c : List ℕ) (p : Drops tags values index b to c kind run) where
         under : u.0 < t → (n : ℕ) → IndexedVariables tags values n index → Ready tags values n words a t to → Holds tags n c to (free_under tags values t u.0)
         unfolding free_under
         under h n x r =
             let r' : Ready tags values n words b t to = ready-kept tags values n words a t to r b d.grown.long d.grown.below in
             let g : Holds tags n b to (free_in tags values u.0) = d.holds values n (ready-fewer tags values n words a t to r (u.0 + 1) (omega arith)) in
             record {
-              at = λ v l e f. by-test (pairs_bind values (eqb (get_or tags t 0) 27) v (operands_of tags values t))
+              at = λ v l e f. by-test (pairs_bind values (pair_kind_of (get_or tags t 0)) v (operands_of tags values t))
                   (λ z. clash (rw z at f))
                   (λ z. p.kept n v x r'.rows.numbered r.rows.above l e (rw (y, is, o) z) (g.at v l e (rw z at f)));
             }

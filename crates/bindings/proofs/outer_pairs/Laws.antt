@@ -1,7 +1,7 @@
 -- Laws of `OuterPairs`, one for each way through the code.
 -- Assumes nothing.
-use Prim.Native.Nat.{ℕ, suc, ◌+◌, ◌-◌, ◌*◌, ◌/◌, ◌%◌, ◌≤◌, ◌<◌}
-use mathlib.Core.Path.{◌≡◌, refl, sym, ◌∙◌}
+use Prim.Native.Nat.{ℕ, zero, suc, ◌+◌, ◌-◌, ◌*◌, ◌/◌, ◌%◌, ◌≤◌, ◌<◌}
+use mathlib.Core.Path.{◌≡◌, refl, sym, ap, ◌∙◌}
 use mathlib.Core.Bool.{Bool, true, false}
 use mathlib.Core.List.{List, [], ◌∷◌}
 use lib.ListN.{length, get_or, set, length-set}
@@ -12,13 +12,13 @@ use native.Mathlib.Nat.{mod-lt}
 use borrow.Author.Tests.{eq-eqb, ne_eqb, eqb-true, eqb-false}
 use Rattle.cells.specs.ByPlace.{by-test}
 use Rattle.answers.specs.Outcome.{Outcome, ◌>>◌, guard}
-use Rattle.std.specs.Prelude.{Ok, Err}
+use Rattle.std.specs.Prelude.{Option, Some, None, is_some, SomeIff, Ok, Err}
 use Rattle.answers.specs.declared.refusal.Refusal.TheVariants.{NewVariable}
 use Rattle.bindings.specs.Binding.{Binding, bindings_of, same, has}
 use Rattle.bindings.specs.BindingAnswer.{pair}
 use Rattle.bindings.specs.Used.{use_all}
 use Rattle.bindings.specs.Distinct.{added, added_all, distinct}
-use Rattle.bindings.specs.OuterPairs.{pair_in, link_of, head_of, still_left, is_pair, left_below, left_in, bucket_of, scan, OnChain, Prepared, Bucket, entered, Room, Filled, Puts, Blank, PreparedFor, UsesPrepared, Leaves}
+use Rattle.bindings.specs.OuterPairs.{pair_in, link_of, head_of, still_left, is_pair, left_below, left_in, bucket_of, named, scan, OnChain, Prepared, Bucket, entered, Room, Filled, Puts, Blank, PreparedFor, UsesPrepared, Leaves}
 use Rattle.bindings.proofs.binding.Laws.{same-is}
 use Rattle.bindings.proofs.Distinct.{clash}
 use Rattle.bindings.proofs.outer_pairs.Left.{left-inside, pair_left, pair_same, left-none, left-some, scan-none, scan-one, scan-found, scan-lacks, below_more, below-without, chain-end, chain_next, chain-kept}
@@ -52,52 +52,68 @@ one_place cells p a j k s t =
     p.single j k (pair_left cells a j s) (pair_left cells a k t)
     (rw (← same-is (pair_in cells k) a (pair_same cells a k t)) at (pair_same cells a j s))
 
--- ---- a pair sought: every place of a is on the chain from c
-pub record Seeking (cells : List ℕ) (a : Binding) (c : ℕ) : Type 0 where
-  pub left : (k : ℕ) → is_pair cells a k ≡ true → OnChain cells c k
+-- ---- a pair sought: every place of a is on the chain that starts at this pair
+-- the cell that names a pair, or none
+abbrev pub naming : Option ℕ → ℕ
+naming None = 0
+naming (Some k) = suc k
+
+naming-named : (c : ℕ) → naming (named c) ≡ c
+naming-named zero = refl
+naming-named (suc k) = refl
+
+pub record Seeking (cells : List ℕ) (a : Binding) (start : Option ℕ) : Type 0 where
+  pub left : (k : ℕ) → is_pair cells a k ≡ true → OnChain cells (naming start) k
 
 module _ (cells : List ℕ) (a : Binding) where
-  pub seek-start : Prepared cells → (b : ℕ) → Bucket cells a b → Seeking cells a (head_of cells b)
-  seek-start p b k = record {
+  pub seek-start : Prepared cells → (b : ℕ) → Bucket cells a b → (start : Option ℕ) → start ≡ named (head_of cells b) → Seeking cells a start
+  seek-start p b k start is = record {
     left = λ j e.
-        rw k.is
+        rw (is, naming-named, k.is)
         (rw (same-is (pair_in cells j) a (pair_same cells a j e)) at (p.reached j (pair_left cells a j e)));
   }
 
-  module _ (c : ℕ) (s : Seeking cells a c) where
-    pub seek-end : c ≤ 0 → 0 ≡ scan cells a
-    seek-end h = sym (scan-none cells a (λ k. by-test (is_pair cells a k) (λ t. absurd (chain-end cells k (s.left k t) (omega arith))) (λ t. t)))
+  module _ (start : Option ℕ) (s : Seeking cells a start) where
+    pub seek-end : start ≡ None → None ≡ scan cells a
+    seek-end h = sym (scan-none cells a (λ k. by-test (is_pair cells a k) (λ t. absurd (chain-end cells k (s.left k t) (ap naming h))) (λ t. t)))
 
-    module _ (h : 0 < c) (r : Bool) (is : r ≡ is_pair cells a (c - 1)) where
-      pub seek-here : Prepared cells → r ≡ true → c ≡ scan cells a
-      seek-here p e =
-          let z : suc (c - 1) ≡ c = omega arith in
-          sym (scan-one cells a (c - 1) (sym is ∙ e) (λ k t. one_place cells p a k (c - 1) t (sym is ∙ e)) ∙ z)
+    module _ (k : ℕ) (one : start ≡ Some k) (r : Bool) (is : r ≡ is_pair cells a k) where
+      pub seek-here : Prepared cells → r ≡ true → Some k ≡ scan cells a
+      seek-here p e = sym (scan-one cells a k (sym is ∙ e) (λ j t. one_place cells p a j k t (sym is ∙ e)))
 
-      pub seek-next : r ≡ false → (d : ℕ) → d ≡ link_of cells (c - 1) → Seeking cells a d
-      seek-next e d l = record {
-        left = λ k t. rw l (chain_next cells k (s.left k t) (c - 1) (omega arith) (λ z. clash (is_pair cells a k) t (rw z (sym is ∙ e))));
+      pub seek-next : r ≡ false → (next : Option ℕ) → next ≡ named (link_of cells k) → Seeking cells a next
+      seek-next e next l = record {
+        left = λ j t. rw (l, naming-named) (chain_next cells j (s.left j t) k (ap naming one) (λ z. clash (is_pair cells a j) t (rw z (sym is ∙ e))));
       }
 
-pub ruleset seeks = (seek-start, seek-end, seek-here, seek-next)
-
 -- a chain goes back: the measure
-pub link-less : (cells : List ℕ) (c d : ℕ) → Prepared cells → 0 < c → d ≡ link_of cells (c - 1) → d < c
-link-less cells c d p h e = omega (arith, p.back (c - 1))
+pub link-less : (cells : List ℕ) (start : Option ℕ) (k : ℕ) (next : Option ℕ) → Prepared cells → start ≡ Some k → next ≡ named (link_of cells k)
+    → naming next < naming start
+link-less cells start k next p one e = rw (one, e, naming-named) (omega (arith, p.back k))
 
-pub ruleset descent = (link-less)
+-- the pair that a cell names, as the code takes it
+pub named-is : (c : ℕ) (r : Option ℕ) → SomeIff r (1 ≤ c) (c - 1) → r ≡ named c
+named-is zero None s = refl
+named-is zero (Some x) s = absurd (omega (arith, s.0))
+named-is (suc k) None s = absurd (s (omega arith))
+named-is (suc k) (Some x) s = ap Some (omega (arith, s.1))
 
 -- ---- a pair put at the end, unless it is there
-module _ (cells : List ℕ) (a : Binding) (n : ℕ) (f : Filled cells n) (c : ℕ) (found : c ≡ scan cells a) where
-  pub put-there : (c ≡ 0 → ⊥) → Puts a cells n cells n
+module _ (cells : List ℕ) (a : Binding) (n : ℕ) (f : Filled cells n) where
+  pub put-there : (there : Option ℕ) → there ≡ scan cells a → is_some there ≡ true → Puts a cells n cells n
   unfolding added
-  put-there o =
-      let there : has (left_in cells) a ≡ true = left-some cells a (c - 1) (scan-found cells a (c - 1) (omega arith)) in
-      record { filled = f; more = omega arith; pairs = rw there }
+  put-there None found o = clash false o refl
+  put-there (Some k) found o =
+      let has-it : has (left_in cells) a ≡ true = left-some cells a k (scan-found cells a k (sym found)) in
+      record { filled = f; more = omega arith; pairs = rw has-it }
 
-  module _ (z : c ≡ 0) where
+  module _ (there : Option ℕ) (found : there ≡ scan cells a) (z : is_some there ≡ false) where
+    none : (o : Option ℕ) → is_some o ≡ false → o ≡ None
+    none None e = refl
+    none (Some k) e = clash true refl e
+
     lacks : (j : ℕ) → is_pair cells a j ≡ false
-    lacks = scan-lacks cells a (sym found ∙ z)
+    lacks = scan-lacks cells a (sym found ∙ none there z)
 
     pub put-new : Room cells n → (b : ℕ) → Bucket cells a b → (after : List ℕ) → after ≡ entered cells n a b → Puts a cells n after (n + 1)
     unfolding added
@@ -108,8 +124,6 @@ module _ (cells : List ℕ) (a : Binding) (n : ℕ) (f : Filled cells n) (c : �
           more = omega arith;
           pairs = pairs⁺ cells n a b r k f lacks ∙ rw (left-none cells a lacks);
         })
-
-pub ruleset puts = (put-there, put-new)
 
 -- ---- the outer list prepared: n pairs are entered, and these are left to read
 pub record Preparing (outer cells : List ℕ) (n : ℕ) (left : List Binding) : Type 0 where
@@ -227,21 +241,19 @@ module _ (cells : List ℕ) (p : Prepared cells) (q : ℕ) where
       kept = used-ready;
     }
 
-module _ (cells : List ℕ) (p : Prepared cells) (a : Binding) (c : ℕ) (found : c ≡ scan cells a) where
-  pub use-not : c ≡ 0 → UsesPrepared a cells false cells
+module _ (cells : List ℕ) (p : Prepared cells) (a : Binding) (there : Option ℕ) (found : there ≡ scan cells a) where
+  pub use-not : there ≡ None → UsesPrepared a cells false cells
   use-not z = record { was = sym (left-none cells a (scan-lacks cells a (sym found ∙ z))); rest = refl; kept = p }
 
-  module _ (o : c ≡ 0 → ⊥) where
-    found-there : is_pair cells a (c - 1) ≡ true
-    found-there = scan-found cells a (c - 1) (omega arith)
+  module _ (k : ℕ) (one : there ≡ Some k) where
+    found-there : is_pair cells a k ≡ true
+    found-there = scan-found cells a k (sym found ∙ one)
 
-    pub use-inside : 5 * (c - 1) + 2 < length cells
-    use-inside = left-inside cells (c - 1) (pair_left cells a (c - 1) found-there)
+    pub use-inside : 5 * k + 2 < length cells
+    use-inside = left-inside cells k (pair_left cells a k found-there)
 
-    pub use-left : (after : List ℕ) → after ≡ set cells (5 * (c - 1) + 2) 0 → UsesPrepared a cells true after
-    use-left after e = rw e (used-left cells p (c - 1) (pair_left cells a (c - 1) found-there) a found-there)
-
-pub ruleset uses = (use-not, use-inside, use-left)
+    pub use-left : (after : List ℕ) → after ≡ set cells (5 * k + 2) 0 → UsesPrepared a cells true after
+    use-left after e = rw e (used-left cells p k (pair_left cells a k found-there) a found-there)
 
 -- ---- an inner list used: w is what its pairs that are left do to the outer ones that are left
 pub record Using (w : Outcome (List Binding)) (inner : List Binding) (cells : List ℕ) : Type 0 where

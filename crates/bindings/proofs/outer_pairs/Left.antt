@@ -1,5 +1,6 @@
 -- The pairs that are left in a prepared array, and the chains of its buckets.
 -- Assumes nothing.
+use Rattle.std.specs.Prelude.{Some, None}
 use Prim.Native.Nat.{ℕ, zero, suc, ◌+◌, ◌*◌, ◌≤◌, ◌<◌}
 use mathlib.Core.Path.{◌≡◌, refl, sym, ap, ◌∙◌}
 use mathlib.Core.Bool.{Bool, true, false, ◌||◌, cond}
@@ -83,52 +84,52 @@ module _ (cells : List ℕ) where
 
 -- ---- what a scan finds
 module _ (cells : List ℕ) (a : Binding) where
-  none_below : ((k : ℕ) → is_pair cells a k ≡ false) → (n : ℕ) → scan_below cells a n ≡ 0
+  none_below : ((k : ℕ) → is_pair cells a k ≡ false) → (n : ℕ) → scan_below cells a n ≡ None
   unfolding scan_below
   none_below none zero = refl
   none_below none (suc k) = rw (none k) (none_below none k)
 
-  one_below : (q : ℕ) → is_pair cells a q ≡ true → ((k : ℕ) → is_pair cells a k ≡ true → k ≡ q) → (n : ℕ) → q < n → scan_below cells a n ≡ suc q
+  one_below : (q : ℕ) → is_pair cells a q ≡ true → ((k : ℕ) → is_pair cells a k ≡ true → k ≡ q) → (n : ℕ) → q < n → scan_below cells a n ≡ Some q
   unfolding scan_below
   one_below q e alone zero h = absurd (omega arith)
   one_below q e alone (suc k) h =
       by-test (is_pair cells a k)
-      (λ t. rw t (ap suc (alone k t)))
+      (λ t. rw t (ap Some (alone k t)))
       (λ t. by-test (eqb q k)
       (λ s. clash (is_pair cells a k) (rw (eqb-true q k s) at e) t)
       (λ s. let n : q ≡ k → ⊥ = eqb-false q k s in rw t (one_below q e alone k (omega arith))))
 
-  found_below : (n k : ℕ) → scan_below cells a n ≡ suc k → is_pair cells a k ≡ true
+  found_below : (n k : ℕ) → scan_below cells a n ≡ Some k → is_pair cells a k ≡ true
   unfolding scan_below
-  found_below zero k e = absurd (omega arith)
+  found_below zero k e = cc
   found_below (suc j) k e =
       by-test (is_pair cells a j)
-      (λ t. let z : suc j ≡ suc k = rw t at e in let y : j ≡ k = omega arith in rw y at t)
+      (λ t. let z : Some j ≡ Some k = rw t at e in let y : j ≡ k = cc in rw y at t)
       (λ t. found_below j k (rw t at e))
 
-  lacks-below : (n : ℕ) → scan_below cells a n ≡ 0 → (j : ℕ) → j < n → is_pair cells a j ≡ false
+  lacks-below : (n : ℕ) → scan_below cells a n ≡ None → (j : ℕ) → j < n → is_pair cells a j ≡ false
   unfolding scan_below
   lacks-below zero e j h = absurd (omega arith)
   lacks-below (suc k) e j h =
       by-test (is_pair cells a k)
-      (λ t. let z : suc k ≡ 0 = rw t at e in absurd (omega arith))
+      (λ t. let z : Some k ≡ None = rw t at e in cc)
       (λ t. by-test (eqb j k)
       (λ s. rw (← eqb-true j k s) at t)
       (λ s. let n : j ≡ k → ⊥ = eqb-false j k s in lacks-below k (rw t at e) j (omega arith)))
 
-  pub scan-none : ((k : ℕ) → is_pair cells a k ≡ false) → scan cells a ≡ 0
+  pub scan-none : ((k : ℕ) → is_pair cells a k ≡ false) → scan cells a ≡ None
   unfolding scan
   scan-none none = none_below none (length cells)
 
-  pub scan-one : (q : ℕ) → is_pair cells a q ≡ true → ((k : ℕ) → is_pair cells a k ≡ true → k ≡ q) → scan cells a ≡ suc q
+  pub scan-one : (q : ℕ) → is_pair cells a q ≡ true → ((k : ℕ) → is_pair cells a k ≡ true → k ≡ q) → scan cells a ≡ Some q
   unfolding scan
   scan-one q e alone = one_below q e alone (length cells) (omega (arith, left-inside cells q (pair_left cells a q e)))
 
-  pub scan-found : (k : ℕ) → scan cells a ≡ suc k → is_pair cells a k ≡ true
+  pub scan-found : (k : ℕ) → scan cells a ≡ Some k → is_pair cells a k ≡ true
   unfolding scan
   scan-found k e = found_below (length cells) k e
 
-  pub scan-lacks : scan cells a ≡ 0 → (j : ℕ) → is_pair cells a j ≡ false
+  pub scan-lacks : scan cells a ≡ None → (j : ℕ) → is_pair cells a j ≡ false
   unfolding scan
   scan-lacks e j =
       by-test (is_pair cells a j)

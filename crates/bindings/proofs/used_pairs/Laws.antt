@@ -13,7 +13,8 @@ use borrow.Author.Tests.{eq-eqb, ne_eqb}
 use Rattle.cells.specs.ByPlace.{by-test}
 use Rattle.answers.specs.Outcome.{Outcome, pass, refuse, ◌>>◌, guard}
 use Rattle.bindings.specs.Binding.{Binding, same, has}
-use Rattle.bindings.specs.Used.{without, use_all, left_of, is_left, mark_of, marked, Uses}
+use Rattle.bindings.proofs.Distinct.{clash, or_assoc, or-false}
+use Rattle.bindings.specs.Used.{without, use_all, left_of, is_left, mark_of, Uses}
 
 -- ---- a pair of the outer list against the one that is used
 module _ (mark : ℕ) (b a : Binding) where
@@ -33,62 +34,28 @@ module _ (mark : ℕ) (b a : Binding) where
   unfolding mark_of
   mark-other r is e = rw (← is, e)
 
--- ---- is a left? w says it of the pairs in `left`, with the marks from k on
+-- ---- the marks and the pairs from a place on, the first one tested
 left-nil : (used : List ℕ) → left_of used [] ≡ []
 unfolding left_of
 left-nil [] = refl
 left-nil (m ∷ ms) = refl
 
--- the first pair tested, then the others
 has-step : (a : Binding) (m : ℕ) (b : Binding) (ms : List ℕ) (bs : List Binding) → has (left_of (m ∷ ms) (b ∷ bs)) a ≡ is_left a m b || has (left_of ms bs) a
 unfolding left_of is_left has
 has-step a m b ms bs = by-test (eqb m 0) (λ e. rw e) (λ e. rw e)
 
-module _ (w : Bool) (a : Binding) (used : List ℕ) (k : ℕ) (left : List Binding) (inv : w ≡ has (left_of (drop k used) left) a) where
-  pub left_end : length used ≤ k → false ≡ w
-  unfolding left_of has
-  left_end h = rw (inv, drop_of_length-le used h)
-
-  pub left-odd : left ≡ [] → false ≡ w
-  unfolding has
-  left-odd e = rw (inv, e, left-nil)
-
-  module _ (h : k < length used) (b : Binding) (rest : List Binding) (one : left ≡ b ∷ rest) (r : Bool) (is : r ≡ is_left a (get_or used k 0) b) where
-    pub left_here : r ≡ true → true ≡ w
-    left_here e = rw (inv, drop-cons used k 0 h, one, has-step, ← is, e)
-
-    pub left-next : r ≡ false → w ≡ has (left_of (drop (k + 1) used) rest) a
-    left-next e = rw (inv, drop-cons used k 0 h, one, has-step, ← is, e, add-one k)
-
--- ---- marking: w is the marks before k with those from k on marked
-unfoldable pub marked_from : Binding → List ℕ → ℕ → List Binding → List ℕ
-marked_from a used k left = take k used ++ marked a (drop k used) left
-
-pub mark-start : (a : Binding) (used : List ℕ) (left : List Binding) → marked a used left ≡ marked_from a used 0 left
-unfolding marked_from
-mark-start a used left = refl
+-- the marks once a is used
+unfoldable pub marked : Binding → List ℕ → List Binding → List ℕ
+marked a [] bs = []
+marked a (m ∷ ms) [] = m ∷ ms
+marked a (m ∷ ms) (b ∷ bs) = mark_of a m b ∷ marked a ms bs
 
 marked-nil : (a : Binding) (used : List ℕ) → marked a used [] ≡ used
 unfolding marked
 marked-nil a [] = refl
 marked-nil a (m ∷ ms) = refl
 
-module _ (w : List ℕ) (a : Binding) (used : List ℕ) (k : ℕ) (left : List Binding) (inv : w ≡ marked_from a used k left) where
-  pub mark-end : length used ≤ k → used ≡ w
-  unfolding marked_from marked
-  mark-end h = rw (inv, drop_of_length-le used h, take_all k used h, append-nil)
-
-  pub mark-odd : left ≡ [] → used ≡ w
-  unfolding marked_from
-  mark-odd e = rw (inv, e, marked-nil, take-append-drop)
-
-  pub mark-next : k < length used → (b : Binding) (rest : List Binding) → left ≡ b ∷ rest → (m : ℕ) → m ≡ mark_of a (get_or used k 0) b
-      → w ≡ marked_from a (set used k m) (k + 1) rest
-  unfolding marked_from marked
-  mark-next h b rest one m is =
-      rw (inv, drop-cons used k 0 h, one, ← is, add-one k, take-suc-set used k m h, drop-set-lt (suc k) used k m (omega arith), append_snoc)
-
--- ---- one pair used
+-- ---- what is left once a is used
 left-marked : (a : Binding) (used : List ℕ) (bs : List Binding) → left_of (marked a used bs) bs ≡ without a (left_of used bs)
 unfolding left_of marked mark_of without
 left-marked a [] bs = refl
@@ -98,14 +65,46 @@ left-marked a (m ∷ ms) (b ∷ bs) =
     (λ s. by-test (eqb m 0) (λ e. rw (s, e, s) (left-marked a ms bs)) (λ e. rw (s, e) (left-marked a ms bs)))
     (λ s. by-test (eqb m 0) (λ e. rw (s, e, s) (ap (◌∷◌ b) (left-marked a ms bs))) (λ e. rw (s, e) (left-marked a ms bs)))
 
-module _ (a : Binding) (outer : List Binding) (used : List ℕ) (r : Bool) (is : r ≡ has (left_of used outer) a) where
-  pub used-left : r ≡ true → (after : List ℕ) → after ≡ marked a used outer → Uses a outer used true after
-  used-left e after m = record { was = sym e ∙ is; rest = rw m (left-marked a used outer) }
+without-none : (a : Binding) (bs : List Binding) → has bs a ≡ false → without a bs ≡ bs
+unfolding has without
+without-none a [] e = refl
+without-none a (b ∷ bs) e =
+    by-test (same b a)
+    (λ s. clash true refl (rw s at e))
+    (λ s. rw s (ap (◌∷◌ b) (without-none a bs (rw s at e))))
 
-  pub used-not : r ≡ false → Uses a outer used false used
-  used-not e = record { was = sym e ∙ is; rest = refl }
+-- ---- one pass: the pairs before k are tested and marked, and `was` says whether a was left among them; those in `left`, and the marks
+-- from k on, are as they were
+pub record Using (a : Binding) (outer : List Binding) (before used : List ℕ) (k : ℕ) (left : List Binding) (was : Bool) : Type 0 where
+  pub found : has (left_of before outer) a ≡ was || has (left_of (drop k used) left) a
+  pub marks : marked a before outer ≡ take k used ++ marked a (drop k used) left
 
-pub ruleset one = (used-left, used-not)
+pub use-start : (a : Binding) (outer : List Binding) (used : List ℕ) → Using a outer used used 0 outer false
+use-start a outer used = record { found = refl; marks = refl }
+
+module _ (a : Binding) (outer : List Binding) (before used : List ℕ) (k : ℕ) (left : List Binding) (was : Bool) (s : Using a outer before used k left was) where
+  uses : has (left_of before outer) a ≡ was → marked a before outer ≡ used → Uses a outer before was used
+  uses e m = record {
+    was = sym e;
+    rest = ap (λ l. left_of l outer) (sym m) ∙ left-marked a before outer
+        ∙ by-test was (λ t. rw t) (λ t. rw t (without-none a (left_of before outer) (e ∙ t)));
+  }
+
+  pub use-end : length used ≤ k → Uses a outer before was used
+  unfolding left_of marked has
+  use-end h = uses (rw (s.found, drop_of_length-le used h, or-false was)) (rw (s.marks, drop_of_length-le used h, take_all k used h, append-nil))
+
+  pub use-odd : left ≡ [] → Uses a outer before was used
+  unfolding has
+  use-odd e = uses (rw (s.found, e, left-nil, or-false was)) (rw (s.marks, e, marked-nil, take-append-drop))
+
+  pub use-next : k < length used → (b : Binding) (rest : List Binding) → left ≡ b ∷ rest → (r : Bool) → r ≡ is_left a (get_or used k 0) b
+      → (m : ℕ) → m ≡ mark_of a (get_or used k 0) b → Using a outer before (set used k m) (k + 1) rest (was || r)
+  unfolding marked
+  use-next h b rest one r is m mark = record {
+    found = rw (s.found, drop-cons used k 0 h, one, has-step, ← is, add-one k, drop-set-lt (suc k) used k m (omega arith)) (sym (or_assoc was r _));
+    marks = rw (s.marks, drop-cons used k 0 h, one, ← mark, add-one k, take-suc-set used k m h, drop-set-lt (suc k) used k m (omega arith), append_snoc);
+  }
 
 -- ---- an inner list used: w is what its pairs that are left to use do to the outer ones that are left
 module _ (w : Outcome (List Binding)) (inner : List Binding) (outer : List Binding) (used : List ℕ) (inv : w ≡ use_all inner (left_of used outer)) where

@@ -15,8 +15,6 @@ use Rattle.cells.specs.ByPlace.{by-test}
 use Rattle.cells.specs.Cell.{cells_of, is_at}
 use Rattle.cells.specs.Headers.{first_from}
 use Rattle.descriptions.specs.Description.{find, is_full, append, found_or, adding, Added-is, Room}
-use Rattle.descriptions.specs.declared.description.Added.{Added}
-use Rattle.descriptions.specs.declared.description.Added.TheVariants.{There, New, Full}
 use Rattle.cells.proofs.Cells.{same_refl}
 use Rattle.cells.proofs.Walks.{first-here}
 use Rattle.descriptions.proofs.description.Laws.{has_room}
@@ -133,21 +131,21 @@ pub record Grown (tags values : List ℕ) (n tag : ℕ) (cells : List ℕ) (p m 
   pub found : find tags' values' m tag cells ≡ Some p
   pub still : (other : ℕ) (others : List ℕ) (q : ℕ) → find tags values n other others ≡ Some q → find tags' values' m other others ≡ Some q
 
-data Outcome (tags values : List ℕ) (n tag : ℕ) (cells : List ℕ) : Added → List ℕ → List ℕ → Type 0 where
-  stood : {p : ℕ} → find tags values n tag cells ≡ Some p → Outcome tags values n tag cells (There p) tags values
-  refused : Outcome tags values n tag cells Full tags values
+data Outcome (tags values : List ℕ) (n tag : ℕ) (cells : List ℕ) : Option ℕ → ℕ → List ℕ → List ℕ → Type 0 where
+  stood : {p : ℕ} → find tags values n tag cells ≡ Some p → Outcome tags values n tag cells (Some p) n tags values
+  refused : Outcome tags values n tag cells None n tags values
   put : find tags values n tag cells ≡ None → Room tags values n (length cells)
-      → Outcome tags values n tag cells (New n (n + 1 + length cells)) (sets tags n (tag ∷ replicate (length cells) 0)) (sets values n (length cells ∷ cells))
+      → Outcome tags values n tag cells (Some n) (n + 1 + length cells) (sets tags n (tag ∷ replicate (length cells) 0)) (sets values n (length cells ∷ cells))
 
 by-found : {P : Type 0} (f : Option ℕ) → ((p : ℕ) → f ≡ Some p → P) → (f ≡ None → P) → P
 by-found (Some p) at nothing = at p refl
 by-found None at nothing = nothing refl
 
-module _ (tags values : List ℕ) (limit n tag : ℕ) (cells : List ℕ) (r : Added) (tags' values' : List ℕ) (s : Added-is tags values limit n tag cells r tags' values') where
-  outcome : Outcome tags values n tag cells r tags' values'
+module _ (tags values : List ℕ) (limit n tag : ℕ) (cells : List ℕ) (r : Option ℕ) (m : ℕ) (tags' values' : List ℕ) (s : Added-is tags values limit n tag cells r m tags' values') where
+  outcome : Outcome tags values n tag cells r m tags' values'
   unfolding adding found_or append
   outcome =
-      rw (s.answer, s.tags-are, s.values-are)
+      rw (s.place, s.count, s.tags-are, s.values-are)
       (by-found (find tags values n tag cells) (λ p e. rw e (stood e))
       (λ e. by-test (is_full tags values limit n (length cells)) (λ b. rw (e, b) refused)
       (λ b. rw (e, b) (put e (has_room tags values limit n (length cells) _ refl b)))))
@@ -156,7 +154,7 @@ module _ (tags values : List ℕ) (limit n tag : ℕ) (cells : List ℕ) (r : Ad
   pub tags-kept : (i : ℕ) → i < n → get_or tags' i 0 ≡ get_or tags i 0
   tags-kept i h = kept outcome
     where
-      kept : {a : Added} {t v : List ℕ} → Outcome tags values n tag cells a t v → get_or t i 0 ≡ get_or tags i 0
+      kept : {a : Option ℕ} {b : ℕ} {t v : List ℕ} → Outcome tags values n tag cells a b t v → get_or t i 0 ≡ get_or tags i 0
       kept (stood e) = refl
       kept refused = refl
       kept (put e room) = sets-before (tag ∷ replicate (length cells) 0) tags n i h
@@ -164,24 +162,27 @@ module _ (tags values : List ℕ) (limit n tag : ℕ) (cells : List ℕ) (r : Ad
   pub values-kept : (i : ℕ) → i < n → get_or values' i 0 ≡ get_or values i 0
   values-kept i h = kept outcome
     where
-      kept : {a : Added} {t v : List ℕ} → Outcome tags values n tag cells a t v → get_or v i 0 ≡ get_or values i 0
+      kept : {a : Option ℕ} {b : ℕ} {t v : List ℕ} → Outcome tags values n tag cells a b t v → get_or v i 0 ≡ get_or values i 0
       kept (stood e) = refl
       kept refused = refl
       kept (put e room) = sets-before (length cells ∷ cells) values n i h
 
   -- an old place is where the description is found
-  pub there-found : (p : ℕ) → r ≡ There p → find tags' values' n tag cells ≡ Some p
-  there-found p q = found (rw q at outcome)
+  pub there-found : (p : ℕ) → r ≡ Some p → m ≡ n → find tags' values' n tag cells ≡ Some p
+  there-found p q e = found outcome q e
     where
-      found : {t v : List ℕ} → Outcome tags values n tag cells (There p) t v → find t v n tag cells ≡ Some p
-      found (stood e) = e
+      found : {a : Option ℕ} {b : ℕ} {t v : List ℕ} → Outcome tags values n tag cells a b t v → a ≡ Some p → b ≡ n → find t v n tag cells ≡ Some p
+      found (stood e) i h = e ∙ i
+      found refused i h = absurd (let z : ◌≡◌ {A = ℕ} 0 1 = cc in omega arith)
+      found (put e room) i h = absurd (omega (arith, h))
 
   -- a new place, in a pool that headers fill
-  pub new-grown : Fills values n 0 → (p m : ℕ) → r ≡ New p m → Grown tags values n tag cells p m tags' values'
-  new-grown f p m q = grown (rw q at outcome)
+  pub new-grown : Fills values n 0 → (p : ℕ) → r ≡ Some p → n < m → Grown tags values n tag cells p m tags' values'
+  new-grown f p q h = grown (rw q at outcome) h
     where
-      grown : {a b : ℕ} {t v : List ℕ} → Outcome tags values n tag cells (New a b) t v → Grown tags values n tag cells a b t v
-      grown (put e room) = record {
+      grown : {a b : ℕ} {t v : List ℕ} → Outcome tags values n tag cells (Some a) b t v → n < b → Grown tags values n tag cells a b t v
+      grown (stood e) h = absurd (omega (arith, h))
+      grown (put e room) h = record {
         place = refl;
         count = refl;
         fills = put-fills tags values n tag cells room f;

@@ -15,7 +15,6 @@ use native.Mathlib.Numerals.{add-one}
 use borrow.Author.Tests.{lt-ltb, le-ltb, ltb-false, leb-true, leb-false}
 use Rattle.cells.specs.Cell.{cells_of}
 use Rattle.descriptions.specs.Description.{find, is_found, repeats, is_full, append, found_or, adding, Added-is, Room, Put, zero_from}
-use Rattle.descriptions.specs.declared.description.Added.TheVariants.{There, New, Full}
 use borrow.Rule.Slice.PartMut.{mid_of, put_mid}
 
 -- ---- check 15: f is what is found below p
@@ -107,21 +106,22 @@ pub ruleset headers = (put-tags-long, put-values-long, put-header)
 
 -- ---- adding: f is what is found below n, and full says whether there is no room
 module _ (tags values : List ℕ) (limit n tag : ℕ) (cells : List ℕ) (f : Option ℕ) (is : f ≡ find tags values n tag cells) where
-  pub add-there : (p : ℕ) → f ≡ Some p → Added-is tags values limit n tag cells (There p) tags values
+  pub add-there : (p : ℕ) → f ≡ Some p → Added-is tags values limit n tag cells (Some p) n tags values
   unfolding adding found_or
-  add-there p e = record { answer = rw (← is, e); tags-are = rw (← is, e); values-are = rw (← is, e) }
+  add-there p e = record { place = rw (← is, e); count = rw (← is, e); tags-are = rw (← is, e); values-are = rw (← is, e) }
 
   module _ (e : f ≡ None) (full : Bool) (room : full ≡ is_full tags values limit n (length cells)) where
-    pub add-full : full ≡ true → Added-is tags values limit n tag cells Full tags values
+    pub add-full : full ≡ true → Added-is tags values limit n tag cells None n tags values
     unfolding adding found_or append
-    add-full y = record { answer = rw (← is, e, ← room, y); tags-are = rw (← is, e, ← room, y); values-are = rw (← is, e, ← room, y) }
+    add-full y = record { place = rw (← is, e, ← room, y); count = rw (← is, e, ← room, y); tags-are = rw (← is, e, ← room, y); values-are = rw (← is, e, ← room, y) }
 
     pub add-new : full ≡ false → (end : ℕ) → end ≡ n + 1 + length cells → (tags' values' : List ℕ)
         → Put tags values n (tag ∷ replicate (length cells) 0) (length cells ∷ cells) tags' values'
-        → Added-is tags values limit n tag cells (New n end) tags' values'
+        → Added-is tags values limit n tag cells (Some n) end tags' values'
     unfolding adding found_or append
     add-new y end q tags' values' s = record {
-      answer = rw (← is, e, ← room, y, q);
+      place = rw (← is, e, ← room, y);
+      count = rw (← is, e, ← room, y, q);
       tags-are = s.tags-are ∙ rw (← is, e, ← room, y);
       values-are = s.values-are ∙ rw (← is, e, ← room, y);
     }

@@ -10,8 +10,7 @@ use lib.Seq.{sets}
 use native.Mathlib.Omega.{arith}
 use Rattle.cells.specs.Cell.{is_at}
 use Rattle.descriptions.specs.Description.{find, is_full, Added-is, Room, Put}
-use Rattle.descriptions.specs.Index.{bucket_of, head_of, on_chain, as_found, look_up, Index, entered}
-use Rattle.descriptions.specs.declared.description.Added.TheVariants.{There, New, Full}
+use Rattle.descriptions.specs.Index.{bucket_of, head_of, on_chain, look_up, Index, entered}
 use Rattle.descriptions.proofs.description.Laws.{has_room, in-limit, add-there, add-full, add-new}
 use Rattle.descriptions.proofs.description.Growth.{at_same, put_same, put_count, put-tag, put-cells}
 use Rattle.descriptions.proofs.index.Entries.{enter-index}
@@ -21,16 +20,16 @@ below-limit tags values n k full is e = omega (arith, in-limit tags values 8192 
 
 -- f is what the bucket b of the description has
 module _ (tags values : List ℕ) (n : ℕ) (index : List ℕ) (s : Index tags values n index) (tag : ℕ) (cells : List ℕ) (b : ℕ) (is : b ≡ bucket_of tag cells)
-    (f : Option ℕ) (looked : f ≡ as_found (on_chain index (λ q. is_at tags values q tag cells) (head_of index b) 0)) where
+    (f : Option ℕ) (looked : f ≡ on_chain index (λ q. is_at tags values q tag cells) (head_of index b) None) where
   pub found : f ≡ find tags values n tag cells
   unfolding look_up
   found = looked ∙ rw is (s.holds tag cells)
 
-  pub index-there : (p : ℕ) → f ≡ Some p → Added-is tags values 8192 n tag cells (There p) tags values
+  pub index-there : (p : ℕ) → f ≡ Some p → Added-is tags values 8192 n tag cells (Some p) n tags values
   index-there p e = add-there tags values 8192 n tag cells f found p e
 
   module _ (e : f ≡ None) (full : Bool) (room : full ≡ is_full tags values 8192 n (length cells)) where
-    pub index-full : full ≡ true → Added-is tags values 8192 n tag cells Full tags values
+    pub index-full : full ≡ true → Added-is tags values 8192 n tag cells None n tags values
     index-full y = add-full tags values 8192 n tag cells f found e full room y
 
     module _ (y : full ≡ false) where
@@ -42,7 +41,7 @@ module _ (tags values : List ℕ) (n : ℕ) (index : List ℕ) (s : Index tags v
 
       module _ (end : ℕ) (q : end ≡ n + 1 + length cells) (tags' values' : List ℕ)
           (p : Put tags values n (tag ∷ replicate (length cells) 0) (length cells ∷ cells) tags' values') where
-        pub index-new : Added-is tags values 8192 n tag cells (New n end) tags' values'
+        pub index-new : Added-is tags values 8192 n tag cells (Some n) end tags' values'
         index-new = add-new tags values 8192 n tag cells f found e full room y end q tags' values' p
 
         pub index-grown : b < 4093 → (index' : List ℕ) → index' ≡ entered index n b → Index tags' values' end index'

@@ -15,7 +15,7 @@ use Rattle.cells.specs.ByPlace.{by-test}
 use Rattle.cells.specs.Cell.{cells_of, is_at}
 use Rattle.cells.specs.Headers.{first_in, first_from, first_header, headers_from}
 use Rattle.descriptions.specs.Description.{find, is_found, repeats, first_repeat, zero_from}
-use Rattle.descriptions.specs.Index.{bucket_of, head_of, chain_in, on_chain, as_found, look_up, PointsBack, Reached, start, next, Within, bucket_at, Linked, Index, entered, Indexes}
+use Rattle.descriptions.specs.Index.{bucket_of, head_of, chain_in, on_chain, look_up, PointsBack, Reached, start, next, Within, bucket_at, Linked, Index, entered, Indexes}
 use Rattle.cells.proofs.Cells.{same-eq, same_refl}
 use Rattle.cells.proofs.HeaderLists.{left_end, left_before, left_place, left_rest}
 use Rattle.cells.proofs.Walks.{first-end, first-here, first_next}
@@ -194,22 +194,22 @@ module _ (tags values : List ℕ) (p : ℕ) (index : List ℕ) (s : Index tags v
       abbrev d : ℕ
       d = bucket_of tag cells
 
-      kept : as_found (on_chain index⁺ test' (head_of index d) 0) ≡ find tags values p tag cells
+      kept : on_chain index⁺ test' (head_of index d) None ≡ find tags values p tag cells
       unfolding look_up
       kept =
-          ap as_found (on_same index index⁺ (λ q. is_at tags values q tag cells) test' p s.links-back
+          on_same index index⁺ (λ q. is_at tags values q tag cells) test' p s.links-back
           (λ q l. other q (λ e. absurd (omega arith)) (λ e. absurd (omega arith)))
-          (λ i q e. agree q (s.entry i q e).before (s.entry i q e).fits tag cells) (8192 + d) 0 (entry-below (8192 + d)))
+          (λ i q e. agree q (s.entry i q e).before (s.entry i q e).fits tag cells) (8192 + d) None (entry-below (8192 + d))
           ∙ s.holds tag cells
 
       -- in the bucket of p the chain starts at p
       in-bucket : b ≡ d → look_up tags' values' index⁺ tag cells ≡ or_else (find tags values p tag cells) (cond (test' p) (Some p) None)
       unfolding look_up
       in-bucket e =
-          ap (λ x. as_found (on_chain index⁺ test' x 0)) (ap (head_of index⁺) (sym e) ∙ head-here ∙ add-one p)
-          ∙ ap as_found (chain-suc index⁺ test' back⁺ p 0 ∙ ap (λ x. on_chain index⁺ test' x (cond (test' p) (suc p) 0)) (link_here ∙ ap (head_of index) e))
-          ∙ on_or index⁺ test' (head_of index d) (cond (test' p) (suc p) 0)
-          ∙ rw kept (by-test (test' p) (λ o. rw o) (λ o. rw o))
+          ap (λ x. on_chain index⁺ test' x None) (ap (head_of index⁺) (sym e) ∙ head-here ∙ add-one p)
+          ∙ chain-suc index⁺ test' back⁺ p None ∙ ap (λ x. on_chain index⁺ test' x (cond (test' p) (Some p) None)) (link_here ∙ ap (head_of index) e)
+          ∙ on_or index⁺ test' (head_of index d) (cond (test' p) (Some p) None)
+          ∙ rw kept
 
       -- in another bucket nothing changes, and the description at p is another
       in-other : (b ≡ d → ⊥) → look_up tags' values' index⁺ tag cells ≡ or_else (find tags values p tag cells) (cond (test' p) (Some p) None)
@@ -242,11 +242,11 @@ module _ (tags values : List ℕ) (p : ℕ) (index : List ℕ) (s : Index tags v
   index_back = s.links-back
 
   module _ (tag : ℕ) (t : tag ≡ get_or tags p 0) (cells : List ℕ) (c : cells ≡ cells_of values p) (b : ℕ) (is : b ≡ bucket_of tag cells) where
-    repeat-is : (f : Option ℕ) → f ≡ as_found (on_chain index (λ q. is_at tags values q tag cells) (head_of index b) 0) → is_found f ≡ repeats tags values p
+    repeat-is : (f : Option ℕ) → f ≡ on_chain index (λ q. is_at tags values q tag cells) (head_of index b) None → is_found f ≡ repeats tags values p
     unfolding repeats look_up
     repeat-is f e = ap is_found e ∙ rw (← t, ← c, is) (ap is_found (s.holds tag cells))
 
-    pub repeats-by : (f : Option ℕ) → f ≡ as_found (on_chain index (λ q. is_at tags values q tag cells) (head_of index b) 0) → (r : Bool) → r ≡ is_some f → r ≡ repeats tags values p
+    pub repeats-by : (f : Option ℕ) → f ≡ on_chain index (λ q. is_at tags values q tag cells) (head_of index b) None → (r : Bool) → r ≡ is_some f → r ≡ repeats tags values p
     repeats-by f e r q = q ∙ some f ∙ repeat-is f e
       where
         some : (f : Option ℕ) → is_some f ≡ is_found f

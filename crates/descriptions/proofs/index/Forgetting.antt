@@ -16,7 +16,7 @@ use Rattle.cells.specs.ByPlace.{by-test}
 use Rattle.cells.specs.Cell.{cells_of, is_at}
 use Rattle.cells.specs.Headers.{first_header}
 use Rattle.descriptions.specs.Description.{find}
-use Rattle.descriptions.specs.Index.{bucket_of, head_of, chain_in, on_chain, as_found, look_up, PointsBack, Reached, next, Within, bucket_at, Linked, Index, unlinked, without, Earlier}
+use Rattle.descriptions.specs.Index.{bucket_of, head_of, chain_in, on_chain, look_up, PointsBack, Reached, next, Within, bucket_at, Linked, Index, unlinked, without, Earlier}
 use Rattle.cells.proofs.Walks.{first-end, first-here, first_next, first_below}
 use Rattle.descriptions.proofs.description.Fills.{or_else, header-grown}
 use Rattle.descriptions.proofs.index.Laws.{chain-suc, on_or}
@@ -54,34 +54,30 @@ pub ruleset leaving = (without_other, without-head)
 -- ---- a chain from a place up to p
 module _ (index : List ℕ) (test : ℕ → Bool) (s : PointsBack index) (p : ℕ) where
   -- what it gives stands below p
-  chain-below : (f c last : ℕ) → c ≤ p → last ≤ p → chain_in index test f c last ≤ p
+  chain-below : (f c : ℕ) (last : Option ℕ) → c ≤ p → Below p last → Below p (chain_in index test f c last)
   unfolding chain_in
   chain-below zero c last h l = l
   chain-below (suc f) zero last h l = l
   chain-below (suc f) (suc q) last h l =
-      chain-below f (get_or index q 0) (cond (test q) (suc q) last) (omega (arith, s.back q))
-      (by-test (test q) (λ e. rw e h) (λ e. rw e l))
+      chain-below f (get_or index q 0) (cond (test q) (Some q) last) (omega (arith, s.back q))
+      (by-test (test q) (λ e. rw e (λ r z. let y : q ≡ r = cc in omega arith)) (λ e. rw e l))
 
-  on_below : (c : ℕ) → c ≤ p → Below p (as_found (on_chain index test c 0))
+  on_below : (c : ℕ) → c ≤ p → Below p (on_chain index test c None)
   unfolding on_chain
-  on_below c h q e = found (chain_in index test c c 0) (chain-below c c 0 h (omega arith)) q e
-    where
-      found : (r : ℕ) → r ≤ p → (q : ℕ) → as_found r ≡ Some q → q < p
-      found zero l q e = let z : ◌≡◌ {A = ℕ} 0 1 = cc in absurd (omega arith)
-      found (suc a) l q e = let z : a ≡ q = cc in omega arith
+  on_below c h = chain-below c c None h (λ q e. let z : ◌≡◌ {A = ℕ} 0 1 = cc in absurd (omega arith))
 
   -- it depends on the links below p alone
   module _ (index' : List ℕ) (same : (q : ℕ) → q < p → get_or index' q 0 ≡ get_or index q 0) where
-    chain-links : (f c last : ℕ) → c ≤ p → chain_in index' test f c last ≡ chain_in index test f c last
+    chain-links : (f c : ℕ) (last : Option ℕ) → c ≤ p → chain_in index' test f c last ≡ chain_in index test f c last
     unfolding chain_in
     chain-links zero c last h = refl
     chain-links (suc f) zero last h = refl
     chain-links (suc f) (suc q) last h =
-        rw (same q (omega arith)) (chain-links f (get_or index q 0) (cond (test q) (suc q) last) (omega (arith, s.back q)))
+        rw (same q (omega arith)) (chain-links f (get_or index q 0) (cond (test q) (Some q) last) (omega (arith, s.back q)))
 
-    on-links : (c : ℕ) → c ≤ p → on_chain index' test c 0 ≡ on_chain index test c 0
+    on-links : (c : ℕ) → c ≤ p → on_chain index' test c None ≡ on_chain index test c None
     unfolding on_chain
-    on-links c h = chain-links c c 0 h
+    on-links c h = chain-links c c None h
 
 -- ---- one header less: that at p, the last one
 module _ (tags values : List ℕ) (p : ℕ) (at : Reached values p) (index : List ℕ) (s : Index tags values (p + (1 + get_or values p 0)) index) (h : p < 8192) where
@@ -228,19 +224,16 @@ module _ (tags values : List ℕ) (p : ℕ) (at : Reached values p) (index : Lis
       here-is q = by-test (test p) (λ e o. let z : Some p ≡ Some q = rw e at o in let y : p ≡ q = cc in sym y) (λ e o. let z : None ≡ Some q = rw e at o in let y : ◌≡◌ {A = ℕ} 0 1 = cc in absurd (omega arith))
 
       -- the chain is left with c as its head
-      left-chain : (c : ℕ) → head_of index⁻ d ≡ c → c ≤ p → or_else (as_found (on_chain index test c 0)) here ≡ or_else (find tags values p tag cells) here
+      left-chain : (c : ℕ) → head_of index⁻ d ≡ c → c ≤ p → or_else (on_chain index test c None) here ≡ or_else (find tags values p tag cells) here
           → look_up tags values index⁻ tag cells ≡ find tags values p tag cells
       unfolding look_up
       left-chain c is l e =
           rw (is, on-links index test s.links-back p index⁻ (λ q k. other q (λ z. absurd (omega arith)) (λ z. absurd (omega arith))) c l)
-          (same-below p (as_found (on_chain index test c 0)) (find tags values p tag cells) here (on_below index test s.links-back p c l) find-below here-is e)
+          (same-below p (on_chain index test c None) (find tags values p tag cells) here (on_below index test s.links-back p c l) find-below here-is e)
 
-      whole : as_found (on_chain index test (head_of index d) 0) ≡ or_else (find tags values p tag cells) here
+      whole : on_chain index test (head_of index d) None ≡ or_else (find tags values p tag cells) here
       unfolding look_up
       whole = s.holds tag cells ∙ found-next
-
-      as-here : as_found (cond (test p) (suc p) 0) ≡ here
-      as-here = by-test (test p) (λ e. rw e) (λ e. rw e)
 
       holds⁻ : look_up tags values index⁻ tag cells ≡ find tags values p tag cells
       holds⁻ =
@@ -249,10 +242,9 @@ module _ (tags values : List ℕ) (p : ℕ) (at : Reached values p) (index : Lis
           let w : head_of index d ≡ p + 1 = eqb-true _ _ e in
           let z : b ≡ d = s.head d p (w ∙ add-one p) in
           left-chain (get_or index p 0) (ap (head_of index⁻) (sym z) ∙ head-moved (ap (head_of index) z ∙ w)) (s.links-back.back p)
-          (sym (ap (or_else (as_found (on_chain index test (get_or index p 0) 0))) as-here)
-          ∙ sym (on_or index test (get_or index p 0) (cond (test p) (suc p) 0))
-          ∙ sym (ap as_found (chain-suc index test s.links-back p 0))
-          ∙ ap (λ c. as_found (on_chain index test c 0)) (sym (w ∙ add-one p))
+          (sym (on_or index test (get_or index p 0) here)
+          ∙ sym (chain-suc index test s.links-back p None)
+          ∙ ap (λ c. on_chain index test c None) (sym (w ∙ add-one p))
           ∙ whole))
           (λ e.
           let n : head_of index d ≡ p + 1 → ⊥ = eqb-false _ _ e in

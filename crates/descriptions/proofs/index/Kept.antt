@@ -1,5 +1,6 @@
 -- The index of arrays that have the same cells below its count.
 -- Assumes nothing.
+use Rattle.std.specs.Prelude.{None}
 use Prim.Native.Nat.{ℕ, zero, suc, ◌+◌, ◌≤◌}
 use mathlib.Core.Path.{◌≡◌, refl, sym, ap, ◌∙◌}
 use mathlib.Core.List.{List}
@@ -10,7 +11,7 @@ use Rattle.cells.proofs.Walks.{first-end}
 use Rattle.descriptions.specs.Description.{find}
 use Rattle.descriptions.proofs.description.Fills.{or_else, or_nothing}
 use Rattle.descriptions.proofs.description.Growth.{Same, cells_same, at_same, find-grown}
-use Rattle.descriptions.specs.Index.{bucket_of, as_found, look_up, Within, bucket_at, Index}
+use Rattle.descriptions.specs.Index.{bucket_of, look_up, Within, bucket_at, Index}
 use Rattle.descriptions.proofs.index.Laws.{on_same}
 use Rattle.descriptions.proofs.index.Entries.{reached-fills, reached-same}
 
@@ -35,9 +36,9 @@ module _ (n : ℕ) (tags values tags' values' : List ℕ) (same : Same n tags va
   holds_kept : (tag : ℕ) (cells : List ℕ) → look_up tags' values' index tag cells ≡ find tags' values' n tag cells
   unfolding look_up
   holds_kept tag cells =
-      ap as_found (on_same index index (λ q. is_at tags values q tag cells) (λ q. is_at tags' values' q tag cells) n s.links-back (λ q l. refl)
+      on_same index index (λ q. is_at tags values q tag cells) (λ q. is_at tags' values' q tag cells) n s.links-back (λ q l. refl)
       (λ i q e. at_same n tags values tags' values' same q (s.entry i q e).before (s.entry i q e).fits tag cells)
-      (8192 + bucket_of tag cells) 0 (entry-most (8192 + bucket_of tag cells)))
+      (8192 + bucket_of tag cells) None (entry-most (8192 + bucket_of tag cells))
       ∙ s.holds tag cells
       ∙ sym (or_nothing (find tags values n tag cells))
       ∙ ap (or_else (find tags values n tag cells)) (first-end values' n (λ q. is_at tags' values' q tag cells) _ n refl (omega arith))

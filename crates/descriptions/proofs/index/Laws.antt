@@ -12,7 +12,7 @@ use native.Mathlib.Nat.{mod-lt}
 use native.Mathlib.Numerals.{add-one}
 use Rattle.cells.specs.Cell.{is_at}
 use Rattle.cells.specs.ByPlace.{by-test}
-use Rattle.descriptions.specs.Index.{hash_from, bucket_of, chain_in, on_chain, head_of, as_found, look_up, PointsBack}
+use Rattle.descriptions.specs.Index.{hash_from, bucket_of, chain_in, on_chain, head_of, look_up, PointsBack}
 use Rattle.descriptions.proofs.description.Fills.{or_else}
 
 -- ---- the bucket of a description: h is the hash of the tag and the cells before i
@@ -40,7 +40,7 @@ pub ruleset hashes = (hash-start, hash-next, hash-end)
 
 -- ---- a chain
 module _ (index : List ℕ) (test : ℕ → Bool) (s : PointsBack index) where
-  chain-fuel : (f g c last : ℕ) → c ≤ f → c ≤ g → chain_in index test f c last ≡ chain_in index test g c last
+  chain-fuel : (f g c : ℕ) (last : Option ℕ) → c ≤ f → c ≤ g → chain_in index test f c last ≡ chain_in index test g c last
   unfolding chain_in
   chain-fuel zero zero c last hf hg = refl
   chain-fuel zero (suc g) zero last hf hg = refl
@@ -49,44 +49,28 @@ module _ (index : List ℕ) (test : ℕ → Bool) (s : PointsBack index) where
   chain-fuel (suc f) zero (suc q) last hf hg = absurd (omega arith)
   chain-fuel (suc f) (suc g) zero last hf hg = refl
   chain-fuel (suc f) (suc g) (suc q) last hf hg =
-      chain-fuel f g (get_or index q 0) (cond (test q) (suc q) last) (omega (arith, s.back q)) (omega (arith, s.back q))
+      chain-fuel f g (get_or index q 0) (cond (test q) (Some q) last) (omega (arith, s.back q)) (omega (arith, s.back q))
 
-  pub chain-suc : (q last : ℕ) → on_chain index test (suc q) last ≡ on_chain index test (get_or index q 0) (cond (test q) (suc q) last)
+  pub chain-suc : (q : ℕ) (last : Option ℕ) → on_chain index test (suc q) last ≡ on_chain index test (get_or index q 0) (cond (test q) (Some q) last)
   unfolding on_chain chain_in
-  chain-suc q last = chain-fuel q (get_or index q 0) (get_or index q 0) (cond (test q) (suc q) last) (s.back q) (omega arith)
+  chain-suc q last = chain-fuel q (get_or index q 0) (get_or index q 0) (cond (test q) (Some q) last) (s.back q) (omega arith)
 
-  -- w is what the whole chain gives; c and last are left of it
-  module _ (w c last : ℕ) (inv : w ≡ on_chain index test c last) where
-    pub chain-end : c ≤ 0 → last ≡ w
+  -- w is what the whole chain gives; c and last are left of it. The code takes one off c, where it can
+  module _ (w : Option ℕ) (c : ℕ) (last : Option ℕ) (inv : w ≡ on_chain index test c last) where
+    pub chain-end : ¬ (1 ≤ c) → last ≡ w
     unfolding on_chain chain_in
     chain-end h = let z : c ≡ 0 = omega arith in rw (inv, z)
 
-    -- x is c as an index, and r whether the test holds at the first header
-    module _ (h : 0 < c) (x : ℕ) (same : x ≡ c) (r : Bool) (is : r ≡ test (x - 1)) where
-      first_of : w ≡ on_chain index test (get_or index (x - 1) 0) (cond r c last)
-      first_of =
-          let e : c ≡ suc (x - 1) = omega arith in
-          inv ∙ ap (λ d. on_chain index test d last) e ∙ chain-suc (x - 1) last
-          ∙ ap (λ d. on_chain index test (get_or index (x - 1) 0) (cond (test (x - 1)) d last)) (sym e)
-          ∙ ap (λ b. on_chain index test (get_or index (x - 1) 0) (cond b c last)) (sym is)
+    -- r says whether the test holds at the first header
+    module _ (q : ℕ) (first : (1 ≤ c) × (q ≡ c - 1)) (r : Bool) (is : r ≡ test q) where
+      pub chain_next : (l : Option ℕ) (d : ℕ) → l ≡ cond r (Some q) last → d ≡ get_or index q 0 → w ≡ on_chain index test d l
+      chain_next l d el ed =
+          let e : c ≡ suc q = omega (arith, first.0, first.1) in
+          inv ∙ ap (λ x. on_chain index test x last) e ∙ chain-suc q last ∙ rw (el, ed, is)
 
-      pub chain_next : (l d : ℕ) → l ≡ cond r c last → d ≡ get_or index (x - 1) 0 → w ≡ on_chain index test d l
-      chain_next l d el ed = rw (first_of, el, ed)
-
-pub ruleset chains = (chain-end, chain_next)
-
--- a link of a place below c stays below c: the measure
-module _ (c : ℕ) where
-  pub place-less : (x : ℕ) → 0 < c → x ≡ c → x - 1 < c
-  place-less x h e = omega arith
-
-  pub link-less : (index : List ℕ) (u d : ℕ) → PointsBack index → d ≡ get_or index u 0 → u < c → d < c
-  link-less index u d s e h = omega (arith, s.back u)
-
-  pub index-less : (u d : ℕ) → u ≡ d → d < c → u < c
-  index-less u d e h = omega arith
-
-pub ruleset descent = (place-less, link-less, index-less)
+-- a chain goes back: the measure
+pub link-less : (index : List ℕ) → PointsBack index → (c q : ℕ) → (1 ≤ c) × (q ≡ c - 1) → (d : ℕ) → d ≡ get_or index q 0 → d < c
+link-less index s c q first d e = omega (arith, s.back q, first.0, first.1)
 
 -- ---- what is found on the chain, else what was found before it
 or_assoc : (a b c : Option ℕ) → or_else (or_else a b) c ≡ or_else a (or_else b c)
@@ -94,51 +78,38 @@ or_assoc (Some p) b c = refl
 or_assoc None b c = refl
 
 module _ (index : List ℕ) (test : ℕ → Bool) where
-  chain-or : (f c last : ℕ) → as_found (chain_in index test f c last) ≡ or_else (as_found (chain_in index test f c 0)) (as_found last)
+  chain-or : (f c : ℕ) (last : Option ℕ) → chain_in index test f c last ≡ or_else (chain_in index test f c None) last
   unfolding chain_in
   chain-or zero c last = refl
   chain-or (suc f) zero last = refl
   chain-or (suc f) (suc q) last =
-      let ih : as_found (chain_in index test f (get_or index q 0) (suc q)) ≡ or_else (as_found (chain_in index test f (get_or index q 0) 0)) (Some q) = chain-or f (get_or index q 0) (suc q) in
+      let next : ℕ = get_or index q 0 in
+      let ih : chain_in index test f next (Some q) ≡ or_else (chain_in index test f next None) (Some q) = chain-or f next (Some q) in
       by-test (test q)
-      (λ e. rw e (ih ∙ sym (ap (λ a. or_else a (as_found last)) ih ∙ or_assoc (as_found (chain_in index test f (get_or index q 0) 0)) (Some q) (as_found last))))
-      (λ e. rw e (chain-or f (get_or index q 0) last))
+      (λ e. rw e (ih ∙ sym (ap (λ a. or_else a last) ih ∙ or_assoc (chain_in index test f next None) (Some q) last)))
+      (λ e. rw e (chain-or f next last))
 
-  pub on_or : (c last : ℕ) → as_found (on_chain index test c last) ≡ or_else (as_found (on_chain index test c 0)) (as_found last)
+  pub on_or : (c : ℕ) (last : Option ℕ) → on_chain index test c last ≡ or_else (on_chain index test c None) last
   unfolding on_chain
   on_or c last = chain-or c c last
 
 -- ---- a chain from an entry of the index depends on the links below its place and on the test at the entries alone
 module _ (index index' : List ℕ) (test test' : ℕ → Bool) (p : ℕ) (s : PointsBack index)
     (same : (q : ℕ) → q < p → get_or index' q 0 ≡ get_or index q 0) (agree : (i q : ℕ) → get_or index i 0 ≡ suc q → test' q ≡ test q) where
-  chain_same : (f i c last : ℕ) → get_or index i 0 ≡ c → c ≤ p → chain_in index' test' f c last ≡ chain_in index test f c last
+  chain_same : (f i c : ℕ) (last : Option ℕ) → get_or index i 0 ≡ c → c ≤ p → chain_in index' test' f c last ≡ chain_in index test f c last
   unfolding chain_in
   chain_same zero i c last e h = refl
   chain_same (suc f) i zero last e h = refl
   chain_same (suc f) i (suc q) last e h =
       rw (agree i q e, same q (omega arith))
-      (chain_same f q (get_or index q 0) (cond (test q) (suc q) last) refl (omega (arith, s.back q)))
+      (chain_same f q (get_or index q 0) (cond (test q) (Some q) last) refl (omega (arith, s.back q)))
 
-  pub on_same : (i last : ℕ) → get_or index i 0 ≤ p → on_chain index' test' (get_or index i 0) last ≡ on_chain index test (get_or index i 0) last
+  pub on_same : (i : ℕ) (last : Option ℕ) → get_or index i 0 ≤ p → on_chain index' test' (get_or index i 0) last ≡ on_chain index test (get_or index i 0) last
   unfolding on_chain
   on_same i last h = chain_same (get_or index i 0) i (get_or index i 0) last refl h
 
--- ---- what the chain of a bucket gives
-as-found : (l : ℕ) → (l ≡ 0 → ⊥) → Some (l - 1) ≡ as_found l
-as-found zero n = absurd (n refl)
-as-found (suc q) n = ap Some (omega arith)
-
-module _ (last w : ℕ) (is : last ≡ w) where
-  pub none_found : last ≡ 0 → None ≡ as_found w
-  none_found e = rw (← is, e)
-
-  pub one_found : (x : ℕ) → (last ≡ 0 → ⊥) → x ≡ last → Some (x - 1) ≡ as_found w
-  one_found x n e = ap Some (ap (λ y. y - 1) e) ∙ rw (← is) (as-found last n)
-
-pub ruleset founds = (none_found, one_found)
-
--- what the index has of a description, found in the chain of its bucket
+-- ---- what the index has of a description, found in the chain of its bucket
 pub looks-up : (tags values index : List ℕ) (tag : ℕ) (cells : List ℕ) (b : ℕ) → b ≡ bucket_of tag cells → (r : Option ℕ)
-    → r ≡ as_found (on_chain index (λ q. is_at tags values q tag cells) (head_of index b) 0) → r ≡ look_up tags values index tag cells
+    → r ≡ on_chain index (λ q. is_at tags values q tag cells) (head_of index b) None → r ≡ look_up tags values index tag cells
 unfolding look_up
-looks-up tags values index tag cells b e r is = is ∙ ap (λ (x : ℕ). as_found (on_chain index (λ q. is_at tags values q tag cells) (head_of index x) 0)) e
+looks-up tags values index tag cells b e r is = is ∙ ap (λ (x : ℕ). on_chain index (λ q. is_at tags values q tag cells) (head_of index x) None) e

@@ -1,7 +1,7 @@
 -- Laws of the code, one for each way through it.
 -- Assumes nothing.
 use Rattle.std.specs.Prelude.{Option, Some, None, is_some}
-use Prim.Native.Nat.{ℕ, zero, suc, ◌-◌, ◌*◌, ◌/◌, ◌%◌, ◌≤◌, ◌<◌}
+use Prim.Native.Nat.{ℕ, zero, suc, ◌-◌, ◌*◌, ◌/◌, ◌≤◌, ◌<◌}
 use mathlib.Core.Path.{◌≡◌, refl, sym, ap, ◌∙◌}
 use mathlib.Core.Bool.{Bool, true, false, not, ◌&&◌, cond}
 use mathlib.Core.List.{List, [], ◌∷◌, ◌++◌}
@@ -10,7 +10,7 @@ use lib.Seq.{take_all, length-take-le}
 use lib.Arith.{digits_div, digits_mod}
 use lib.Dec.{eqb, ltb}
 use native.Mathlib.Omega.{arith}
-use borrow.Author.Tests.{eq-eqb, ne_eqb, ltb-true, ltb-false, not-true, not-false}
+use borrow.Author.Tests.{ltb-true, ltb-false}
 use Rattle.cells.specs.ByPlace.{by-test}
 use Rattle.descriptions.specs.Description.{find}
 use Rattle.free_variables.specs.Names.{may_be_free, free_in, NamesMarked}
@@ -22,18 +22,6 @@ use Rattle.bindings.proofs.binding.Laws.{pairs_one, first_next}
 use Rattle.free_pairs.specs.Mask.{mask_of}
 use Rattle.free_pairs.proofs.free_masks.Variables.{stands}
 use Rattle.free_pairs.specs.FreeLists.{is_missing, is_marked, first_marked}
-
--- ---- a marked pair
-module _ (other : List Binding) (mask : ℕ) (a : Binding) where
-  pub marked-unset : mask % 2 ≡ 0 → false ≡ is_marked other mask a
-  unfolding is_marked
-  marked-unset e = rw (eq-eqb _ _ e)
-
-  pub marked-set : (mask % 2 ≡ 0 → ⊥) → (r : Bool) → r ≡ has other a → not r ≡ is_marked other mask a
-  unfolding is_marked
-  marked-set n r e = rw (ne_eqb (mask % 2) 0 n, e)
-
-pub ruleset marked = (marked-unset, marked-set)
 
 -- ---- the first marked pair: w is the first of those that are left, by the mask m
 module _ (w : Option ℕ) (other : List Binding) (m : ℕ) (left : List Binding) (inv : w ≡ name_of (first_marked other m left)) where
@@ -62,7 +50,7 @@ bit_and false true = refl
 bit_and false false = refl
 
 marked-is : (other : List Binding) (test : Binding → Bool) (l : List Binding) → first_marked other (mask_of test l) l ≡ first_of (λ a. not (has other a) && test a) l
-unfolding first_marked is_marked first_of mask_of
+unfolding first_marked first_of mask_of
 marked-is other test [] = refl
 marked-is other test (a ∷ l) =
     rw (digits_mod (mask_of test l) (bit-small (test a)), digits_div (mask_of test l) (bit-small (test a)), bit_and (test a) (not (has other a)), marked-is other test l)
@@ -71,16 +59,7 @@ pub group-first : (other : List Binding) (test : Binding → Bool) (l g : List �
     → (r : Option ℕ) → r ≡ name_of (first_marked other mask (bindings_of g)) → r ≡ name_of (first_of (λ a. not (has other a) && test a) (bindings_of (take 62 l)))
 group-first other test l g q mask is r e = e ∙ rw (q, is) (ap name_of (marked-is other test (bindings_of (take 62 l))))
 
--- ---- a pair that may be missing
-module _ (there free s : Bool) (is : s ≡ free) where
-  pub missing-closed : not s ≡ true → false ≡ (not there && free)
-  missing-closed e = rw (← is, not-true s e) (by-test there (λ o. rw o) (λ o. rw o))
-
-  pub missing-open : not s ≡ false → (r : Bool) → r ≡ there → not r ≡ (not there && free)
-  missing-open e r q = rw (← is, not-false s e, q) (by-test there (λ o. rw o) (λ o. rw o))
-
-pub ruleset missing = (missing-closed, missing-open)
-
+-- ---- a pair that is not missing
 -- a pair whose bucket is not set: its variable, if it stands in the pool, is a variable of that name and sort
 free-unlisted : (tags values names : List ℕ) (n t : ℕ) → NamesMarked tags values names (free_in tags values t) → (a : Binding) → may_be_free names a.name a.sort ≡ false
     → binding_free tags values n t a ≡ false

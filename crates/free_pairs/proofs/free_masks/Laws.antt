@@ -17,11 +17,12 @@ use Rattle.cells.specs.ByPlace.{by-test}
 use Rattle.cells.specs.declared.TermPlace.{TermPlace}
 use Rattle.descriptions.specs.Description.{find}
 use Rattle.free_variables.specs.Free.{pair_in, any_of, let_values, is_free}
-use Rattle.free_variables.specs.FreeMemo.{pair_sort, pairs_bind, free_below}
+use Rattle.free_variables.specs.FreeMemo.{pair_kind_of, pair_sort, pairs_bind, free_below}
 use Rattle.cells.proofs.marks.Laws.{zeros}
 use Rattle.free_variables.proofs.free_vars.Laws.{any_none, any-first, no_value, first-value, look_self, look-low}
 use Rattle.free_variables.specs.Names.{free_in}
 use Rattle.free_variables.specs.NamesWalk.{free_among, free_under, free_in_let, Exactly, FreeFromMeans}
+use Rattle.free_variables.specs.declared.pair_kind.PairKind.{PairKind}
 use Rattle.free_variables.specs.declared.term_names.FreeFrom.{FreeFrom}
 use Rattle.free_variables.specs.declared.term_names.FreeFrom.TheVariants as below
 use Rattle.bindings.specs.Binding.{Binding, bindings_of, same}
@@ -29,7 +30,7 @@ use Rattle.free_pairs.specs.BindingFree.{binding_free, free_at}
 use Rattle.bindings.specs.BindingAnswer.{pair, pair_at}
 use Rattle.bindings.proofs.binding.Laws.{pairs_none, pairs_one, same-is}
 use Rattle.free_pairs.specs.Mask.{mask_of, without, bound_in}
-use Rattle.free_pairs.specs.MaskWalk.{binding_below, mask_among, MaskMemo, MaskWalked, MaskNoted}
+use Rattle.free_pairs.specs.MaskWalk.{binding_below, binding_under, mask_among, MaskMemo, MaskWalked, MaskNoted}
 use Rattle.free_pairs.proofs.free_masks.Variables.{stands}
 use Rattle.free_pairs.proofs.free_masks.Masks.{mask_fits, mask-same, mask-none, mask-less, mask-or, mask-without, without-le}
 
@@ -64,16 +65,16 @@ module _ (l : List ℕ) (test : Binding → Bool) where
     equal-room g = rw (is, rest-is l (λ q. omega arith)) (mask_fits test (drop 2 l) (rw (length-drop 2 l) (omega arith)))
 
 -- ---- pairs that a binder binds
-module _ (values : List ℕ) (lets : Bool) (run l : List ℕ) (mask : ℕ) where
-  pub unbound-end : length l < 2 → 0 ≡ without (bound_in values lets run) (bindings_of l) mask
+module _ (values : List ℕ) (kind : PairKind) (run l : List ℕ) (mask : ℕ) where
+  pub unbound-end : length l < 2 → 0 ≡ without (bound_in values kind run) (bindings_of l) mask
   unfolding without
   unbound-end h = rw (none_left l h)
 
-  module _ (h : 2 ≤ length l) (rest : ℕ) (is : rest ≡ without (bound_in values lets run) (bindings_of (take (length l - 2) (drop 2 l))) (mask / 2)) where
-    pub unbound-unset : mask % 2 ≡ 0 → rest * 2 ≡ without (bound_in values lets run) (bindings_of l) mask
+  module _ (h : 2 ≤ length l) (rest : ℕ) (is : rest ≡ without (bound_in values kind run) (bindings_of (take (length l - 2) (drop 2 l))) (mask / 2)) where
+    pub unbound-unset : mask % 2 ≡ 0 → rest * 2 ≡ without (bound_in values kind run) (bindings_of l) mask
     unfolding without
     unbound-unset z =
-        by-test (bound_in values lets run (pair_at l 0))
+        by-test (bound_in values kind run (pair_at l 0))
         (λ o. rw (first-left l h, ← is, o) (omega arith))
         (λ o. rw (first-left l h, ← is, o, z) (omega arith))
 
@@ -81,12 +82,12 @@ module _ (values : List ℕ) (lets : Bool) (run l : List ℕ) (mask : ℕ) where
     pub unbound-room : rest ≤ mask / 2
     unbound-room = rw is (without-le _ _ (mask / 2))
 
-    module _ (r : Bool) (e : r ≡ pair_in (pair_sort values lets) (get_or l 0 0) (get_or l 1 0) (drop 1 run)) where
-      pub unbound-bound : r ≡ true → rest * 2 ≡ without (bound_in values lets run) (bindings_of l) mask
+    module _ (r : Bool) (e : r ≡ pair_in (pair_sort values kind) (get_or l 0 0) (get_or l 1 0) (drop 1 run)) where
+      pub unbound-bound : r ≡ true → rest * 2 ≡ without (bound_in values kind run) (bindings_of l) mask
       unfolding without bound_in
       unbound-bound y = rw (first-left l h, ← is, ← e, y) (omega arith)
 
-      pub unbound-kept : r ≡ false → (mask % 2 ≡ 0 → ⊥) → rest * 2 + 1 ≡ without (bound_in values lets run) (bindings_of l) mask
+      pub unbound-kept : r ≡ false → (mask % 2 ≡ 0 → ⊥) → rest * 2 + 1 ≡ without (bound_in values kind run) (bindings_of l) mask
       unfolding without bound_in
       unbound-kept y n = let one : mask % 2 ≡ 1 = omega arith in rw (first-left l h, ← is, ← e, y, one)
 
@@ -156,16 +157,6 @@ module _ (tags values : List ℕ) (n t : ℕ) (k : get_or tags t 0 ≡ 21) where
 
 pub ruleset variable = (variable-none, variable-lost, variable-here, variable-elsewhere)
 
--- ---- noting a mask; past the end of the memo nothing is set
-module _ (memo : List ℕ) (t mask : ℕ) where
-  pub note-here : MaskNoted memo t mask (set memo t (mask + 1)) mask
-  note-here = record { same = refl; kept = refl }
-
-  pub note-past : length memo ≤ t → MaskNoted memo t mask memo mask
-  note-past h = record { same = refl; kept = sym (set_out memo t (mask + 1) h) }
-
-pub ruleset notes = (note-here, note-past)
-
 -- ---- the walk at t
 any-false-of : (test : ℕ → Bool) (l : List ℕ) → ((u : ℕ) → test u ≡ false) → any_of test l ≡ false
 unfolding any_of
@@ -191,10 +182,10 @@ module _ (tags values : List ℕ) (n t : ℕ) where
   no_found None = refl
 
   under-found : (u : ℕ) (a : Binding) (f : Option ℕ) → find tags values n 21 (a.sort ∷ (a.name ∷ [])) ≡ f
-      → at_found (free_under tags values t u) f ≡ cond (bound_in values (eqb (get_or tags t 0) 27) (operands_of tags values t) a) false (free_at tags values u f)
+      → at_found (free_under tags values t u) f ≡ cond (bound_in values (pair_kind_of (get_or tags t 0)) (operands_of tags values t) a) false (free_at tags values u f)
   unfolding free_under free_in bound_in pairs_bind
   under-found u a None q =
-      by-test (bound_in values (eqb (get_or tags t 0) 27) (operands_of tags values t) a) (λ o. rw o) (λ o. rw o)
+      by-test (bound_in values (pair_kind_of (get_or tags t 0)) (operands_of tags values t) a) (λ o. rw o) (λ o. rw o)
   under-found u a (Some v) q = let w = stands tags values n a.name a.sort v q in rw (w.name-is, w.sort-is)
 
   among-found : (run : List ℕ) (f : Option ℕ) → at_found (free_among tags values t run) f ≡ any_of (λ u. cond (ltb u t) (free_at tags values u f) false) run
@@ -209,8 +200,8 @@ module _ (tags values : List ℕ) (n t : ℕ) where
   let-found u (Some v) = refl
 
   under-is : (u : ℕ) → Exactly tags values t (free_under tags values t u) → (a : Binding)
-      → binding_free tags values n t a ≡ cond (bound_in values (eqb (get_or tags t 0) 27) (operands_of tags values t) a) false (binding_free tags values n u a)
-  unfolding binding_free
+      → binding_free tags values n t a ≡ binding_under tags values n t u a
+  unfolding binding_free binding_under
   under-is u w a = binding-is _ w a ∙ under-found u a (find tags values n 21 (a.sort ∷ (a.name ∷ []))) refl
 
   among-is : (run : List ℕ) → Exactly tags values t (free_among tags values t run) → (a : Binding) → binding_free tags values n t a ≡ any_of (binding_below tags values n a t) run
@@ -221,39 +212,16 @@ module _ (tags values : List ℕ) (n t : ℕ) where
   let-is : (u : ℕ) → Exactly tags values t (free_in_let tags values t u) → (a : Binding)
       → binding_free tags values n t a
       ≡ any_of (binding_below tags values n a t) (let_values (operands_of tags values t))
-      || cond (bound_in values (eqb (get_or tags t 0) 27) (operands_of tags values t) a) false (binding_free tags values n u a)
-  unfolding binding_free binding_below
+      || binding_under tags values n t u a
+  unfolding binding_free binding_below binding_under
   let-is u w a =
       let f = find tags values n 21 (a.sort ∷ (a.name ∷ [])) in
       binding-is _ w a ∙ (let-found u f ∙ ap₂ ◌||◌ (among-found (let_values (operands_of tags values t)) f) (under-found u a f refl))
 
--- a mask noted for t keeps the memo right
-module _ (tags values : List ℕ) (n t : ℕ) (list : List ℕ) (memo : List ℕ) (right : MaskMemo tags values n list memo) (mask : ℕ) (is : mask ≡ mask_of (binding_free tags values n t) (bindings_of list)) where
-  more-right : MaskMemo tags values n list (set memo t (mask + 1))
-  more-right = record {
-    at = λ u o. by-test (eqb u t)
-        (λ e. here u (eqb-true u t e) o)
-        (λ e. let q = get_or-set_other memo t u (mask + 1) 0 (eqb-false u t e) in rw q (right.at u (λ z. o (q ∙ z))));
-  }
-    where
-      here : (u : ℕ) → u ≡ t → (get_or (set memo t (mask + 1)) u 0 ≡ 0 → ⊥) → get_or (set memo t (mask + 1)) u 0 - 1 ≡ mask_of (binding_free tags values n u) (bindings_of list)
-      here u e o =
-          by-test (ltb t (length memo))
-          (λ b. let q : get_or (set memo t (mask + 1)) t 0 - 1 ≡ mask = rw (get_or-set_same memo t (mask + 1) 0 (ltb-true _ _ b)) (omega arith) in rw e (q ∙ is))
-          (λ b. let q : set memo t (mask + 1) ≡ memo = set_out memo t (mask + 1) (ltb-false _ _ b) in rw q (right.at u (λ z. o (rw q z))))
-
-  noted : (after : List ℕ) (r : ℕ) → MaskNoted memo t mask after r → MaskWalked tags values n list after r (mask_of (binding_free tags values n t) (bindings_of list))
-  noted after r m = record { is = m.same ∙ is; right = rw m.kept more-right }
-
-module _ (tags values : List ℕ) (t : ℕ) (s : FreeFrom) (m : FreeFromMeans tags values t s) where
-  pub variable-tag : s ≡ below.Variable → get_or tags t 0 ≡ 21
-  variable-tag e = (rw e at m).0
-
-  pub body_below : (u : TermPlace) → s ≡ below.Body u → u.0 < t
-  body_below u e = (rw e at m).0
-
-  pub let-below : (u : TermPlace) → s ≡ below.Let u → u.0 < t
-  let-below u e = (rw e at m).0
+-- the masks of two tests that agree
+module _ (tags values : List ℕ) (n : ℕ) (list memo : List ℕ) (mask : ℕ) (test test' : Binding → Bool) (agree : (a : Binding) → test' a ≡ test a) where
+  walked-same : MaskWalked tags values n list memo mask (mask_of test (bindings_of list)) → MaskWalked tags values n list memo mask (mask_of test' (bindings_of list))
+  walked-same w = record { is = w.is ∙ sym (mask-same _ _ (bindings_of list) agree); right = w.right }
 
 module _ (tags values : List ℕ) (n t : ℕ) (list : List ℕ) where
   pub walk-known : (memo : List ℕ) → MaskMemo tags values n list memo → (known : ℕ) → known ≡ get_or memo t 0 → (known ≡ 0 → ⊥)
@@ -261,57 +229,70 @@ module _ (tags values : List ℕ) (n t : ℕ) (list : List ℕ) where
   walk-known memo right known is o = record { is = rw is (right.at t (λ z. o (is ∙ z))); right = right }
 
   module _ (s : FreeFrom) (m : FreeFromMeans tags values t s) where
-    module _ (memo : List ℕ) (right : MaskMemo tags values n list memo) where
-      pub walk-nothing : s ≡ below.Nothing → (after : List ℕ) (r : ℕ) → MaskNoted memo t 0 after r
-          → MaskWalked tags values n list after r (mask_of (binding_free tags values n t) (bindings_of list))
-      walk-nothing e =
-          noted tags values n t list memo right 0
-          (sym (mask-none _ _ (λ a. binding-is tags values n t _ (rw e at m) a ∙ no_found tags values n t (find tags values n 21 (a.sort ∷ (a.name ∷ []))))))
+    module _ (memo : List ℕ) where
+      pub walk-nothing : s ≡ below.Nothing → MaskMemo tags values n list memo → MaskWalked tags values n list memo 0 (mask_of (binding_free tags values n t) (bindings_of list))
+      walk-nothing e right = record {
+        is = sym (mask-none _ _ (λ a. binding-is tags values n t _ (rw e at m) a ∙ no_found tags values n t (find tags values n 21 (a.sort ∷ (a.name ∷ [])))));
+        right = right;
+      }
 
-      pub walk-variable : s ≡ below.Variable → (mask : ℕ) → mask ≡ mask_of (binding_free tags values n t) (bindings_of list)
-          → (after : List ℕ) (r : ℕ) → MaskNoted memo t mask after r → MaskWalked tags values n list after r (mask_of (binding_free tags values n t) (bindings_of list))
-      walk-variable e mask is = noted tags values n t list memo right mask is
+      module _ (mask : ℕ) where
+        pub walk-body : (u : TermPlace) → s ≡ below.Body u → MaskWalked tags values n list memo mask (mask_of (binding_under tags values n t u.0) (bindings_of list))
+            → MaskWalked tags values n list memo mask (mask_of (binding_free tags values n t) (bindings_of list))
+        walk-body u e = walked-same tags values n list memo mask _ _ (under-is tags values n t u.0 (rw e at m).1)
 
-    module _ (u : TermPlace) (e : s ≡ below.Body u) where
-      pub walk-body : (memo : List ℕ) (inside : ℕ) → MaskWalked tags values n list memo inside (mask_of (binding_free tags values n u.0) (bindings_of list))
-          → (run : List ℕ) → run ≡ operands_of tags values t → (tag : ℕ) → tag ≡ get_or tags t 0
-          → (mask : ℕ) → mask ≡ without (bound_in values (eqb tag 27) run) (bindings_of list) inside
-          → (after : List ℕ) (r : ℕ) → MaskNoted memo t mask after r → MaskWalked tags values n list after r (mask_of (binding_free tags values n t) (bindings_of list))
-      walk-body memo inside w run o tag k mask is =
-          noted tags values n t list memo w.right mask
-          (is ∙ rw (w.is, o, k) (mask-without _ _ (bindings_of list))
-          ∙ sym (mask-same _ _ (bindings_of list) (under-is tags values n t u.0 (rw e at m).1)))
+        pub walk-run : s ≡ below.Run → (run : List ℕ) → run ≡ operands_of tags values t → MaskWalked tags values n list memo mask (mask_among tags values n list t run)
+            → MaskWalked tags values n list memo mask (mask_of (binding_free tags values n t) (bindings_of list))
+        unfolding mask_among
+        walk-run e run o w = walked-same tags values n list memo mask _ _ (among-is tags values n t (operands_of tags values t) (rw e at m)) (rw o at w)
 
-    pub walk-run : s ≡ below.Run → (run : List ℕ) → run ≡ operands_of tags values t
-        → (memo : List ℕ) (mask : ℕ) → MaskWalked tags values n list memo mask (mask_among tags values n list t run)
-        → (after : List ℕ) (r : ℕ) → MaskNoted memo t mask after r → MaskWalked tags values n list after r (mask_of (binding_free tags values n t) (bindings_of list))
-    unfolding mask_among
-    walk-run e run o memo mask w =
-        noted tags values n t list memo w.right mask
-        (w.is ∙ rw o (sym (mask-same _ _ (bindings_of list) (among-is tags values n t (operands_of tags values t) (rw e at m)))))
+        pub walk-values : s ≡ below.Values → (run : List ℕ) → run ≡ operands_of tags values t
+            → MaskWalked tags values n list memo mask (mask_among tags values n list t (let_values run))
+            → MaskWalked tags values n list memo mask (mask_of (binding_free tags values n t) (bindings_of list))
+        unfolding mask_among
+        walk-values e run o w = walked-same tags values n list memo mask _ _ (among-is tags values n t (let_values (operands_of tags values t)) (rw e at m)) (rw o at w)
 
-    pub walk-values : s ≡ below.Values → (run : List ℕ) → run ≡ operands_of tags values t
-        → (memo : List ℕ) (mask : ℕ) → MaskWalked tags values n list memo mask (mask_among tags values n list t (let_values run))
-        → (after : List ℕ) (r : ℕ) → MaskNoted memo t mask after r → MaskWalked tags values n list after r (mask_of (binding_free tags values n t) (bindings_of list))
-    unfolding mask_among
-    walk-values e run o memo mask w =
-        noted tags values n t list memo w.right mask
-        (w.is ∙ rw o (sym (mask-same _ _ (bindings_of list) (among-is tags values n t (let_values (operands_of tags values t)) (rw e at m)))))
+        pub walk-let : (u : TermPlace) → s ≡ below.Let u → (run : List ℕ) → run ≡ operands_of tags values t
+            → MaskWalked tags values n list memo mask (mask_among tags values n list t (let_values run))
+            → (memo' : List ℕ) (rest : ℕ) → MaskWalked tags values n list memo' rest (mask_of (binding_under tags values n t u.0) (bindings_of list))
+            → MaskWalked tags values n list memo' (bit_or mask rest) (mask_of (binding_free tags values n t) (bindings_of list))
+        unfolding mask_among
+        walk-let u e run o w memo' rest w' =
+            let A : Binding → Bool = λ a. any_of (binding_below tags values n a t) (let_values (operands_of tags values t)) in
+            let p : mask ≡ mask_of A (bindings_of list) = w.is ∙ rw o in
+            walked-same tags values n list memo' (bit_or mask rest) _ _ (let-is tags values n t u.0 (rw e at m).1)
+            (record { is = rw (p, w'.is) (mask-or A (binding_under tags values n t u.0) (bindings_of list)); right = w'.right })
 
-    module _ (u : TermPlace) (e : s ≡ below.Let u) where
-      pub walk-let : (run : List ℕ) → run ≡ operands_of tags values t
-          → (memo : List ℕ) (among : ℕ) → MaskWalked tags values n list memo among (mask_among tags values n list t (let_values run))
-          → (memo' : List ℕ) (inside : ℕ) → MaskWalked tags values n list memo' inside (mask_of (binding_free tags values n u.0) (bindings_of list))
-          → (tag : ℕ) → tag ≡ get_or tags t 0 → (rest : ℕ) → rest ≡ without (bound_in values (eqb tag 27) run) (bindings_of list) inside
-          → (after : List ℕ) (r : ℕ) → MaskNoted memo' t (bit_or among rest) after r → MaskWalked tags values n list after r (mask_of (binding_free tags values n t) (bindings_of list))
-      unfolding mask_among
-      walk-let run o memo among w memo' inside w' tag k rest is =
-          let A : Binding → Bool = λ a. any_of (binding_below tags values n a t) (let_values (operands_of tags values t)) in
-          let B : Binding → Bool = λ a. cond (bound_in values (eqb (get_or tags t 0) 27) (operands_of tags values t) a) false (binding_free tags values n u.0 a) in
-          let p : among ≡ mask_of A (bindings_of list) = w.is ∙ rw o in
-          let q : rest ≡ mask_of B (bindings_of list) = is ∙ rw (w'.is, o, k) (mask-without _ _ (bindings_of list)) in
-          noted tags values n t list memo' w'.right (bit_or among rest)
-          (rw (p, q) (mask-or A B (bindings_of list)) ∙ sym (mask-same _ _ (bindings_of list) (let-is tags values n t u.0 (rw e at m).1)))
+  -- a mask noted for t keeps the memo right
+  module _ (memo : List ℕ) (mask : ℕ) (w : MaskWalked tags values n list memo mask (mask_of (binding_free tags values n t) (bindings_of list))) where
+    more-right : MaskMemo tags values n list (set memo t (mask + 1))
+    more-right = record {
+      at = λ u o. by-test (eqb u t)
+          (λ e. here u (eqb-true u t e) o)
+          (λ e. let q = get_or-set_other memo t u (mask + 1) 0 (eqb-false u t e) in rw q (w.right.at u (λ z. o (q ∙ z))));
+    }
+      where
+        here : (u : ℕ) → u ≡ t → (get_or (set memo t (mask + 1)) u 0 ≡ 0 → ⊥) → get_or (set memo t (mask + 1)) u 0 - 1 ≡ mask_of (binding_free tags values n u) (bindings_of list)
+        here u e o =
+            by-test (ltb t (length memo))
+            (λ b. let q : get_or (set memo t (mask + 1)) t 0 - 1 ≡ mask = rw (get_or-set_same memo t (mask + 1) 0 (ltb-true _ _ b)) (omega arith) in rw e (q ∙ w.is))
+            (λ b. let q : set memo t (mask + 1) ≡ memo = set_out memo t (mask + 1) (ltb-false _ _ b) in rw q (w.right.at u (λ z. o (rw q z))))
+
+    pub noted : (after : List ℕ) (r : ℕ) → MaskNoted memo t mask after r → MaskWalked tags values n list after r (mask_of (binding_free tags values n t) (bindings_of list))
+    noted after r m = record { is = m.same ∙ w.is; right = rw m.kept more-right }
+
+pub ruleset finds = (walk-nothing, walk-body, walk-run, walk-values, walk-let)
+
+-- ---- the walk into the body at u of the term at t
+pub under-walked : (tags values : List ℕ) (n t u : ℕ) (list memo : List ℕ) (mask : ℕ) → MaskWalked tags values n list memo mask (mask_of (binding_free tags values n u) (bindings_of list))
+    → (tag : ℕ) → tag ≡ get_or tags t 0 → (kind : PairKind) → kind ≡ pair_kind_of tag → (run : List ℕ) → run ≡ operands_of tags values t
+    → (rest : ℕ) → rest ≡ without (bound_in values kind run) (bindings_of list) mask
+    → MaskWalked tags values n list memo rest (mask_of (binding_under tags values n t u) (bindings_of list))
+unfolding binding_under
+under-walked tags values n t u list memo mask w tag k kind q run o rest is = record {
+  is = is ∙ rw (w.is, o, q, k) (mask-without _ _ (bindings_of list));
+  right = w.right;
+}
 
 -- ---- the walk along the places l, of which the first is u
 module _ (tags values : List ℕ) (n t u : ℕ) (list l left : List ℕ)
@@ -373,32 +354,12 @@ module _ (tags values : List ℕ) (n t : ℕ) (list run : List ℕ) where
         → MaskWalked tags values n list memo' (bit_or mask rest) (mask_among tags values n list t (let_values run))
     values-on = go_on tags values n t (get_or run 2 0) list (let_values run) _ (λ a. first-value _ run some)
 
-pub ruleset walks = (walk-known, walk-nothing, walk-variable, walk-body, walk-run, walk-values, walk-let, run_end, run-skip, run_on, values-end, values-skip, values-on)
+pub ruleset walks = (run_end, run-skip, run_on, values-end, values-skip, values-on)
 
 -- ---- a mask has room for one more
 module _ (list : List ℕ) (h : length list ≤ 62) where
   pub known-room : (test : Binding → Bool) (mask : ℕ) → mask ≡ mask_of test (bindings_of list) → mask < 2147483648
   known-room test mask is = rw is (mask_fits test list h)
-
-  module _ (tags values : List ℕ) (n : ℕ) (memo : List ℕ) (mask : ℕ) where
-    pub among-room : (t : ℕ) (run : List ℕ) → MaskWalked tags values n list memo mask (mask_among tags values n list t run) → mask < 2147483648
-    unfolding mask_among
-    among-room t run w = known-room _ mask w.is
-
-    -- a let's values and its body
-    pub let-room : (t : ℕ) (run : List ℕ) → MaskWalked tags values n list memo mask (mask_among tags values n list t run)
-        → (test bound : Binding → Bool) (inside : ℕ) → inside ≡ mask_of test (bindings_of list) → (rest : ℕ) → rest ≡ without bound (bindings_of list) inside
-        → bit_or mask rest < 2147483648
-    unfolding mask_among
-    let-room t run w test bound inside i rest is =
-        let A : Binding → Bool = λ a. any_of (binding_below tags values n a t) run in
-        let B : Binding → Bool = λ a. cond (bound a) false (test a) in
-        let q : rest ≡ mask_of B (bindings_of list) = is ∙ rw i (mask-without _ _ (bindings_of list)) in
-        known-room (λ a. A a || B a) (bit_or mask rest) (rw (w.is, q) (mask-or A B (bindings_of list)))
-
-    pub unbound-fits : (test : Binding → Bool) → MaskWalked tags values n list memo mask (mask_of test (bindings_of list))
-        → (bound : Binding → Bool) (rest : ℕ) → rest ≡ without bound (bindings_of list) mask → rest < 2147483648
-    unbound-fits test w bound rest is = let whole = known-room test mask w.is in let less = without-le bound (bindings_of list) mask in rw is (omega arith)
 
 -- ---- a fresh memo
 pub fresh : (tags values : List ℕ) (n : ℕ) (list : List ℕ) (k : ℕ) → MaskMemo tags values n list (replicate k 0)

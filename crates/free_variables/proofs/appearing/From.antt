@@ -2,16 +2,16 @@
 -- `tag`, `run` and `body` are what it read of the term at t.
 -- Assumes nothing.
 use Prim.Native.Nat.{ℕ, ◌≤◌, ◌<◌}
-use mathlib.Core.Path.{◌≡◌, refl, sym}
-use mathlib.Core.Bool.{true, false}
+use mathlib.Core.Path.{◌≡◌, refl}
 use mathlib.Core.List.{List, [], ◌∷◌, ◌++◌}
 use lib.ListN.{get_or}
 use native.Mathlib.Omega.{arith}
-use borrow.Author.Tests.{eq-eqb, ne_eqb}
 use Rattle.cells.specs.Cell.{operands_of}
 use Rattle.free_variables.specs.Free.{let_values}
 use Rattle.free_variables.specs.Appearing.{occurrences_at}
 use Rattle.free_variables.specs.Occurs.{occurs_among, occurs_under}
+use Rattle.free_variables.proofs.free_vars.Laws.{kind-let, kind-binder}
+use Rattle.free_variables.specs.declared.pair_kind.PairKind.TheVariants.{SortedVar, VarBinding}
 use Rattle.free_variables.proofs.appearing.Steps.{occurs-none, occurs-self, occurs-application, occurs-operator, binder-late, let-values, pairs-binder, pairs-let}
 
 module _ (tags values : List ℕ) (t tag : ℕ) (k : tag ≡ get_or tags t 0) where
@@ -37,7 +37,7 @@ module _ (tags values : List ℕ) (t tag : ℕ) (k : tag ≡ get_or tags t 0) wh
 
       pub from-let : body < t → occurrences_at tags values t ≡ occurs_among tags values t (let_values (operands_of tags values t)) ++ occurs_under tags values t body
       unfolding occurs_among occurs_under
-      from-let g = rw (← o, ← k, eq-eqb tag 27 y) (pairs-let tags values t tag k run o body a true (sym (eq-eqb tag 27 y)) g refl)
+      from-let g = rw (← o, ← k, ← kind-let tag y) (pairs-let tags values t tag k run o body a VarBinding (kind-let tag y) g refl)
 
     module _ (y : tag ≡ 27 → ⊥) where
       pub from-late : t ≤ body → occurrences_at tags values t ≡ []
@@ -45,6 +45,6 @@ module _ (tags values : List ℕ) (t tag : ℕ) (k : tag ≡ get_or tags t 0) wh
 
       pub from-body : body < t → occurrences_at tags values t ≡ occurs_under tags values t body
       unfolding occurs_under
-      from-body g = rw (← o, ← k, ne_eqb tag 27 y) (pairs-binder tags values t tag k run o body a false (sym (ne_eqb tag 27 y)) g l h refl)
+      from-body g = rw (← o, ← k, ← kind-binder tag y) (pairs-binder tags values t tag k run o body a SortedVar (kind-binder tag y) g l h refl)
 
 pub ruleset occurs = (from_nothing, from-variable, from-application, from-operator, from-late, from-body, from-values, from-let)

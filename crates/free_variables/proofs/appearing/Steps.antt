@@ -9,27 +9,29 @@
 -- `tag` and `run` are what the walk read of the term at t.
 -- Assumes nothing.
 use Prim.Native.Nat.{ℕ, ◌-◌, ◌≤◌, ◌<◌}
-use mathlib.Core.Path.{◌≡◌, refl, sym, ap, fun_ext, ◌∙◌}
-use mathlib.Core.Bool.{Bool, true, false}
+use mathlib.Core.Path.{◌≡◌, refl, ap, fun_ext, ◌∙◌}
+use mathlib.Core.Bool.{Bool}
 use mathlib.Core.List.{List, [], ◌∷◌, ◌++◌, append-nil}
 use lib.ListN.{length, get_or, take, drop, length-drop}
 use lib.Seq.{drop-cons, take_all}
-use lib.Dec.{eqb}
 use native.Mathlib.Omega.{arith}
-use borrow.Author.Tests.{lt-ltb, le-ltb, eqb-true, eqb-false}
+use borrow.Author.Tests.{lt-ltb, le-ltb}
 use Rattle.cells.specs.Cell.{operands_of}
 use Rattle.cells.specs.ByPlace.{by_place-is}
 use Rattle.free_variables.specs.Free.{bound_by, let_binds, let_values}
-use Rattle.free_variables.specs.FreeMemo.{pair_sort, pairs_bind}
+use Rattle.free_variables.specs.FreeMemo.{pair_kind_of, pair_sort, pairs_bind}
+use Rattle.free_variables.specs.declared.pair_kind.PairKind.{PairKind}
+use Rattle.free_variables.specs.declared.pair_kind.PairKind.TheVariants.{SortedVar, VarBinding}
 use Rattle.free_variables.specs.Once.{leave_out}
+use Rattle.free_variables.proofs.free_vars.Laws.{tag-let, tag-binder}
 use Rattle.free_variables.specs.Appearing.{joined, occurrences_from, occurrences_step, occurrences_at, occurrences_below}
 
 -- ---- the pairs of a binder and of a let, as the walks read them
-pub bound-pairs : (values : List ℕ) (v : ℕ) (run : List ℕ) → bound_by values v run ≡ pairs_bind values false v run
+pub bound-pairs : (values : List ℕ) (v : ℕ) (run : List ℕ) → bound_by values v run ≡ pairs_bind values SortedVar v run
 unfolding bound_by pairs_bind pair_sort
 bound-pairs values v run = refl
 
-pub let-pairs : (values : List ℕ) (v : ℕ) (run : List ℕ) → let_binds values v run ≡ pairs_bind values true v run
+pub let-pairs : (values : List ℕ) (v : ℕ) (run : List ℕ) → let_binds values v run ≡ pairs_bind values VarBinding v run
 unfolding let_binds pairs_bind pair_sort
 let-pairs values v run = refl
 
@@ -117,18 +119,18 @@ module _ (tags values : List ℕ) (t tag : ℕ) (k : tag ≡ get_or tags t 0) wh
         unfolding leave_out
         let-values g = rw (let-is, occurs-not-below tags values t body g) (append-nil (joined (occurrences_below tags values t) (let_values run)))
 
-      -- the same of a binder or a let, `lets` telling which
-      module _ (lets : Bool) (q : lets ≡ eqb tag 27) (g : body < t) where
-        pub pairs-binder : 23 ≤ tag → tag < 28 → lets ≡ false
-            → occurrences_at tags values t ≡ leave_out (λ v. pairs_bind values lets v run) (occurrences_at tags values body)
+      -- the same of a binder or a let, by the kind of its pairs
+      module _ (kind : PairKind) (q : kind ≡ pair_kind_of tag) (g : body < t) where
+        pub pairs-binder : 23 ≤ tag → tag < 28 → kind ≡ SortedVar
+            → occurrences_at tags values t ≡ leave_out (λ v. pairs_bind values kind v run) (occurrences_at tags values body)
         pairs-binder l h z =
-            let low : tag < 27 = omega (arith, eqb-false tag 27 (sym q ∙ z)) in
+            let low : tag < 27 = omega (arith, tag-binder tag kind q z) in
             rw z (occurs-binder l low g ∙ ap (λ (f : ℕ → Bool). leave_out f (occurrences_at tags values body)) (fun_ext (λ v. bound-pairs values v run)))
 
-        pub pairs-let : lets ≡ true → occurrences_at tags values t
-            ≡ joined (occurrences_below tags values t) (let_values run) ++ leave_out (λ v. pairs_bind values lets v run) (occurrences_at tags values body)
+        pub pairs-let : kind ≡ VarBinding → occurrences_at tags values t
+            ≡ joined (occurrences_below tags values t) (let_values run) ++ leave_out (λ v. pairs_bind values kind v run) (occurrences_at tags values body)
         pairs-let z =
-            rw z (occurs-let (eqb-true tag 27 (sym q ∙ z)) g
+            rw z (occurs-let (tag-let tag kind q z) g
             ∙ ap (λ (f : ℕ → Bool). joined (occurrences_below tags values t) (let_values run) ++ leave_out f (occurrences_at tags values body))
             (fun_ext (λ v. let-pairs values v run)))
 

@@ -4,42 +4,40 @@ use Prim.Native.Nat.{ℕ, zero, suc, ◌+◌, ◌-◌, ◌≤◌, ◌<◌}
 use mathlib.Core.Path.{◌≡◌, refl, sym, ap, fun_ext, ◌∙◌}
 use mathlib.Core.Bool.{Bool, true, false, cond, ◌||◌, or-false}
 use mathlib.Core.List.{List, [], ◌∷◌}
-use lib.ListN.{length, get_or, take, drop, set, replicate, length-drop}
-use lib.Seq.{drop-cons, take_all, get_or-set_other}
+use lib.ListN.{length, get_or, take, drop, replicate, length-drop}
+use lib.Seq.{drop-cons, take_all}
 use lib.Dec.{ltb, eqb}
 use native.Mathlib.Omega.{arith}
 use borrow.Author.Tests.{lt-ltb, le-ltb, eq-eqb, ne_eqb, eqb-true, eqb-false, ltb-true}
 use Rattle.cells.specs.Cell.{sort_of, operands_of}
 use Rattle.cells.specs.ByPlace.{by-test, down_to, by_place, by_place-is}
-use Rattle.cells.specs.Marks.{MarkNoted}
 use Rattle.cells.proofs.marks.Laws.{zeros}
 use Rattle.free_variables.specs.Free.{pair_in, bound_by, let_binds, any_of, values_in, let_values, under_pairs, free_step, is_free, mark_of}
-use Rattle.free_variables.specs.FreeMemo.{pair_sort, is_pair, pairs_bind, free_below, FreeMeans, NotFreeMemo, FreeAnswered}
-use Rattle.cells.specs.declared.TermPlace.{TermPlace}
-use Rattle.free_variables.specs.declared.free_vars.Step.{Step}
-use Rattle.free_variables.specs.declared.free_vars.Step.TheVariants.{Yes, No, Body, Run, Values, Let}
+use Rattle.free_variables.specs.FreeMemo.{pair_kind_of, pair_sort, is_pair, pairs_bind, free_below, NotFreeMemo, FreeAnswered}
+use Rattle.free_variables.specs.declared.pair_kind.PairKind.{PairKind}
+use Rattle.free_variables.specs.declared.pair_kind.PairKind.TheVariants.{SortedVar, VarBinding}
 
 -- ---- pairs
-module _ (values : List ℕ) (lets : Bool) (name sort a b : ℕ) where
-  pub pair-name : (a ≡ name → ⊥) → false ≡ is_pair values lets name sort a b
-  unfolding is_pair
-  pair-name n = rw (ne_eqb _ _ n)
+module _ (tag : ℕ) where
+  pub kind-let : tag ≡ 27 → VarBinding ≡ pair_kind_of tag
+  unfolding pair_kind_of
+  kind-let e = rw (eq-eqb _ _ e)
 
-  module _ (e : a ≡ name) (r : Bool) where
-    pub pair-value : lets ≡ true → (s : ℕ) → s ≡ sort_of values b → r ≡ eqb s sort → r ≡ is_pair values lets name sort a b
-    unfolding is_pair pair_sort
-    pair-value l s q is = rw (eq-eqb _ _ e, l, ← q) is
+  pub kind-binder : (tag ≡ 27 → ⊥) → SortedVar ≡ pair_kind_of tag
+  unfolding pair_kind_of
+  kind-binder n = rw (ne_eqb _ _ n)
 
-    pub pair-sort : lets ≡ false → r ≡ eqb b sort → r ≡ is_pair values lets name sort a b
-    unfolding is_pair pair_sort
-    pair-sort l is = rw (eq-eqb _ _ e, l) is
+  module _ (kind : PairKind) (is : kind ≡ pair_kind_of tag) where
+    pub tag-let : kind ≡ VarBinding → tag ≡ 27
+    tag-let e = by-test (eqb tag 27) (eqb-true tag 27) (λ n. let z : SortedVar ≡ VarBinding = kind-binder (eqb-false tag 27 n) ∙ sym is ∙ e in cc)
 
-pub ruleset pair = (pair-name, pair-value, pair-sort)
+    pub tag-binder : kind ≡ SortedVar → tag ≡ 27 → ⊥
+    tag-binder e y = let z : SortedVar ≡ VarBinding = sym e ∙ is ∙ sym (kind-let y) in cc
 
-pub bind-by : (values : List ℕ) (lets : Bool) (v : ℕ) (run : List ℕ) (name sort : ℕ) → name ≡ get_or values (v + 2) 0 → sort ≡ sort_of values v
-    → (r : Bool) → r ≡ pair_in (pair_sort values lets) name sort (drop 1 run) → r ≡ pairs_bind values lets v run
+pub bind-by : (values : List ℕ) (kind : PairKind) (v : ℕ) (run : List ℕ) (name sort : ℕ) → name ≡ get_or values (v + 2) 0 → sort ≡ sort_of values v
+    → (r : Bool) → r ≡ pair_in (pair_sort values kind) name sort (drop 1 run) → r ≡ pairs_bind values kind v run
 unfolding pairs_bind
-bind-by values lets v run name sort a b r e = rw (← a, ← b) e
+bind-by values kind v run name sort a b r e = rw (← a, ← b) e
 
 -- the pairs of a run, at its end and at a pair
 pairs-end : (f : ℕ → ℕ) (name sort : ℕ) (l : List ℕ) → length l < 2 → pair_in f name sort l ≡ false
@@ -48,26 +46,26 @@ pairs-end f name sort [] h = refl
 pairs-end f name sort (a ∷ []) h = refl
 pairs-end f name sort (a ∷ (b ∷ l)) h = absurd (omega arith)
 
-pairs-next : (values : List ℕ) (lets : Bool) (name sort : ℕ) (l : List ℕ) → 2 ≤ length l
-    → pair_in (pair_sort values lets) name sort l ≡ (is_pair values lets name sort (get_or l 0 0) (get_or l 1 0) || pair_in (pair_sort values lets) name sort (take (length l - 2) (drop 2 l)))
+pairs-next : (values : List ℕ) (kind : PairKind) (name sort : ℕ) (l : List ℕ) → 2 ≤ length l
+    → pair_in (pair_sort values kind) name sort l ≡ (is_pair values kind name sort (get_or l 0 0) (get_or l 1 0) || pair_in (pair_sort values kind) name sort (take (length l - 2) (drop 2 l)))
 unfolding pair_in is_pair
-pairs-next values lets name sort [] h = absurd (omega arith)
-pairs-next values lets name sort (a ∷ []) h = absurd (omega arith)
-pairs-next values lets name sort (a ∷ (b ∷ l)) h =
+pairs-next values kind name sort [] h = absurd (omega arith)
+pairs-next values kind name sort (a ∷ []) h = absurd (omega arith)
+pairs-next values kind name sort (a ∷ (b ∷ l)) h =
     let e : suc (suc (length l)) - 2 ≡ length l = omega arith in
     rw (e, take_all (length l) l (omega arith))
 
 -- w says whether the pairs that are left hold the name with the sort
-module _ (w : Bool) (values : List ℕ) (lets : Bool) (name sort : ℕ) (l : List ℕ) (inv : w ≡ pair_in (pair_sort values lets) name sort l) where
+module _ (w : Bool) (values : List ℕ) (kind : PairKind) (name sort : ℕ) (l : List ℕ) (inv : w ≡ pair_in (pair_sort values kind) name sort l) where
   pub bind-end : length l < 2 → false ≡ w
-  bind-end h = rw (inv, pairs-end (pair_sort values lets) name sort l h)
+  bind-end h = rw (inv, pairs-end (pair_sort values kind) name sort l h)
 
-  module _ (h : 2 ≤ length l) (r : Bool) (is : r ≡ is_pair values lets name sort (get_or l 0 0) (get_or l 1 0)) where
+  module _ (h : 2 ≤ length l) (r : Bool) (is : r ≡ is_pair values kind name sort (get_or l 0 0) (get_or l 1 0)) where
     pub bind-here : r ≡ true → true ≡ w
-    bind-here y = rw (inv, pairs-next values lets name sort l h, ← is, y)
+    bind-here y = rw (inv, pairs-next values kind name sort l h, ← is, y)
 
-    pub bind-next : r ≡ false → w ≡ pair_in (pair_sort values lets) name sort (take (length l - 2) (drop 2 l))
-    bind-next y = rw (inv, pairs-next values lets name sort l h, ← is, y)
+    pub bind-next : r ≡ false → w ≡ pair_in (pair_sort values kind) name sort (take (length l - 2) (drop 2 l))
+    bind-next y = rw (inv, pairs-next values kind name sort l h, ← is, y)
 
 -- ---- the definition, with its recursion one step open
 free-is : (tags values : List ℕ) (v t : ℕ) → is_free tags values v t ≡ free_step tags values v t (free_below tags values v t)
@@ -108,21 +106,21 @@ module _ (tags values : List ℕ) (v t : ℕ) where
         (free-is tags values v t, ne_eqb _ _ n, ← k, le-ltb tag 22 (omega arith), le-ltb tag 23 (omega arith), le-ltb tag 27 (omega arith), le-ltb _ _ h)
 
     module _ (l : 23 ≤ tag) (h : tag < 28) (run : List ℕ) (o : run ≡ operands_of tags values t)
-        (lets : Bool) (q : lets ≡ eqb tag 27) (p : Bool) (is : p ≡ pairs_bind values lets v run) where
-      under : lets ≡ false → is_free tags values v t ≡ cond p false (free_below tags values v t (get_or run 0 0))
+        (kind : PairKind) (q : kind ≡ pair_kind_of tag) (p : Bool) (is : p ≡ pairs_bind values kind v run) where
+      under : kind ≡ SortedVar → is_free tags values v t ≡ cond p false (free_below tags values v t (get_or run 0 0))
       unfolding free_step under_pairs bound_by pairs_bind pair_sort
       under z =
-          let low : tag < 27 = omega (arith, eqb-false tag 27 (sym q ∙ z)) in
+          let low : tag < 27 = omega (arith, tag-binder tag kind q z) in
           rw (free-is tags values v t, ne_eqb _ _ n, ← k, le-ltb tag 22 (omega arith), le-ltb _ _ l, lt-ltb tag 27 low, ← o, is, z)
 
-      under-let : lets ≡ true → is_free tags values v t
+      under-let : kind ≡ VarBinding → is_free tags values v t
           ≡ any_of (free_below tags values v t) (let_values (operands_of tags values t)) || cond p false (free_below tags values v t (get_or run 0 0))
       unfolding free_step under_pairs let_binds pairs_bind pair_sort
       under-let z =
-          let high : 27 ≤ tag = omega (arith, eqb-true tag 27 (sym q ∙ z)) in
+          let high : 27 ≤ tag = omega (arith, tag-let tag kind q z) in
           rw (free-is tags values v t, ne_eqb _ _ n, ← k, le-ltb tag 22 (omega arith), le-ltb _ _ l, le-ltb tag 27 high, lt-ltb _ _ h, ← o, is, z)
 
-      module _ (y : lets ≡ true) where
+      module _ (y : kind ≡ VarBinding) where
         pub let-bound : p ≡ true → any_of (free_below tags values v t) (let_values (operands_of tags values t)) ≡ is_free tags values v t
         let-bound e = rw (under-let y, e, or-false)
 
@@ -134,7 +132,7 @@ module _ (tags values : List ℕ) (v t : ℕ) where
               → (any_of (free_below tags values v t) (let_values (operands_of tags values t)) || is_free tags values v body) ≡ is_free tags values v t
           let-body g = rw (under-let y, z, ← a, below-is tags values v t body g)
 
-      module _ (y : lets ≡ false) where
+      module _ (y : kind ≡ SortedVar) where
         pub look-bound : p ≡ true → false ≡ is_free tags values v t
         look-bound e = rw (under y, e)
 
@@ -146,63 +144,6 @@ module _ (tags values : List ℕ) (v t : ℕ) where
           look-body g = rw (under y, z, ← a, below-is tags values v t body g)
 
 pub ruleset looks = (look-noted, look_self, look-low, look-application, look-operator, look-bound, look-late, look-body, let-bound, let-late, let-body)
-
--- ---- the answer at t, from the step r at t
-module _ (tags values : List ℕ) (v t : ℕ) (r : Step) (m : FreeMeans tags values v t r) where
-  module _ (memo : List ℕ) (right : NotFreeMemo tags values v memo) where
-    pub step-yes : r ≡ Yes → FreeAnswered tags values v memo true (is_free tags values v t)
-    step-yes e = record { is = rw e at m; right = right }
-
-    pub step-no : r ≡ No → FreeAnswered tags values v memo false (is_free tags values v t)
-    step-no e = record { is = rw e at m; right = right }
-
-  module _ (u : TermPlace) (e : r ≡ Body u) where
-    pub step-below : u.0 < t
-    step-below = (rw e at m).0
-
-    pub step-body : (memo : List ℕ) (s : Bool) → FreeAnswered tags values v memo s (is_free tags values v u.0) → FreeAnswered tags values v memo s (is_free tags values v t)
-    step-body memo s a = record { is = a.is ∙ (rw e at m).1; right = a.right }
-
-  pub step_run : r ≡ Run → (run : List ℕ) → run ≡ operands_of tags values t
-      → (memo : List ℕ) (s : Bool) → FreeAnswered tags values v memo s (any_of (free_below tags values v t) run) → FreeAnswered tags values v memo s (is_free tags values v t)
-  step_run e run o memo s a = record { is = a.is ∙ rw o (rw e at m); right = a.right }
-
-  pub step-values : r ≡ Values → (run : List ℕ) → run ≡ operands_of tags values t
-      → (memo : List ℕ) (s : Bool) → FreeAnswered tags values v memo s (any_of (free_below tags values v t) (let_values run)) → FreeAnswered tags values v memo s (is_free tags values v t)
-  step-values e run o memo s a = record { is = a.is ∙ rw o (rw e at m); right = a.right }
-
-  module _ (u : TermPlace) (e : r ≡ Let u) where
-    pub let-below : u.0 < t
-    let-below = (rw e at m).0
-
-    let-is : is_free tags values v t ≡ (any_of (free_below tags values v t) (let_values (operands_of tags values t)) || is_free tags values v u.0)
-    let-is = sym (rw e at m).1
-
-    module _ (run : List ℕ) (o : run ≡ operands_of tags values t) (memo : List ℕ) (s : Bool)
-        (a : FreeAnswered tags values v memo s (any_of (free_below tags values v t) (let_values run))) where
-      found : any_of (free_below tags values v t) (let_values (operands_of tags values t)) ≡ s
-      found = rw (← o) (sym a.is)
-
-      pub let-found : s ≡ true → FreeAnswered tags values v memo true (is_free tags values v t)
-      let-found y = record { is = rw (let-is, found, y); right = a.right }
-
-      pub let-on : s ≡ false → (memo' : List ℕ) (b : Bool) → FreeAnswered tags values v memo' b (is_free tags values v u.0) → FreeAnswered tags values v memo' b (is_free tags values v t)
-      let-on y memo' b c = record { is = rw (let-is, found, y) c.is; right = c.right }
-
-module _ (tags values : List ℕ) (v t : ℕ) (memo : List ℕ) (s : Bool) (a : FreeAnswered tags values v memo s (is_free tags values v t)) where
-  -- a right no keeps the memo right
-  more-right : s ≡ false → NotFreeMemo tags values v (set memo t 1)
-  more-right e = record {
-    at = λ u q. by-test (eqb u t)
-        (λ o. rw (eqb-true u t o) (sym e ∙ a.is))
-        (λ o. a.right.at u (sym (get_or-set_other memo t u 1 0 (eqb-false u t o)) ∙ q));
-  }
-
-  pub noted : (after : List ℕ) (r : Bool) → MarkNoted memo t s after r → FreeAnswered tags values v after r (is_free tags values v t)
-  noted after r n = record {
-    is = n.same ∙ a.is;
-    right = rw n.kept (by-test s (λ e. rw e a.right) (λ e. rw e (more-right e)));
-  }
 
 -- ---- the walk along a run
 pub any_none : (test : ℕ → Bool) (l : List ℕ) → length l ≡ 0 → false ≡ any_of test l

@@ -1,26 +1,27 @@
 -- Laws of `Names` and `NamesWalk`, one for each way through the code.
 --     not_listed     for the callers: a variable whose bucket is not set is not free
 -- Assumes nothing.
-use Prim.Native.Nat.{ℕ, zero, suc, ◌+◌, ◌-◌, ◌*◌, ◌%◌, ◌≤◌, ◌<◌}
+use Prim.Native.Nat.{ℕ, ◌+◌, ◌-◌, ◌*◌, ◌%◌, ◌≤◌, ◌<◌}
 use mathlib.Core.Path.{◌≡◌, refl, sym, ap, ◌∙◌}
 use mathlib.Core.Bool.{Bool, true, false, ◌||◌, or-false}
-use mathlib.Core.List.{List, [], ◌∷◌}
+use mathlib.Core.List.{List}
 use lib.ListN.{length, get_or, take, drop, set, replicate, get_or-eq_default}
 use lib.Seq.{get_or-set_same, get_or-set_other, set_out}
 use lib.Dec.{ltb, eqb}
 use native.Mathlib.Omega.{arith}
-use borrow.Author.Tests.{eqb-true, eqb-false, eq-eqb, ne_eqb, ltb-true, ltb-false}
+use borrow.Author.Tests.{eqb-true, eqb-false, ltb-true, ltb-false}
 use Rattle.cells.specs.Cell.{sort_of, operands_of}
 use Rattle.cells.specs.ByPlace.{by-test}
 use Rattle.cells.specs.declared.TermPlace.{TermPlace}
 use Rattle.free_variables.specs.Free.{any_of, let_values, is_free}
-use Rattle.free_variables.specs.FreeMemo.{pairs_bind, free_below}
+use Rattle.free_variables.specs.FreeMemo.{pair_kind_of, pairs_bind, free_below}
 use Rattle.free_variables.specs.Names.{bucket_of, may_be_free, free_in, NamesMarked}
 use Rattle.free_variables.specs.NamesWalk.{free_among, free_under, free_in_let, Exactly, Grown, FreeFromMeans, NamesMemo, NamesWalked}
+use Rattle.free_variables.specs.declared.pair_kind.PairKind.TheVariants.{SortedVar, VarBinding}
 use Rattle.free_variables.specs.declared.term_names.FreeFrom.{FreeFrom}
 use Rattle.free_variables.specs.declared.term_names.FreeFrom.TheVariants.{Nothing, Variable, Body, Run, Values, Let}
 use Rattle.cells.proofs.marks.Laws.{zeros}
-use Rattle.free_variables.proofs.free_vars.Laws.{any_none, any-first, no_value, first-value, below-is, below-not, look-low, look_self, look-application, look-operator, look-bound, look-late, look-body, let-bound, let-late, let-body}
+use Rattle.free_variables.proofs.free_vars.Laws.{kind-let, kind-binder, any_none, any-first, no_value, first-value, below-is, below-not, look-low, look_self, look-application, look-operator, look-bound, look-late, look-body, let-bound, let-late, let-body}
 
 clash : {C : Type 0} → false ≡ true → C
 clash e = absurd (let z : ◌≡◌ {A = ℕ} 0 1 = cc in omega arith)
@@ -30,22 +31,9 @@ pub bucket-is : (name sort a b : ℕ) → a ≡ name → b ≡ sort → (a % 819
 unfolding bucket_of
 bucket-is name sort a b p q = rw (p, q)
 
--- within a list, what is read past its end does not show
-default_free : (l : List ℕ) (i : ℕ) → i < length l → get_or l i 1 ≡ get_or l i 0
-default_free [] i h = absurd (omega arith)
-default_free (x ∷ l) zero h = refl
-default_free (x ∷ l) (suc i) h = default_free l i (omega arith)
-
-module _ (names : List ℕ) (name sort at : ℕ) (is : at ≡ bucket_of name sort) where
-  pub may_past : length names ≤ at → true ≡ may_be_free names name sort
-  unfolding may_be_free
-  may_past h = rw (← is, get_or-eq_default names 1 h)
-
-  pub may_here : at < length names → eqb (get_or names at 0) 1 ≡ may_be_free names name sort
-  unfolding may_be_free
-  may_here h = rw (← is, default_free names at h)
-
-pub ruleset may = (may_past, may_here)
+pub may-is : (names : List ℕ) (name sort at : ℕ) → at ≡ bucket_of name sort → (m : ℕ) → m ≡ get_or names at 1 → eqb m 1 ≡ may_be_free names name sort
+unfolding may_be_free
+may-is names name sort at is m e = rw (← is, ← e)
 
 -- ---- a variable with this name and sort
 module _ (values : List ℕ) (v a s at : ℕ) (name : a ≡ get_or values (v + 2) 0) (sort : s ≡ sort_of values v) (is : at ≡ bucket_of a s) (names : List ℕ) where
@@ -92,18 +80,18 @@ module _ (tags values : List ℕ) (t tag : ℕ) (k : tag ≡ get_or tags t 0) wh
       unfolding free_in free_among
       find-values g = record {
         at = λ v e. let n = other (λ q. omega arith) v e in
-            by-test (pairs_bind values true v run)
-            (λ p. sym (let-bound tags values v t n tag k l h run o true (sym (eq-eqb tag 27 y)) _ refl refl p))
-            (λ p. sym (let-late tags values v t n tag k l h run o true (sym (eq-eqb tag 27 y)) _ refl refl p body a g));
+            by-test (pairs_bind values VarBinding v run)
+            (λ p. sym (let-bound tags values v t n tag k l h run o VarBinding (kind-let tag y) _ refl refl p))
+            (λ p. sym (let-late tags values v t n tag k l h run o VarBinding (kind-let tag y) _ refl refl p body a g));
       }
 
       pub find-let : body < t → Exactly tags values t (free_in_let tags values t body)
       unfolding free_in free_among free_under free_in_let
       find-let g = record {
         at = λ v e. let n = other (λ q. omega arith) v e in
-            by-test (pairs_bind values true v run)
-            (λ p. rw (← k, eq-eqb tag 27 y, ← o, p, or-false) (rw (← o) at (sym (let-bound tags values v t n tag k l h run o true (sym (eq-eqb tag 27 y)) _ refl refl p))))
-            (λ p. rw (← k, eq-eqb tag 27 y, ← o, p) (rw (← o) at (sym (let-body tags values v t n tag k l h run o true (sym (eq-eqb tag 27 y)) _ refl refl p body a g))));
+            by-test (pairs_bind values VarBinding v run)
+            (λ p. rw (← k, ← kind-let tag y, ← o, p, or-false) (rw (← o) at (sym (let-bound tags values v t n tag k l h run o VarBinding (kind-let tag y) _ refl refl p))))
+            (λ p. rw (← k, ← kind-let tag y, ← o, p) (rw (← o) at (sym (let-body tags values v t n tag k l h run o VarBinding (kind-let tag y) _ refl refl p body a g))));
       }
 
     module _ (y : tag ≡ 27 → ⊥) where
@@ -111,18 +99,18 @@ module _ (tags values : List ℕ) (t tag : ℕ) (k : tag ≡ get_or tags t 0) wh
       unfolding free_in
       find-late g = record {
         at = λ v e. let n = other (λ q. omega arith) v e in
-            by-test (pairs_bind values false v run)
-            (λ p. sym (look-bound tags values v t n tag k l h run o false (sym (ne_eqb tag 27 y)) _ refl refl p))
-            (λ p. sym (look-late tags values v t n tag k l h run o false (sym (ne_eqb tag 27 y)) _ refl refl p body a g));
+            by-test (pairs_bind values SortedVar v run)
+            (λ p. sym (look-bound tags values v t n tag k l h run o SortedVar (kind-binder tag y) _ refl refl p))
+            (λ p. sym (look-late tags values v t n tag k l h run o SortedVar (kind-binder tag y) _ refl refl p body a g));
       }
 
       pub find-body : body < t → Exactly tags values t (free_under tags values t body)
       unfolding free_in free_under
       find-body g = record {
         at = λ v e. let n = other (λ q. omega arith) v e in
-            by-test (pairs_bind values false v run)
-            (λ p. rw (← k, ne_eqb tag 27 y, ← o, p) (sym (look-bound tags values v t n tag k l h run o false (sym (ne_eqb tag 27 y)) _ refl refl p)))
-            (λ p. rw (← k, ne_eqb tag 27 y, ← o, p) (sym (look-body tags values v t n tag k l h run o false (sym (ne_eqb tag 27 y)) _ refl refl p body a g)));
+            by-test (pairs_bind values SortedVar v run)
+            (λ p. rw (← k, ← kind-binder tag y, ← o, p) (sym (look-bound tags values v t n tag k l h run o SortedVar (kind-binder tag y) _ refl refl p)))
+            (λ p. rw (← k, ← kind-binder tag y, ← o, p) (sym (look-body tags values v t n tag k l h run o SortedVar (kind-binder tag y) _ refl refl p body a g)));
       }
 
 pub ruleset finds = (find-nothing, find-variable, find-application, find-operator, find-late, find-body, find-values, find-let)
@@ -160,7 +148,7 @@ module _ (names names' : List ℕ) (g : Grown names names') where
 under-listed : (tags values : List ℕ) (t u : ℕ) (names : List ℕ) → NamesMarked tags values names (free_in tags values u) → NamesMarked tags values names (free_under tags values t u)
 unfolding free_under
 under-listed tags values t u names l = record {
-  at = λ v e f. by-test (pairs_bind values (eqb (get_or tags t 0) 27) v (operands_of tags values t))
+  at = λ v e f. by-test (pairs_bind values (pair_kind_of (get_or tags t 0)) v (operands_of tags values t))
       (λ p. clash (rw p at f))
       (λ p. l.at v e (rw p at f));
 }
@@ -169,37 +157,43 @@ module _ (tags values : List ℕ) (t : ℕ) where
   pub walk-seen : (seen names : List ℕ) → NamesMemo tags values seen names → (m : ℕ) → m ≡ get_or seen t 0 → m ≡ 1 → NamesWalked tags values names seen names (free_in tags values t)
   walk-seen seen names r m is e = record { grown = same-grown names; right = r; listed = r.at t (sym is ∙ e) }
 
-  -- the variables that are free at t are in the table, and t is noted
-  module _ (test : ℕ → Bool) (w : Exactly tags values t test) (names seen names' : List ℕ) (d : NamesWalked tags values names seen names' test) where
-    inside : NamesMarked tags values names' (free_in tags values t)
-    inside = record { at = λ v e f. d.listed.at v e (sym (w.at v e) ∙ f) }
+  -- the names of the term are in the table, and t is noted
+  pub noted : (names seen names' : List ℕ) → NamesWalked tags values names seen names' (free_in tags values t)
+      → (seen' : List ℕ) → seen' ≡ set seen t 1 → NamesWalked tags values names seen' names' (free_in tags values t)
+  noted names seen names' d seen' is = record {
+    grown = d.grown;
+    right = rw is (record {
+      at = λ u q. by-test (eqb u t)
+          (λ o. rw (eqb-true u t o) d.listed)
+          (λ o. d.right.at u (sym (get_or-set_other seen t u 1 0 (eqb-false u t o)) ∙ q));
+    });
+    listed = d.listed;
+  }
 
-    done : (seen' : List ℕ) → seen' ≡ set seen t 1 → NamesWalked tags values names seen' names' (free_in tags values t)
-    done seen' is = record {
-      grown = d.grown;
-      right = rw is (record {
-        at = λ u q. by-test (eqb u t)
-            (λ o. rw (eqb-true u t o) inside)
-            (λ o. d.right.at u (sym (get_or-set_other seen t u 1 0 (eqb-false u t o)) ∙ q));
-      });
-      listed = inside;
-    }
+  -- the variables that are free at t are those that pass a test
+  tested : (test : ℕ → Bool) → Exactly tags values t test → (names seen names' : List ℕ) → NamesWalked tags values names seen names' test
+      → NamesWalked tags values names seen names' (free_in tags values t)
+  tested test w names seen names' d = record {
+    grown = d.grown;
+    right = d.right;
+    listed = record { at = λ v e f. d.listed.at v e (sym (w.at v e) ∙ f) };
+  }
 
   module _ (s : FreeFrom) (m : FreeFromMeans tags values t s) where
     module _ (seen names : List ℕ) (r : NamesMemo tags values seen names) where
-      pub walk-nothing : s ≡ Nothing → (seen' : List ℕ) → seen' ≡ set seen t 1 → NamesWalked tags values names seen' names (free_in tags values t)
-      walk-nothing e = done _ (rw e at m) names seen names (record {
+      pub walk-nothing : s ≡ Nothing → NamesWalked tags values names seen names (free_in tags values t)
+      walk-nothing e = tested _ (rw e at m) names seen names (record {
         grown = same-grown names;
         right = r;
         listed = record { at = λ v q f. clash f };
       })
 
       pub walk-variable : s ≡ Variable → (names' : List ℕ) → names' ≡ set names (bucket_of (get_or values (t + 2) 0) (sort_of values t)) 1
-          → (seen' : List ℕ) → seen' ≡ set seen t 1 → NamesWalked tags values names seen' names' (free_in tags values t)
+          → NamesWalked tags values names seen names' (free_in tags values t)
       unfolding may_be_free
       walk-variable e names' is =
           let g : Grown names names' = rw is (set_grown names _) in
-          done _ (rw e at m).1 names seen names' (record {
+          tested _ (rw e at m).1 names seen names' (record {
             grown = g;
             right = right-grown names names' g tags values seen r;
             listed = record { at = λ v q f. rw (is, eqb-true v t f) (set-one names _) };
@@ -207,24 +201,24 @@ module _ (tags values : List ℕ) (t : ℕ) where
 
     module _ (names seen names' : List ℕ) where
       pub walk-body : (u : TermPlace) → s ≡ Body u → NamesWalked tags values names seen names' (free_in tags values u.0)
-          → (seen' : List ℕ) → seen' ≡ set seen t 1 → NamesWalked tags values names seen' names' (free_in tags values t)
-      walk-body u e d = done _ (rw e at m).1 names seen names' (record { grown = d.grown; right = d.right; listed = under-listed tags values t u.0 names' d.listed })
+          → NamesWalked tags values names seen names' (free_in tags values t)
+      walk-body u e d = tested _ (rw e at m).1 names seen names' (record { grown = d.grown; right = d.right; listed = under-listed tags values t u.0 names' d.listed })
 
       pub walk-run : s ≡ Run → (run : List ℕ) → run ≡ operands_of tags values t → NamesWalked tags values names seen names' (free_among tags values t run)
-          → (seen' : List ℕ) → seen' ≡ set seen t 1 → NamesWalked tags values names seen' names' (free_in tags values t)
-      walk-run e run o d = done _ (rw e at m) names seen names' (rw o at d)
+          → NamesWalked tags values names seen names' (free_in tags values t)
+      walk-run e run o d = tested _ (rw e at m) names seen names' (rw o at d)
 
       pub walk-values : s ≡ Values → (run : List ℕ) → run ≡ operands_of tags values t → NamesWalked tags values names seen names' (free_among tags values t (let_values run))
-          → (seen' : List ℕ) → seen' ≡ set seen t 1 → NamesWalked tags values names seen' names' (free_in tags values t)
-      walk-values e run o d = done _ (rw e at m) names seen names' (rw o at d)
+          → NamesWalked tags values names seen names' (free_in tags values t)
+      walk-values e run o d = tested _ (rw e at m) names seen names' (rw o at d)
 
       pub walk-let : (u : TermPlace) → s ≡ Let u → (run : List ℕ) → run ≡ operands_of tags values t → NamesWalked tags values names seen names' (free_among tags values t (let_values run))
           → (seen' names'' : List ℕ) → NamesWalked tags values names' seen' names'' (free_in tags values u.0)
-          → (seen'' : List ℕ) → seen'' ≡ set seen' t 1 → NamesWalked tags values names seen'' names'' (free_in tags values t)
+          → NamesWalked tags values names seen' names'' (free_in tags values t)
       unfolding free_in_let
       walk-let u e run o d seen' names'' d' =
           let w : NamesWalked tags values names seen names' (free_among tags values t (let_values (operands_of tags values t))) = rw o at d in
-          done _ (rw e at m).1 names seen' names'' (record {
+          tested _ (rw e at m).1 names seen' names'' (record {
             grown = more-grown names names' d.grown names'' d'.grown;
             right = d'.right;
             listed = record {
@@ -234,11 +228,7 @@ module _ (tags values : List ℕ) (t : ℕ) where
             };
           })
 
-    pub let-below : (u : TermPlace) → s ≡ Let u → u.0 < t
-    let-below u e = (rw e at m).0
-
-    pub body_below : (u : TermPlace) → s ≡ Body u → u.0 < t
-    body_below u e = (rw e at m).0
+pub ruleset walks = (walk-nothing, walk-variable, walk-body, walk-run, walk-values, walk-let)
 
 -- ---- the walk along the places l, of which the first is u
 module _ (tags values : List ℕ) (t u : ℕ) (l rest : List ℕ)

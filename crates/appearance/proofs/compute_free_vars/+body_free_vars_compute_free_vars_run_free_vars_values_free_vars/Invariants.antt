@@ -1,4 +1,5 @@
 use Rattle.appearance.proofs.compute_free_vars.Runs.{RunAt, ValuesAt}
+use Rattle.appearance.specs.Walk.{SameArrays}
 use Prim.Native.Nat.{◌*◌, ◌+◌}
 use Rattle.appearance.proofs.compute_free_vars.+body_free_vars_compute_free_vars_run_free_vars_values_free_vars.Given as goal
 
@@ -16,7 +17,7 @@ abbrev pub decreases-values_free_vars : goal.decreases-values_free_vars
 decreases-values_free_vars l = l.t.0 * 4 + 1
 
 abbrev pub invariant-run_free_vars-loop-u : goal.invariant-run_free_vars-loop-u
-invariant-run_free_vars-loop-u l = RunAt l.tags l.values l.index l.table l.words l.initial.state l.initial.found l.len l.t.0 l.run l.state l.found l.end l.u-index
+invariant-run_free_vars-loop-u l = record { same : SameArrays l.initial.found l.found; at : RunAt l.pool.tags.now l.pool.values.now l.rows.index.now l.rows.table.now l.rows.words l.initial.found.state.now l.initial.found.places.now l.initial.found.len l.t.0 l.run l.found.state.now l.found.places.now l.found.len l.u-index }
 
 abbrev pub invariant-values_free_vars-loop-i : goal.invariant-values_free_vars-loop-i
-invariant-values_free_vars-loop-i l = ValuesAt l.tags l.values l.index l.table l.words l.initial.state l.initial.found l.len l.t.0 l.run l.state l.found l.end l.i
+invariant-values_free_vars-loop-i l = record { same : SameArrays l.initial.found l.found; at : ValuesAt l.pool.tags.now l.pool.values.now l.rows.index.now l.rows.table.now l.rows.words l.initial.found.state.now l.initial.found.places.now l.initial.found.len l.t.0 l.run l.found.state.now l.found.places.now l.found.len l.i }

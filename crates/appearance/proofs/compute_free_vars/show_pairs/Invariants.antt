@@ -2,4 +2,4 @@ use Rattle.appearance.proofs.compute_free_vars.PairLoops.{Showing}
 use Rattle.appearance.proofs.compute_free_vars.show_pairs.Given as goal
 
 abbrev pub invariant-loop-i : goal.invariant-loop-i
-invariant-loop-i l = Showing l.tags l.values l.index l.lets l.run l.initial.state l.state l.i
+invariant-loop-i l = Showing l.pool.tags.now l.pool.values.now l.rows.index.now l.kind l.run l.initial.state l.state l.i

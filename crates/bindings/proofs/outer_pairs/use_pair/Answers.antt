@@ -1,11 +1,12 @@
-use Rattle.bindings.proofs.outer_pairs.Laws.{uses}
+use mathlib.Core.Path.{refl}
+use Rattle.bindings.proofs.outer_pairs.Laws.{use-not, use-inside, use-left}
 use Rattle.bindings.proofs.outer_pairs.use_pair.Goals as goal
 
-pub returns-then-c-eq0 : goal.returns-then-c-eq0
-returns-then-c-eq0 c = search uses
+pub returns-in_default : goal.returns-in_default
+returns-in_default c = use-not _ c.requires _ _ c.find.ensures c.in_default.is
 
-pub bounds-prepared-c : goal.bounds-prepared-c
-bounds-prepared-c c = search uses
+pub bounds-prepared-k : goal.bounds-prepared-k
+bounds-prepared-k c = use-inside _ c.requires _ _ c.find.ensures _ c.in-Some.is
 
 pub returns : goal.returns
-returns c = search uses
+returns c = use-left _ c.requires _ _ c.find.ensures _ c.in-Some.is _ refl

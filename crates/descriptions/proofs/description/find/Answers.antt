@@ -11,5 +11,5 @@ use Rattle.descriptions.proofs.description.find.Goals as goal
 pub returns : goal.returns
 unfolding find
 returns c =
-    header-found _ _ (λ q. is_at c.args.tags.now c.args.values.now q c.args.tag c.args.cells.now) _
+    header-found _ _ (λ q. is_at c.args.pool.now.tags.now c.args.pool.now.values.now q c.args.tag c.args.cells.now) _
     (find_from_yields_List _ c.find.new.self _ _ c.find.ensures.ran (YieldsList-from_first (λ p. p) headers_left _ c.header_places.ensures.left) (λ p b q h. search (rules, tests)))

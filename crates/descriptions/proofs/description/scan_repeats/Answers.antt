@@ -10,5 +10,5 @@ use Rattle.descriptions.proofs.description.scan_repeats.Goals as goal
 pub returns : goal.returns
 unfolding first_repeat
 returns c =
-    header-found _ _ (repeats c.args.tags.now c.args.values.now) _
+    header-found _ _ (repeats c.args.pool.now.tags.now c.args.pool.now.values.now) _
     (find_from_yields_List _ c.find.new.self _ _ c.find.ensures.ran (YieldsList-from_first (λ p. p) headers_left _ c.header_places.ensures.left) (λ p b q h. search (rules, tests)))

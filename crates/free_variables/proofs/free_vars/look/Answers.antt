@@ -1,35 +1,15 @@
-use Rattle.free_variables.proofs.free_vars.Laws.{looks}
+use borrow.Author.Rules.{rules}
+use borrow.Author.Tests.{eqb-true}
+use mathlib.Core.Path.{sym, ◌∙◌}
+use Rattle.free_variables.proofs.free_vars.Laws.{looks, look_self}
 use Rattle.free_variables.proofs.free_vars.look.Goals as goal
+use Rattle.free_variables.proofs.free_vars.look.Goals.{then-tag-lt-FORALL-via-then-tag-lt-FORALL, then-tag-lt-FORALL-via-else-tag-lt-FORALL+then-tag-ge-BINDERS_END}
 
-pub returns-then-mark_at-eq1 : goal.returns-then-mark_at-eq1
-returns-then-mark_at-eq1 c = search looks
-
-pub returns-then-t-v : goal.returns-then-t-v
-returns-then-t-v c = search looks
+pub returns-then-eq : goal.returns-then-eq
+returns-then-eq c = look_self _ _ _ _ (eqb-true _ _ (sym c.eq.ensures ∙ c.if-eq.true))
 
 pub returns-then-tag-lt-APPLICATION : goal.returns-then-tag-lt-APPLICATION
-returns-then-tag-lt-APPLICATION c = search looks
+returns-then-tag-lt-APPLICATION c = search (looks, rules)
 
 pub returns-then-tag-lt-FORALL : goal.returns-then-tag-lt-FORALL
-returns-then-tag-lt-FORALL c = search looks
-
-pub returns-then-tag-ge-BINDERS_END : goal.returns-then-tag-ge-BINDERS_END
-returns-then-tag-ge-BINDERS_END c = search looks
-
-pub returns-then-bound : goal.returns-then-bound
-returns-then-bound c = search looks
-
-pub returns-then-t-body : goal.returns-then-t-body
-returns-then-t-body c = search looks
-
-pub returns-then-lets : goal.returns-then-lets
-returns-then-lets c = search looks
-
-pub returns-then-bound-2 : goal.returns-then-bound-2
-returns-then-bound-2 c = search looks
-
-pub returns-then-t-body-2 : goal.returns-then-t-body-2
-returns-then-t-body-2 c = search looks
-
-pub returns : goal.returns
-returns c = search looks
+returns-then-tag-lt-FORALL c = elim c.then-tag-lt-FORALL.branch [ then-tag-lt-FORALL-via-then-tag-lt-FORALL w ↦ search (looks, rules) | then-tag-lt-FORALL-via-else-tag-lt-FORALL+then-tag-ge-BINDERS_END w ↦ search (looks, rules) ]

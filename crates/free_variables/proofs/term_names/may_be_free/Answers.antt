@@ -1,8 +1,6 @@
-use Rattle.free_variables.proofs.term_names.Laws.{may}
+use borrow.Author.Rules.{rules}
+use Rattle.free_variables.proofs.term_names.Laws.{may-is}
 use Rattle.free_variables.proofs.term_names.may_be_free.Goals as goal
 
-pub returns-then-names-at : goal.returns-then-names-at
-returns-then-names-at c = search may
-
 pub returns : goal.returns
-returns c = search may
+returns c = search (may-is, rules)

@@ -10,7 +10,7 @@ use Rattle.headers.proofs.well_formed.first_bad.Goals as goal
 pub loop-p-init : goal.loop-p-init
 unfolding first_bad
 loop-p-init c = rw (c.into_iter-p-iterator.ensures.into_iter_gives) (record {
-  first = rw c.header_places-p-items.ensures.left (first-is _ _ (is_bad c.args.tags.now c.args.values.now c.args.n));
+  first = rw c.header_places-p-items.ensures.left (first-is _ _ (is_bad c.args.pool.now.tags.now c.args.pool.now.values.now c.args.n));
   below = c.header_places-p-items.ensures.below;
 })
 

@@ -8,6 +8,6 @@ use Rattle.headers.proofs.well_formed.first_bad.Given as goal
 
 abbrev pub invariant-loop-p : goal.invariant-loop-p
 invariant-loop-p l = record {
-  first : first_bad l.tags l.values l.n ≡ find (is_bad l.tags l.values l.n) (headers_left l.p-iterator);
+  first : first_bad l.pool.tags.now l.pool.values.now l.n ≡ find (is_bad l.pool.tags.now l.pool.values.now l.n) (headers_left l.p-iterator);
   below : All (λ p. p < l.n) (headers_left l.p-iterator);
 }

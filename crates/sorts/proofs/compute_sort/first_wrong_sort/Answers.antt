@@ -10,7 +10,7 @@ use Rattle.sorts.proofs.compute_sort.first_wrong_sort.Goals as goal
 pub loop-p-init : goal.loop-p-init
 unfolding first_wrong_sort
 loop-p-init c = rw (c.into_iter-p-iterator.ensures.into_iter_gives) (record {
-  first = rw c.header_places-p-items.ensures.left (first-is _ _ (λ t. is_term_tag (get_or c.args.tags.now t 0) && not (states_sort c.args.tags.now c.args.values.now c.args.rules.now t)));
+  first = rw c.header_places-p-items.ensures.left (first-is _ _ (λ t. is_term_tag (get_or c.args.pool.now.tags.now t 0) && not (states_sort c.args.pool.now.tags.now c.args.pool.now.values.now c.args.rules.now t)));
   below = c.header_places-p-items.ensures.below;
 })
 

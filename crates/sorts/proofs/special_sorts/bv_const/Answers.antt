@@ -6,10 +6,10 @@ pub returns-then-os-lt2 : goal.returns-then-os-lt2
 returns-then-os-lt2 c = search consts
 
 pub overflow_cast-at : goal.overflow_cast-at
-overflow_cast-at c = omega (arith, c.shared_slice_known-4-1.given 1)
+overflow_cast-at c = omega (arith, c.shared_slice_known-2-1.given 1)
 
 pub overflow_add-at : goal.overflow_add-at
-overflow_add-at c = omega (arith, c.shared_slice_known-4-1.given 1)
+overflow_add-at c = omega (arith, c.shared_slice_known-2-1.given 1)
 
 pub returns-then-tag_at-eq-INTEGER : goal.returns-then-tag_at-eq-INTEGER
 returns-then-tag_at-eq-INTEGER c = search consts

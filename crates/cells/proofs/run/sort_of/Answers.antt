@@ -1,7 +1,0 @@
-use Rattle.cells.specs.Cell.{sort_of}
-use borrow.Author.Rules.{rules}
-use Rattle.cells.proofs.run.sort_of.Goals as goal
-
-pub returns : goal.returns
-unfolding sort_of
-returns c = search rules

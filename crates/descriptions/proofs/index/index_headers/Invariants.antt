@@ -1,6 +1,0 @@
-use Rattle.cells.specs.HeadersLeft.{headers_left}
-use Rattle.descriptions.proofs.index.Walked.{Entered}
-use Rattle.descriptions.proofs.index.index_headers.Given as goal
-
-abbrev pub invariant-loop-p : goal.invariant-loop-p
-invariant-loop-p l = Entered l.tags l.values l.n l.index (headers_left l.p-iterator)
