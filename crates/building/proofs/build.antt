@@ -1,4 +1,3 @@
 pub mod Building
-pub mod Indexing
 pub mod Laws
 pub mod Walks

@@ -1,2 +1,3 @@
 pub mod Arrays
 pub mod Walk
+pub mod Lent

@@ -1,12 +1,11 @@
 -- What the walkers that build promise each other: what is built, what the memo may hold, and what a refusal leaves.
 -- The memo is no part of a public contract.
--- Rests on cells' Cell, Limits and struct `TermPlace`, on descriptions' Index and Fills, on formulas' Formula, Normal and Built, and on
+-- Rests on cells' Cell, Limits and struct `TermPlace`, on descriptions' Fills, on formulas' Formula, Normal and Built, and on
 -- Arrays.
 use Rattle.std.specs.Prelude.{ℕ, suc, ◌+◌, ◌-◌, ◌≤◌, ◌<◌, ◌≡◌, Bool, true, false, not, cond, List, map, length, get_or, take, drop, ltb, Option, Some, None}
 use Rattle.cells.specs.Limits.{cell_limit}
 use Rattle.cells.specs.declared.TermPlace.{TermPlace}
 use Rattle.cells.specs.Cell.{operands_of}
-use Rattle.descriptions.specs.Index.{Index}
 use Rattle.descriptions.proofs.description.Fills.{Fills}
 use Rattle.formulas.specs.Normal.{Normal, Normals, pair, nnf, prenex}
 use Rattle.formulas.specs.Formula.{form}
@@ -45,11 +44,6 @@ BuiltOutcome end size o None tags values = fits o.pool size ≡ false
 pub record Puts (end : ℕ) (tags values : List ℕ) (o : Placed) (r : Option (TermPlace × ℕ)) (tags' values' : List ℕ) : Type 0 where
   pub outcome : BuiltOutcome end (length tags) o r tags' values'
   pub left : Left end tags values tags' values'
-
--- the index of the pool that a call leaves; a refusal leaves any
-abbrev pub Indexed : (Option (TermPlace × ℕ)) → List ℕ → List ℕ → List ℕ → Type 0
-Indexed (Some (p, m)) tags values index = Index tags values m index
-Indexed None tags values index = Unit {0}
 
 -- ---- a walk's array: the memo, then the row of a new term's cells
 abbrev pub row_start : ℕ
@@ -120,12 +114,12 @@ pub record Builds (form_at : ℕ → Normal (List ℕ) ℕ) (end : ℕ) (tags va
 
 -- ---- the two walks over the cells before `end`
 -- the negation normal form of a term, or the taken-out form of a term in normal form
-pub data Walk : Type 0 where
-  normal : Walk
-  taken_out : Walk
+pub data FormKind : Type 0 where
+  normal : FormKind
+  taken_out : FormKind
 
 -- the form that a walk builds of the term at t; a taken-out form has no polarity
-unfoldable pub form_of : Walk → ℕ → List ℕ → List ℕ → ℕ → Bool → Normal (List ℕ) ℕ
+unfoldable pub form_of : FormKind → ℕ → List ℕ → List ℕ → ℕ → Bool → Normal (List ℕ) ℕ
 form_of normal end tags values t polarity = nnf (form (take end tags) (take end values) t) polarity
 form_of taken_out end tags values t polarity = prenex (normal_at (pool_of tags values end) t)
 
@@ -136,29 +130,29 @@ abbrev pub run_of : ℕ → List ℕ → List ℕ → ℕ → List ℕ
 run_of end tags values t = operands_of (take end tags) (take end values) t
 
 -- the form of the memo's entry i
-unfoldable pub entry_form : Walk → ℕ → List ℕ → List ℕ → ℕ → Normal (List ℕ) ℕ
+unfoldable pub entry_form : FormKind → ℕ → List ℕ → List ℕ → ℕ → Normal (List ℕ) ℕ
 entry_form w end tags values i = cond (ltb i cell_limit) (form_of w end tags values i true) (form_of w end tags values (i - cell_limit) false)
 
 -- what the walkers start from
-pub record WalkReady (w : Walk) (end n : ℕ) (tags values work : List ℕ) : Type 0 where
+pub record WalkReady (w : FormKind) (end n : ℕ) (tags values work : List ℕ) : Type 0 where
   pub state : State end n tags values
   pub right : FormsMemo (entry_form w end tags values) (pool_of tags values n) work
 
 -- a form is put into the pool of n cells
-abbrev pub Formed : Walk → ℕ → ℕ → List ℕ → List ℕ → List ℕ → Normal (List ℕ) ℕ → Option (TermPlace × ℕ) → List ℕ → List ℕ → List ℕ → Type 0
+abbrev pub Formed : FormKind → ℕ → ℕ → List ℕ → List ℕ → List ℕ → Normal (List ℕ) ℕ → Option (TermPlace × ℕ) → List ℕ → List ℕ → List ℕ → Type 0
 Formed w end n tags values work f r tags' values' work' =
     Builds (entry_form w end tags values) end tags values work (intern f (pool_of tags values n)) r tags' values' work'
 
 -- the form of the term at t, which the memo then has
-pub record Known (w : Walk) (end n : ℕ) (tags values work : List ℕ) (t : ℕ) (polarity : Bool) (r : Option (TermPlace × ℕ)) (tags' values' work' : List ℕ) : Type 0 where
+pub record Known (w : FormKind) (end n : ℕ) (tags values work : List ℕ) (t : ℕ) (polarity : Bool) (r : Option (TermPlace × ℕ)) (tags' values' work' : List ℕ) : Type 0 where
   pub formed : Formed w end n tags values work (form_of w end tags values t polarity) r tags' values' work'
   pub known : (p : TermPlace) (m : ℕ) → r ≡ Some (p, m) → get_or (memo_of work') (slot_of t polarity) 0 ≡ suc p.0
 
 -- the forms of the operands of the term at t from i on, whose places the memo then has
-abbrev pub operand_forms : Walk → ℕ → List ℕ → List ℕ → ℕ → Bool → ℕ → Normals (List ℕ) ℕ
+abbrev pub operand_forms : FormKind → ℕ → List ℕ → List ℕ → ℕ → Bool → ℕ → Normals (List ℕ) ℕ
 operand_forms w end tags values t polarity i = normals_of (λ u. form_of w end tags values u polarity) (drop i (run_of end tags values t))
 
-pub record OperandsKnown (w : Walk) (end n : ℕ) (tags values work : List ℕ) (t : ℕ) (polarity : Bool) (i : ℕ) (r : Option (TermPlace × ℕ)) (tags' values' work' : List ℕ) : Type 0 where
+pub record OperandsKnown (w : FormKind) (end n : ℕ) (tags values work : List ℕ) (t : ℕ) (polarity : Bool) (i : ℕ) (r : Option (TermPlace × ℕ)) (tags' values' work' : List ℕ) : Type 0 where
   pub builds : Builds (entry_form w end tags values) end tags values work
       (record { pool = (interns (operand_forms w end tags values t polarity i) (pool_of tags values n)).pool; place = 0 }) r tags' values' work'
   pub places : (p : TermPlace) (m : ℕ) → r ≡ Some (p, m)

@@ -1,32 +1,18 @@
 // Putting terms into the pool.
 ghost use Rattle.formulas.specs.Built.{put};
-ghost use Rattle.building.specs.Arrays.{pool_of};
-ghost use Rattle.descriptions.specs.Index.{Index};
-ghost use Rattle.building.specs.Walk.{State, Indexed, Puts};
+ghost use Rattle.descriptions.specs.IndexedPool.{HasIndex, SameArrays};
+ghost use Rattle.building.specs.Lent.{cells_in, PoolReady, PutsIn};
 
 use pool::TermPlace;
-use pool::description::Added;
-use pool::index::{INDEX, add};
+use pool::index::IndexedPool;
 
-// Puts a description into the pool of n cells: where it stands already, nothing changes. The place of what is built, here and in the walks,
-// comes with the new count; None is no room.
-pub(crate) fn put(
-    tags: &mut [u8],
-    values: &mut [u32],
-    index: &mut [u32; INDEX],
-    n: usize,
-    tag: u8,
-    cells: &[u32],
-) -> Option<(TermPlace, usize)>
-    requires state { State n n tags.old values.old }
-    requires index { Index tags.old values.old n index.old }
-    ensures puts { Puts n tags.old values.old (put (pool_of tags.old values.old n) tag cells.now) result tags.new values.new }
-    ensures indexed { Indexed result tags.new values.new index.new }
+// Puts a description into the pool, and gives its place: where it stands already, nothing changes. None, here and in the walks, is no room.
+pub(crate) fn put(pool: &mut IndexedPool<'_>, tag: u8, cells: &[u32]) -> Option<TermPlace>
+    requires { PoolReady pool.old.count pool.old }
+    ensures puts { PutsIn pool.old (put (cells_in pool.old) tag cells.now) result pool.new }
+    ensures has_index { HasIndex pool.new }
+    ensures same_arrays { SameArrays pool.old pool.new }
 {
-    let added = add(tags, values, index, n, tag, cells);
-    match added {
-        Added::There(p) => Some((TermPlace(p as u32), n)),
-        Added::New(p, m) => Some((TermPlace(p as u32), m)),
-        Added::Full => None,
-    }
+    let p = pool.add(tag, cells)?;
+    Some(TermPlace(p as u32))
 }

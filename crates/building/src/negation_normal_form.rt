@@ -1,243 +1,209 @@
-// The negation normal form of a term, built into the pool. The source pool is the cells before `end`. In the array `work` a memo
-// keeps where the form of a term at a polarity stands, one more than its place, so that each is built once however terms are shared;
-// the row after it holds the cells of one new term at a time.
-ghost use Rattle.std.specs.Prelude.{◌≡◌, not, ◌<◌, take, replicate};
+// The negation normal form of a term, built into the pool. The walk reads the cells before `end`. In the array `work` a memo keeps where
+// the form of a term at a polarity stands, one more than its place, so that each is built once however terms are shared; the row after it
+// holds the cells of one new term at a time.
+// Kept: the pool, the walk's array and `end` come one by one: where one struct over the pool's own ends, the check says nothing of what the
+// references of the inner one hold.
+// Kept: a polarity is a truth value, as document 01's call has it; `!polarity` is what the walk goes by.
+ghost use Rattle.std.specs.Prelude.{◌≡◌, not, ◌<◌, replicate};
 ghost use Rattle.formulas.specs.declared.view.View.TheVariants.{AndOr, Quantifier};
-ghost use Rattle.formulas.specs.Formula.{view_of};
 ghost use Rattle.formulas.specs.Normal.{pair};
 ghost use Rattle.formulas.specs.Built.{normal_form};
-ghost use Rattle.building.specs.Arrays.{pool_of};
-ghost use Rattle.descriptions.specs.Index.{Index};
-ghost use Rattle.building.specs.Walk.{State, Indexed, normal, normal_of, Formed, Known, OperandsKnown, Before, AllBelow, two_pairs, NormalBuilt, WalkReady};
+ghost use Rattle.descriptions.specs.IndexedPool.{HasIndex, SameArrays};
+ghost use Rattle.building.specs.Walk.{normal, AllBelow, two_pairs};
+ghost use Rattle.building.specs.Lent.{cells_in, PoolReady, NormalBuiltIn, Ready, view_in, BeforeIn, form_in, FormedIn, KnownIn, OperandsIn};
 
 use crate::terms::{WORK, literal, put_connective, put_pair, put_quantifier, slot};
+use formulas::kinds::{ConnectiveKind, QuantifierKind};
 use formulas::view::{View, view_of};
 use pool::TermPlace;
-use pool::index::INDEX;
-use pool::run::operands;
+use pool::index::IndexedPool;
 
 // The place of a term, and a polarity.
 #[derive(Clone, Copy)]
 struct Signed(TermPlace, bool);
 
-// The normal form of the term at t at a polarity, put into the pool of n cells.
+// The normal form of the term at t at a polarity, put into the pool.
 #[cycle(connective_form_expand_negation_normal_form_operand_forms_pair_of_quantifier_form_two_pairs)]
 fn negation_normal_form(
-    tags: &mut [u8],
-    values: &mut [u32],
+    pool: &mut IndexedPool<'_>,
     work: &mut [u32; WORK],
-    index: &mut [u32; INDEX],
     end: usize,
-    n: usize,
     t: TermPlace,
     polarity: bool,
-) -> Option<(TermPlace, usize)>
-    requires walk_ready { WalkReady normal end n tags.old values.old work.old }
+) -> Option<TermPlace>
+    requires ready { Ready normal end pool.old work.old }
     requires t_lt_end { t.0 < end }
-    requires index { Index tags.old values.old n index.old }
-    ensures known { Known normal end n tags.old values.old work.old t.0 polarity result tags.new values.new work.new }
-    ensures indexed { Indexed result tags.new values.new index.new }
+    ensures known { KnownIn normal end pool.old work.old t.0 polarity result pool.new work.new }
+    ensures has_index { HasIndex pool.new }
+    ensures same_arrays { SameArrays pool.old pool.new }
 {
     let i = slot(t, polarity);
     let known = work[i];
     if known != 0 {
-        return Some((TermPlace(known - 1), n));
+        return Some(TermPlace(known - 1));
     }
-    let (p, m) = expand(tags, values, work, index, end, n, t, polarity)?;
+    let p = expand(pool, work, end, t, polarity)?;
     work[i] = p.0 + 1;
-    Some((p, m))
+    Some(p)
 }
 
 // The same for a term that the memo does not have.
 #[cycle(connective_form_expand_negation_normal_form_operand_forms_pair_of_quantifier_form_two_pairs)]
 fn expand(
-    tags: &mut [u8],
-    values: &mut [u32],
+    pool: &mut IndexedPool<'_>,
     work: &mut [u32; WORK],
-    index: &mut [u32; INDEX],
     end: usize,
-    n: usize,
     t: TermPlace,
     polarity: bool,
-) -> Option<(TermPlace, usize)>
-    requires walk_ready { WalkReady normal end n tags.old values.old work.old }
+) -> Option<TermPlace>
+    requires ready { Ready normal end pool.old work.old }
     requires t_lt_end { t.0 < end }
-    requires index { Index tags.old values.old n index.old }
-    ensures formed { Formed normal end n tags.old values.old work.old (normal_of end tags.old values.old t.0 polarity) result tags.new values.new work.new }
-    ensures indexed { Indexed result tags.new values.new index.new }
+    ensures formed { FormedIn normal end pool.old work.old (form_in normal end pool.old t.0 polarity) result pool.new work.new }
+    ensures has_index { HasIndex pool.new }
+    ensures same_arrays { SameArrays pool.old pool.new }
 {
-    let view = view_of(&tags[..end], &values[..end], t);
+    let source = pool.first(end);
+    let view = view_of(&source, t);
     match view {
-        View::Opaque => literal(tags, values, index, n, t, polarity),
-        View::Not(a) => negation_normal_form(tags, values, work, index, end, n, a, !polarity),
-        View::AndOr(b) => connective_form(tags, values, work, index, end, n, t, polarity, b),
-        View::Implies(a, b) => {
-            let first = Signed(a, !polarity);
-            pair_of(tags, values, work, index, end, n, polarity, first, b)
-        }
-        View::Ite(a, b, c) => {
-            let d = Signed(a, polarity);
-            two_pairs(tags, values, work, index, end, n, polarity, a, b, d, c)
-        }
-        View::Iff(a, b) => {
-            let d = Signed(b, !polarity);
-            two_pairs(tags, values, work, index, end, n, polarity, a, b, d, a)
-        }
-        View::Quantifier(b, body) => {
-            quantifier_form(tags, values, work, index, end, n, t, polarity, b, body)
-        }
+        View::Opaque => literal(pool, t, polarity),
+        View::Not(a) => negation_normal_form(pool, work, end, a, !polarity),
+        View::AndOr(kind) => connective_form(pool, work, end, t, polarity, kind),
+        View::Implies(a, b) => pair_of(pool, work, end, polarity, Signed(a, !polarity), b),
+        View::Ite(a, b, c) => two_pairs(pool, work, end, polarity, a, b, Signed(a, polarity), c),
+        View::Iff(a, b) => two_pairs(pool, work, end, polarity, a, b, Signed(b, !polarity), a),
+        View::Quantifier(kind, body) => quantifier_form(pool, work, end, t, polarity, kind, body),
     }
 }
 
 // The same for a connective: over the normal forms of its operands.
 #[cycle(connective_form_expand_negation_normal_form_operand_forms_pair_of_quantifier_form_two_pairs)]
 fn connective_form(
-    tags: &mut [u8],
-    values: &mut [u32],
+    pool: &mut IndexedPool<'_>,
     work: &mut [u32; WORK],
-    index: &mut [u32; INDEX],
     end: usize,
-    n: usize,
     t: TermPlace,
     polarity: bool,
-    b: bool,
-) -> Option<(TermPlace, usize)>
-    requires walk_ready { WalkReady normal end n tags.old values.old work.old }
+    kind: ConnectiveKind,
+) -> Option<TermPlace>
+    requires ready { Ready normal end pool.old work.old }
     requires t_lt_end { t.0 < end }
-    requires t_value { view_of (take end tags.old) (take end values.old) t.0 ≡ AndOr b }
-    requires index { Index tags.old values.old n index.old }
-    ensures formed { Formed normal end n tags.old values.old work.old (normal_of end tags.old values.old t.0 polarity) result tags.new values.new work.new }
-    ensures indexed { Indexed result tags.new values.new index.new }
+    requires t_value { view_in end pool.old t.0 ≡ AndOr kind }
+    ensures formed { FormedIn normal end pool.old work.old (form_in normal end pool.old t.0 polarity) result pool.new work.new }
+    ensures has_index { HasIndex pool.new }
+    ensures same_arrays { SameArrays pool.old pool.new }
 {
-    let (_, m) = operand_forms(tags, values, work, index, end, n, t, polarity)?;
-    put_connective(tags, values, work, index, end, m, t, polarity, b)
+    operand_forms(pool, work, end, t, polarity)?;
+    put_connective(pool, work, end, t, polarity, kind)
 }
 
 // The same for a quantifier: over the normal form of its body.
 #[cycle(connective_form_expand_negation_normal_form_operand_forms_pair_of_quantifier_form_two_pairs)]
 fn quantifier_form(
-    tags: &mut [u8],
-    values: &mut [u32],
+    pool: &mut IndexedPool<'_>,
     work: &mut [u32; WORK],
-    index: &mut [u32; INDEX],
     end: usize,
-    n: usize,
     t: TermPlace,
     polarity: bool,
-    b: bool,
+    kind: QuantifierKind,
     body: TermPlace,
-) -> Option<(TermPlace, usize)>
-    requires walk_ready { WalkReady normal end n tags.old values.old work.old }
+) -> Option<TermPlace>
+    requires ready { Ready normal end pool.old work.old }
     requires t_lt_end { t.0 < end }
-    requires t_value { view_of (take end tags.old) (take end values.old) t.0 ≡ Quantifier b body }
-    requires index { Index tags.old values.old n index.old }
-    ensures formed { Formed normal end n tags.old values.old work.old (normal_of end tags.old values.old t.0 polarity) result tags.new values.new work.new }
-    ensures indexed { Indexed result tags.new values.new index.new }
+    requires t_value { view_in end pool.old t.0 ≡ Quantifier kind body }
+    ensures formed { FormedIn normal end pool.old work.old (form_in normal end pool.old t.0 polarity) result pool.new work.new }
+    ensures has_index { HasIndex pool.new }
+    ensures same_arrays { SameArrays pool.old pool.new }
 {
-    let form = negation_normal_form(tags, values, work, index, end, n, body, polarity);
-    let (p, m) = form?;
-    put_quantifier(tags, values, work, index, end, m, t, polarity, b, p)
+    let p = negation_normal_form(pool, work, end, body, polarity)?;
+    put_quantifier(pool, work, end, t, polarity, kind, p)
 }
 
-// The normal forms of the operands of the term at t. The memo then has their places, and the answer's is 0.
+// The normal forms of the operands of the term at t, whose places the memo then has.
 #[cycle(connective_form_expand_negation_normal_form_operand_forms_pair_of_quantifier_form_two_pairs)]
 fn operand_forms(
-    tags: &mut [u8],
-    values: &mut [u32],
+    pool: &mut IndexedPool<'_>,
     work: &mut [u32; WORK],
-    index: &mut [u32; INDEX],
     end: usize,
-    n: usize,
     t: TermPlace,
     polarity: bool,
-) -> Option<(TermPlace, usize)>
-    requires walk_ready { WalkReady normal end n tags.old values.old work.old }
+) -> Option<()>
+    requires ready { Ready normal end pool.old work.old }
     requires t_lt_end { t.0 < end }
-    requires before { Before end tags.old values.old t.0 }
-    requires index { Index tags.old values.old n index.old }
-    ensures operands_known { OperandsKnown normal end n tags.old values.old work.old t.0 polarity 0 result tags.new values.new work.new }
-    ensures indexed { Indexed result tags.new values.new index.new }
+    requires before { BeforeIn end pool.old t.0 }
+    ensures operands { OperandsIn normal end pool.old work.old t.0 polarity result pool.new work.new }
+    ensures has_index { HasIndex pool.new }
+    ensures same_arrays { SameArrays pool.old pool.new }
 {
-    let count = operands(&tags[..end], &values[..end], t).len();
-    let mut m = n;
+    let source = pool.first(end);
+    let count = source.operands(t).len();
     for i in 0..count {
-        let run = operands(&tags[..end], &values[..end], t);
-        let u = TermPlace(run[i]);
-        let (_, k) = negation_normal_form(tags, values, work, index, end, m, u, polarity)?;
-        m = k;
+        let source = pool.first(end);
+        let u = TermPlace(source.operands(t)[i]);
+        negation_normal_form(pool, work, end, u, polarity)?;
     }
-    Some((TermPlace(0), m))
+    Some(())
 }
 
 // A pair of the normal forms of a and, at the polarity, of b: their `or`, and their `and` at false polarity.
 #[cycle(connective_form_expand_negation_normal_form_operand_forms_pair_of_quantifier_form_two_pairs)]
 fn pair_of(
-    tags: &mut [u8],
-    values: &mut [u32],
+    pool: &mut IndexedPool<'_>,
     work: &mut [u32; WORK],
-    index: &mut [u32; INDEX],
     end: usize,
-    n: usize,
     polarity: bool,
     a: Signed,
     b: TermPlace,
-) -> Option<(TermPlace, usize)>
-    requires walk_ready { WalkReady normal end n tags.old values.old work.old }
+) -> Option<TermPlace>
+    requires ready { Ready normal end pool.old work.old }
     requires a_lt_end { a.0.0 < end }
     requires b_lt_end { b.0 < end }
-    requires index { Index tags.old values.old n index.old }
-    ensures formed { Formed normal end n tags.old values.old work.old (pair (not polarity) (normal_of end tags.old values.old a.0.0 a.1) (normal_of end tags.old values.old b.0 polarity)) result tags.new values.new work.new }
-    ensures indexed { Indexed result tags.new values.new index.new }
+    ensures formed { FormedIn normal end pool.old work.old (pair (not polarity) (form_in normal end pool.old a.0.0 a.1) (form_in normal end pool.old b.0 polarity)) result pool.new work.new }
+    ensures has_index { HasIndex pool.new }
+    ensures same_arrays { SameArrays pool.old pool.new }
 {
-    let (p, m) = negation_normal_form(tags, values, work, index, end, n, a.0, a.1)?;
-    let (q, l) = negation_normal_form(tags, values, work, index, end, m, b, polarity)?;
-    put_pair(tags, values, index, l, !polarity, p, q)
+    let p = negation_normal_form(pool, work, end, a.0, a.1)?;
+    let q = negation_normal_form(pool, work, end, b, polarity)?;
+    put_pair(pool, ConnectiveKind::Or.at(polarity), p, q)
 }
 
 // The two pairs that an `ite` or an equality becomes: of a, flipped, and b; of c and d. The left pair is whole before the right
 // one begins: the order of the finished term.
 #[cycle(connective_form_expand_negation_normal_form_operand_forms_pair_of_quantifier_form_two_pairs)]
 fn two_pairs(
-    tags: &mut [u8],
-    values: &mut [u32],
+    pool: &mut IndexedPool<'_>,
     work: &mut [u32; WORK],
-    index: &mut [u32; INDEX],
     end: usize,
-    n: usize,
     polarity: bool,
     a: TermPlace,
     b: TermPlace,
     c: Signed,
     d: TermPlace,
-) -> Option<(TermPlace, usize)>
-    requires walk_ready { WalkReady normal end n tags.old values.old work.old }
+) -> Option<TermPlace>
+    requires ready { Ready normal end pool.old work.old }
     requires all_below { AllBelow end a.0 b.0 c.0.0 d.0 }
-    requires index { Index tags.old values.old n index.old }
-    ensures formed { Formed normal end n tags.old values.old work.old (two_pairs polarity (λ t p. normal_of end tags.old values.old t p) a.0 b.0 c.0.0 c.1 d.0) result tags.new values.new work.new }
-    ensures indexed { Indexed result tags.new values.new index.new }
+    ensures formed { FormedIn normal end pool.old work.old (two_pairs polarity (λ t p. form_in normal end pool.old t p) a.0 b.0 c.0.0 c.1 d.0) result pool.new work.new }
+    ensures has_index { HasIndex pool.new }
+    ensures same_arrays { SameArrays pool.old pool.new }
 {
-    let f = Signed(a, !polarity);
-    let (p, m) = pair_of(tags, values, work, index, end, n, polarity, f, b)?;
-    let (q, l) = pair_of(tags, values, work, index, end, m, polarity, c, d)?;
-    put_pair(tags, values, index, l, polarity, p, q)
+    let p = pair_of(pool, work, end, polarity, Signed(a, !polarity), b)?;
+    let q = pair_of(pool, work, end, polarity, c, d)?;
+    put_pair(pool, ConnectiveKind::And.at(polarity), p, q)
 }
 
-// The normal form of the term at t at a polarity, put into the pool of n cells, with an empty array for the walk.
+// The normal form of the term at t at a polarity, put into the pool, with an empty array for the walk.
 pub fn build_normal_form(
-    tags: &mut [u8],
-    values: &mut [u32],
+    pool: &mut IndexedPool<'_>,
     work: &mut [u32; WORK],
-    index: &mut [u32; INDEX],
-    n: usize,
     t: TermPlace,
     polarity: bool,
-) -> Option<(TermPlace, usize)>
-    requires state { State n n tags.old values.old }
-    requires t_lt_n { t.0 < n }
-    requires index { Index tags.old values.old n index.old }
+) -> Option<TermPlace>
+    requires pool_ready { PoolReady pool.old.count pool.old }
+    requires t_lt_count { t.0 < pool.old.count }
     requires work_value { work.old ≡ replicate 24576 0 }
-    ensures normal_built { NormalBuilt n tags.old values.old (normal_form (pool_of tags.old values.old n) t.0 polarity) result tags.new values.new }
-    ensures indexed { Indexed result tags.new values.new index.new }
+    ensures normal_built { NormalBuiltIn pool.old (normal_form (cells_in pool.old) t.0 polarity) result pool.new }
+    ensures has_index { HasIndex pool.new }
+    ensures same_arrays { SameArrays pool.old pool.new }
 {
-    negation_normal_form(tags, values, work, index, n, n, t, polarity)
+    let end = pool.count;
+    negation_normal_form(pool, work, end, t, polarity)
 }

@@ -1,116 +1,106 @@
 // The taken-out form of a term in normal form, built into the pool: foralls are taken out through `and`, `or` and forall alone.
-// The source pool is the cells before `end`. The array `work` is as for the normal form, at true polarity alone.
+// The walk reads the cells before `end`. The array `work` is as for the normal form, at true polarity alone.
+// Kept: the pool, the walk's array and `end` come one by one: where one struct over the pool's own ends, the check says nothing of what the
+// references of the inner one hold.
 ghost use Rattle.std.specs.Prelude.{true, ◌<◌};
 ghost use Rattle.formulas.specs.Built.{taken_out_form};
-ghost use Rattle.building.specs.Arrays.{pool_of};
-ghost use Rattle.descriptions.specs.Index.{Index};
-ghost use Rattle.building.specs.Walk.{State, Indexed, taken_out, form_of, Formed, Known, OperandsKnown, Before, NormalBuilt, WalkReady};
+ghost use Rattle.descriptions.specs.IndexedPool.{HasIndex, SameArrays};
+ghost use Rattle.building.specs.Walk.{taken_out};
+ghost use Rattle.building.specs.Lent.{cells_in, PoolReady, NormalBuiltIn, Ready, BeforeIn, form_in, FormedIn, KnownIn, OperandsIn};
 
 use crate::terms::{WORK, clear_memo, put_connective, slot};
 use formulas::view::{NormalView, normal_view};
 use pool::TermPlace;
-use pool::index::INDEX;
-use pool::run::operands;
+use pool::index::IndexedPool;
 
-// The taken-out form of the term at x, put into the pool of n cells.
+// The taken-out form of the term at x, put into the pool.
 #[cycle(operand_forms_prenex_forall_take_out)]
 fn prenex_forall(
-    tags: &mut [u8],
-    values: &mut [u32],
+    pool: &mut IndexedPool<'_>,
     work: &mut [u32; WORK],
-    index: &mut [u32; INDEX],
     end: usize,
-    n: usize,
     x: TermPlace,
-) -> Option<(TermPlace, usize)>
-    requires walk_ready { WalkReady taken_out end n tags.old values.old work.old }
+) -> Option<TermPlace>
+    requires ready { Ready taken_out end pool.old work.old }
     requires x_lt_end { x.0 < end }
-    requires index { Index tags.old values.old n index.old }
-    ensures known { Known taken_out end n tags.old values.old work.old x.0 true result tags.new values.new work.new }
-    ensures indexed { Indexed result tags.new values.new index.new }
+    ensures known { KnownIn taken_out end pool.old work.old x.0 true result pool.new work.new }
+    ensures has_index { HasIndex pool.new }
+    ensures same_arrays { SameArrays pool.old pool.new }
 {
     let i = slot(x, true);
     let known = work[i];
     if known != 0 {
-        return Some((TermPlace(known - 1), n));
+        return Some(TermPlace(known - 1));
     }
-    let (p, m) = take_out(tags, values, work, index, end, n, x)?;
+    let p = take_out(pool, work, end, x)?;
     work[i] = p.0 + 1;
-    Some((p, m))
+    Some(p)
 }
 
 // The same for a term that the memo does not have.
 #[cycle(operand_forms_prenex_forall_take_out)]
 fn take_out(
-    tags: &mut [u8],
-    values: &mut [u32],
+    pool: &mut IndexedPool<'_>,
     work: &mut [u32; WORK],
-    index: &mut [u32; INDEX],
     end: usize,
-    n: usize,
     x: TermPlace,
-) -> Option<(TermPlace, usize)>
-    requires walk_ready { WalkReady taken_out end n tags.old values.old work.old }
+) -> Option<TermPlace>
+    requires ready { Ready taken_out end pool.old work.old }
     requires x_lt_end { x.0 < end }
-    requires index { Index tags.old values.old n index.old }
-    ensures formed { Formed taken_out end n tags.old values.old work.old (form_of taken_out end tags.old values.old x.0 true) result tags.new values.new work.new }
-    ensures indexed { Indexed result tags.new values.new index.new }
+    ensures formed { FormedIn taken_out end pool.old work.old (form_in taken_out end pool.old x.0 true) result pool.new work.new }
+    ensures has_index { HasIndex pool.new }
+    ensures same_arrays { SameArrays pool.old pool.new }
 {
-    let view = normal_view(&tags[..end], &values[..end], x);
+    let source = pool.first(end);
+    let view = normal_view(&source, x);
     match view {
-        NormalView::Literal => Some((x, n)),
-        NormalView::Forall(body) => prenex_forall(tags, values, work, index, end, n, body),
-        NormalView::Connective(b) => {
-            let (_, m) = operand_forms(tags, values, work, index, end, n, x)?;
-            put_connective(tags, values, work, index, end, m, x, true, b)
+        NormalView::Literal => Some(x),
+        NormalView::Forall(body) => prenex_forall(pool, work, end, body),
+        NormalView::Connective(kind) => {
+            operand_forms(pool, work, end, x)?;
+            put_connective(pool, work, end, x, true, kind)
         }
     }
 }
 
-// The taken-out forms of the operands of the term at x. The memo then has their places, and the answer's is 0.
+// The taken-out forms of the operands of the term at x, whose places the memo then has.
 #[cycle(operand_forms_prenex_forall_take_out)]
 fn operand_forms(
-    tags: &mut [u8],
-    values: &mut [u32],
+    pool: &mut IndexedPool<'_>,
     work: &mut [u32; WORK],
-    index: &mut [u32; INDEX],
     end: usize,
-    n: usize,
     x: TermPlace,
-) -> Option<(TermPlace, usize)>
-    requires walk_ready { WalkReady taken_out end n tags.old values.old work.old }
+) -> Option<()>
+    requires ready { Ready taken_out end pool.old work.old }
     requires x_lt_end { x.0 < end }
-    requires before { Before end tags.old values.old x.0 }
-    requires index { Index tags.old values.old n index.old }
-    ensures operands_known { OperandsKnown taken_out end n tags.old values.old work.old x.0 true 0 result tags.new values.new work.new }
-    ensures indexed { Indexed result tags.new values.new index.new }
+    requires before { BeforeIn end pool.old x.0 }
+    ensures operands { OperandsIn taken_out end pool.old work.old x.0 true result pool.new work.new }
+    ensures has_index { HasIndex pool.new }
+    ensures same_arrays { SameArrays pool.old pool.new }
 {
-    let count = operands(&tags[..end], &values[..end], x).len();
-    let mut m = n;
+    let source = pool.first(end);
+    let count = source.operands(x).len();
     for i in 0..count {
-        let run = operands(&tags[..end], &values[..end], x);
-        let u = TermPlace(run[i]);
-        let (_, k) = prenex_forall(tags, values, work, index, end, m, u)?;
-        m = k;
+        let source = pool.first(end);
+        let u = TermPlace(source.operands(x)[i]);
+        prenex_forall(pool, work, end, u)?;
     }
-    Some((TermPlace(0), m))
+    Some(())
 }
 
-// The taken-out form of the term in normal form at x, put into the pool of n cells.
+// The taken-out form of the term in normal form at x, put into the pool.
 pub fn build_taken_out(
-    tags: &mut [u8],
-    values: &mut [u32],
+    pool: &mut IndexedPool<'_>,
     work: &mut [u32; WORK],
-    index: &mut [u32; INDEX],
-    n: usize,
     x: TermPlace,
-) -> Option<(TermPlace, usize)>
-    requires state { State n n tags.old values.old }
-    requires x_lt_n { x.0 < n }
-    requires index { Index tags.old values.old n index.old }
-    ensures normal_built { NormalBuilt n tags.old values.old (taken_out_form (pool_of tags.old values.old n) x.0) result tags.new values.new }
-    ensures indexed { Indexed result tags.new values.new index.new }
+) -> Option<TermPlace>
+    requires pool_ready { PoolReady pool.old.count pool.old }
+    requires x_lt_count { x.0 < pool.old.count }
+    ensures normal_built { NormalBuiltIn pool.old (taken_out_form (cells_in pool.old) x.0) result pool.new }
+    ensures has_index { HasIndex pool.new }
+    ensures same_arrays { SameArrays pool.old pool.new }
 {
     clear_memo(work);
-    prenex_forall(tags, values, work, index, n, n, x)
+    let end = pool.count;
+    prenex_forall(pool, work, end, x)
 }

@@ -4,17 +4,17 @@ ghost use Rattle.cells.specs.Limits.{cell_limit};
 ghost use Rattle.std.specs.Prelude.{◌≡◌, ◌∷◌, [], ◌-◌, ◌<◌, length, get_or, drop};
 ghost use Rattle.formulas.specs.Normal.{flip, lit};
 ghost use Rattle.formulas.specs.Built.{put, intern};
-ghost use Rattle.formulas.specs.Formula.{quantifier_tag, connective_tag};
-ghost use Rattle.building.specs.Arrays.{pool_of};
-ghost use Rattle.descriptions.specs.Index.{Index};
-ghost use Rattle.building.specs.Walk.{State, Indexed, Puts, slot_of, places_in, run_of, work_size, memo_of, MemoEmpty, MemoKept, RowHolds};
+ghost use Rattle.formulas.specs.Formula.{is_and, is_forall, quantifier_tag, connective_tag};
+ghost use Rattle.descriptions.specs.IndexedPool.{HasIndex, SameArrays};
+ghost use Rattle.building.specs.Walk.{slot_of, places_in, work_size, memo_of, MemoEmpty, MemoKept, RowHolds};
+ghost use Rattle.building.specs.Lent.{cells_in, run_in, PoolReady, PutsIn};
 
 use crate::build::put;
-use formulas::view::{connective_tag, quantifier_tag};
+use formulas::kinds::{ConnectiveKind, QuantifierKind};
 use pool::TermPlace;
-use pool::index::INDEX;
+use pool::index::IndexedPool;
 use pool::limits::CELLS;
-use pool::run::{cell, operands};
+use pool::run::cell;
 use pool::tags::NOT;
 
 // The array of a walk: an entry for each cell and polarity, then the row.
@@ -60,16 +60,6 @@ fn place_in(work: &[u32; WORK], t: TermPlace, polarity: bool) -> TermPlace
     TermPlace(known - 1)
 }
 
-// A connective or a quantifier keeps its kind at true polarity, and changes it at false.
-fn flip(b: bool, polarity: bool) -> bool
-    ensures { result ≡ flip b polarity }
-{
-    if polarity {
-        return b;
-    }
-    !b
-}
-
 // Writes the sort Bool and the places of the operands' forms to the row, and gives the row's end.
 fn gather(run: &[u32], work: &mut [u32; WORK], polarity: bool) -> usize
     requires run_len_bound { length run.now < cell_limit }
@@ -104,96 +94,82 @@ fn gather_pairs(run: &[u32], body: TermPlace, work: &mut [u32; WORK]) -> usize
 
 // Puts the connective of the term at t over its operands' forms, which the memo has.
 pub fn put_connective(
-    tags: &mut [u8],
-    values: &mut [u32],
+    pool: &mut IndexedPool<'_>,
     work: &mut [u32; WORK],
-    index: &mut [u32; INDEX],
     end: usize,
-    n: usize,
     t: TermPlace,
     polarity: bool,
-    b: bool,
-) -> Option<(TermPlace, usize)>
-    requires state { State end n tags.old values.old }
+    kind: ConnectiveKind,
+) -> Option<TermPlace>
+    requires pool_ready { PoolReady end pool.old }
     requires work_len { length work.old ≡ work_size }
     requires t_lt_end { t.0 < end }
-    requires index { Index tags.old values.old n index.old }
-    ensures puts { Puts n tags.old values.old (put (pool_of tags.old values.old n) (connective_tag (flip b polarity)) (0 ∷ places_in (memo_of work.old) polarity (run_of end tags.old values.old t.0))) result tags.new values.new }
-    ensures indexed { Indexed result tags.new values.new index.new }
+    ensures puts { PutsIn pool.old (put (cells_in pool.old) (connective_tag (flip (is_and kind) polarity)) (0 ∷ places_in (memo_of work.old) polarity (run_in end pool.old t.0))) result pool.new }
+    ensures has_index { HasIndex pool.new }
     ensures memo_kept { MemoKept work.old work.new }
+    ensures same_arrays { SameArrays pool.old pool.new }
 {
-    let run = operands(&tags[..end], &values[..end], t);
+    let source = pool.first(end);
+    let run = source.operands(t);
     let k = gather(run, work, polarity);
-    let tag = connective_tag(flip(b, polarity));
+    let tag = kind.at(polarity).tag();
     let all = &work[..];
-    put(tags, values, index, n, tag, &all[ROW..k])
+    put(pool, tag, &all[ROW..k])
 }
 
 // Puts the quantifier of the term at t over its body's form.
 pub fn put_quantifier(
-    tags: &mut [u8],
-    values: &mut [u32],
+    pool: &mut IndexedPool<'_>,
     work: &mut [u32; WORK],
-    index: &mut [u32; INDEX],
     end: usize,
-    n: usize,
     t: TermPlace,
     polarity: bool,
-    b: bool,
+    kind: QuantifierKind,
     body: TermPlace,
-) -> Option<(TermPlace, usize)>
-    requires state { State end n tags.old values.old }
+) -> Option<TermPlace>
+    requires pool_ready { PoolReady end pool.old }
     requires work_len { length work.old ≡ work_size }
     requires t_lt_end { t.0 < end }
-    requires index { Index tags.old values.old n index.old }
-    ensures puts { Puts n tags.old values.old (put (pool_of tags.old values.old n) (quantifier_tag (flip b polarity)) (0 ∷ body.0 ∷ drop 1 (run_of end tags.old values.old t.0))) result tags.new values.new }
-    ensures indexed { Indexed result tags.new values.new index.new }
+    ensures puts { PutsIn pool.old (put (cells_in pool.old) (quantifier_tag (flip (is_forall kind) polarity)) (0 ∷ body.0 ∷ drop 1 (run_in end pool.old t.0))) result pool.new }
+    ensures has_index { HasIndex pool.new }
     ensures memo_kept { MemoKept work.old work.new }
+    ensures same_arrays { SameArrays pool.old pool.new }
 {
-    let run = operands(&tags[..end], &values[..end], t);
+    let source = pool.first(end);
+    let run = source.operands(t);
     let k = gather_pairs(run, body, work);
-    let tag = quantifier_tag(flip(b, polarity));
+    let tag = kind.at(polarity).tag();
     let all = &work[..];
-    put(tags, values, index, n, tag, &all[ROW..k])
+    put(pool, tag, &all[ROW..k])
 }
 
 // Puts a connective of two operands.
 pub fn put_pair(
-    tags: &mut [u8],
-    values: &mut [u32],
-    index: &mut [u32; INDEX],
-    n: usize,
-    b: bool,
+    pool: &mut IndexedPool<'_>,
+    kind: ConnectiveKind,
     p: TermPlace,
     q: TermPlace,
-) -> Option<(TermPlace, usize)>
-    requires state { State n n tags.old values.old }
-    requires index { Index tags.old values.old n index.old }
-    ensures puts { Puts n tags.old values.old (put (pool_of tags.old values.old n) (connective_tag b) (0 ∷ p.0 ∷ q.0 ∷ [])) result tags.new values.new }
-    ensures indexed { Indexed result tags.new values.new index.new }
+) -> Option<TermPlace>
+    requires { PoolReady pool.old.count pool.old }
+    ensures puts { PutsIn pool.old (put (cells_in pool.old) (connective_tag (is_and kind)) (0 ∷ p.0 ∷ q.0 ∷ [])) result pool.new }
+    ensures has_index { HasIndex pool.new }
+    ensures same_arrays { SameArrays pool.old pool.new }
 {
     let cells = [0u32, p.0, q.0];
-    put(tags, values, index, n, connective_tag(b), &cells)
+    put(pool, kind.tag(), &cells)
 }
 
 // An opaque term, negated at false polarity.
-pub fn literal(
-    tags: &mut [u8],
-    values: &mut [u32],
-    index: &mut [u32; INDEX],
-    n: usize,
-    t: TermPlace,
-    polarity: bool,
-) -> Option<(TermPlace, usize)>
-    requires state { State n n tags.old values.old }
-    requires t_lt_n { t.0 < n }
-    requires index { Index tags.old values.old n index.old }
-    ensures puts { Puts n tags.old values.old (intern (lit polarity t.0) (pool_of tags.old values.old n)) result tags.new values.new }
-    ensures indexed { Indexed result tags.new values.new index.new }
+pub fn literal(pool: &mut IndexedPool<'_>, t: TermPlace, polarity: bool) -> Option<TermPlace>
+    requires pool_ready { PoolReady pool.old.count pool.old }
+    requires t_lt_count { t.0 < pool.old.count }
+    ensures puts { PutsIn pool.old (intern (lit polarity t.0) (cells_in pool.old)) result pool.new }
+    ensures has_index { HasIndex pool.new }
+    ensures same_arrays { SameArrays pool.old pool.new }
 {
     if polarity {
-        return Some((t, n));
+        return Some(t);
     }
     let cells = [0u32, t.0];
-    put(tags, values, index, n, NOT, &cells)
+    put(pool, NOT, &cells)
 }

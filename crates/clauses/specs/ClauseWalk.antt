@@ -1,8 +1,10 @@
 -- What the functions that count and list clauses promise each other: what their memos hold.
 -- The memo of the totals is lent to `list_totals`, whose caller writes the list by it; that of the empty `or` is in no public contract.
--- Rests on cells' Cell, on formulas' Formula, Normal, Built, Clauses, Totals and enum `NormalView`, and on the struct `Totals`.
+-- Rests on cells' Cell, on formulas' Formula, Normal, Built, Clauses, Totals and enums `NormalView` and `ConnectiveKind`, and on the
+-- struct `Totals`.
 use Rattle.std.specs.Prelude.{ℕ, ◌+◌, ◌-◌, ◌*◌, ◌/◌, ◌%◌, ◌≤◌, ◌<◌, ◌≡◌, Bool, true, false, List, [], ◌∷◌, length, get_or, set}
 use Rattle.cells.specs.Cell.{operands_of}
+use Rattle.formulas.specs.declared.kinds.ConnectiveKind.{ConnectiveKind}
 use Rattle.formulas.specs.declared.view.NormalView.TheVariants.{Connective}
 use Rattle.formulas.specs.Formula.{all_before}
 use Rattle.formulas.specs.Clauses.{empty_or}
@@ -55,7 +57,7 @@ pub record CountedKept (memo memo' : List ℕ) : Type 0 where
 pub record Memo (tags values memo : List ℕ) : Type 0 where
   pub room : length tags ≤ length memo
   pub at : (u : ℕ) → 0 < get_or memo u 0 → memo_at memo u ≡ cap 8193 (totals (form_at tags values u))
-  pub operands : (u : ℕ) → 0 < get_or memo u 0 → (b : Bool) → Connective b ≡ normal_view tags values u → AllCounted memo (operands_of tags values u)
+  pub operands : (u : ℕ) → 0 < get_or memo u 0 → (b : ConnectiveKind) → Connective b ≡ normal_view tags values u → AllCounted memo (operands_of tags values u)
 
 -- noting the totals t for x hands them back as r; past the memo's end nothing is noted
 pub record TotalsNoted (memo : List ℕ) (x : ℕ) (t : code.Totals) (memo' : List ℕ) (r : code.Totals) : Type 0 where

@@ -1,120 +1,125 @@
 // The whole clause list of a term, as two arrays: the literal places, clause after clause, and each clause's end.
-ghost use Rattle.std.specs.Prelude.{◌≡◌, [], ◌∷◌, length};
+ghost use Rattle.std.specs.Prelude.{◌≡◌, length};
 ghost use Rattle.formulas.specs.Built.{form_at};
+ghost use Rattle.std.proofs.lemmas.List.Edits.{sets};
+ghost use Rattle.formulas.specs.ClauseLists.{literal_places, clause_ends};
 ghost use Rattle.descriptions.specs.Description.{Cut};
-ghost use Rattle.formulas.specs.Clauses.{cnf, cnf_and};
-ghost use Rattle.clauses.specs.ClauseList.{run_of, AskMore, AskLists, Adds, Lent, count_answer, list_answer, counted, ListAnswered, ListReady};
+ghost use Rattle.formulas.specs.Clauses.{cnf};
+ghost use Rattle.clauses.specs.ClauseList.{clause_at, list_at, joined_at, AskNext, AskList, AskJoined, Pushed, Added, SameArrays, Lent, count_answer, list_answer, counted, ListAnswered, ListReady, AskAll};
 
-use crate::conjunctive_normal_form::write_clause;
+use crate::conjunctive_normal_form::CountedPool;
 use crate::empty_or::empty_or;
 use crate::totals::{Totals, count_at, list_totals};
+use formulas::kinds::ConnectiveKind;
 use formulas::view::{NormalView, normal_view};
 use pool::description::zero_from;
 use pool::limits::{CELLS, MAX_CLAUSES, MAX_LITERALS};
-use pool::run::operands;
-use pool::{Refusal, TermPlace};
+use pool::{Pool, Refusal, TermPlace};
 
-// How many cells of the two arrays are filled: the clauses' ends and the literals.
-#[derive(Clone, Copy)]
-pub struct Filled(pub usize, pub usize);
-
-// Writes the clauses of the term at x, as many as total, one by one.
-fn write_clauses(
-    tags: &[u8],
-    values: &[u32],
-    memo: &[u32],
-    x: TermPlace,
-    total: u32,
-    literals: &mut [u32],
-    ends: &mut [u32],
-    from: Filled,
-) -> Filled
-    requires ask_more { AskMore tags.now values.now memo.now (x.0 ∷ []) (cnf (form_at tags.now values.now x.0)) literals.old ends.old from.0 from.1 }
-    requires total_value { total ≡ length (cnf (form_at tags.now values.now x.0)) }
-    ensures { Adds (cnf (form_at tags.now values.now x.0)) literals.old ends.old from.0 from.1 literals.new ends.new result }
-{
-    let mut i = from.0;
-    let mut at = from.1;
-    for k in 0..total {
-        at = write_clause(tags, values, memo, x, k, literals, at);
-        ends[i] = at as u32;
-        i += 1;
-    }
-    Filled(i, at)
+// A clause list as it is written: the literals' places, clause after clause, and each clause's end, of which so many stand.
+#[derive(Drop)]
+pub struct ClauseLists<'a> {
+    literals: &'a mut [u32],
+    ends: &'a mut [u32],
+    literal_count: usize,
+    clause_count: usize,
 }
 
-// Writes the list of the term at x: the term walker. The lists of an `and` follow one another. A list of no clause is passed over:
-// shared terms are then met no more often than there are clauses.
-#[cycle(write_list_write_lists)]
-fn write_list(
-    tags: &[u8],
-    values: &[u32],
-    memo: &[u32],
-    x: TermPlace,
-    literals: &mut [u32],
-    ends: &mut [u32],
-    from: Filled,
-) -> Filled
-    requires { AskMore tags.now values.now memo.now (x.0 ∷ []) (cnf (form_at tags.now values.now x.0)) literals.old ends.old from.0 from.1 }
-    ensures { Adds (cnf (form_at tags.now values.now x.0)) literals.old ends.old from.0 from.1 literals.new ends.new result }
-{
-    let view = normal_view(tags, values, x);
-    match view {
-        NormalView::Literal => write_clauses(tags, values, memo, x, 1, literals, ends, from),
-        NormalView::Forall(_) => write_clauses(tags, values, memo, x, 1, literals, ends, from),
-        NormalView::Connective(all) => {
-            let total = count_at(memo, x);
-            if total == 0 {
-                return from;
+impl ClauseLists<'_> {
+    // Writes the clause of number k of the term at x, and its end.
+    fn push(&mut self, counted: &CountedPool<'_>, x: TermPlace, k: u32)
+        requires { AskNext counted.now x.0 k self.old }
+        ensures next { Pushed (clause_at counted.now x.0 k) self.old self.new }
+        ensures same_arrays { SameArrays self.old self.new }
+    {
+        self.literal_count = counted.write_clause(x, k, self.literals, self.literal_count);
+        self.ends[self.clause_count] = self.literal_count as u32;
+        self.clause_count += 1;
+    }
+
+    // Writes the clauses of the term at x, as many as total, one by one.
+    fn write_clauses(&mut self, counted: &CountedPool<'_>, x: TermPlace, total: u32)
+        requires ask { AskList counted.now x.0 self.old }
+        requires total { total ≡ length (list_at counted.now x.0) }
+        ensures added { Added (list_at counted.now x.0) self.old self.new }
+        ensures same_arrays { SameArrays self.old self.new }
+    {
+        for k in 0..total {
+            self.push(counted, x, k);
+        }
+    }
+
+    // Writes the list of the term at x: the term walker. The lists of an `and` follow one another. A list of no clause is passed over:
+    // shared terms are then met no more often than there are clauses.
+    #[cycle(write_list_write_lists)]
+    fn write_list(&mut self, counted: &CountedPool<'_>, x: TermPlace)
+        requires { AskList counted.now x.0 self.old }
+        ensures added { Added (list_at counted.now x.0) self.old self.new }
+        ensures same_arrays { SameArrays self.old self.new }
+    {
+        let view = normal_view(counted.pool, x);
+        match view {
+            NormalView::Literal => self.write_clauses(counted, x, 1),
+            NormalView::Forall(_) => self.write_clauses(counted, x, 1),
+            NormalView::Connective(kind) => {
+                let total = count_at(counted.memo, x);
+                if total == 0 {
+                    return;
+                }
+                match kind {
+                    ConnectiveKind::And => self.write_lists(counted, x),
+                    ConnectiveKind::Or => self.write_clauses(counted, x, total),
+                }
             }
-            if all {
-                let run = operands(tags, values, x);
-                return write_lists(tags, values, memo, x, run, literals, ends, from);
-            }
-            write_clauses(tags, values, memo, x, total, literals, ends, from)
+        }
+    }
+
+    // Writes the lists of the operands of the term at x, which stand before it: the run walker.
+    #[cycle(write_list_write_lists)]
+    fn write_lists(&mut self, counted: &CountedPool<'_>, x: TermPlace)
+        requires { AskJoined counted.now x.0 self.old }
+        ensures added { Added (joined_at counted.now x.0) self.old self.new }
+        ensures same_arrays { SameArrays self.old self.new }
+    {
+        let run = counted.pool.operands(x);
+        for u in run {
+            self.write_list(counted, TermPlace(*u));
         }
     }
 }
 
-// Writes the lists of the run's places, which stand before x: the run walker.
-#[cycle(write_list_write_lists)]
-fn write_lists(
-    tags: &[u8],
-    values: &[u32],
-    memo: &[u32],
-    x: TermPlace,
-    run: &[u32],
-    literals: &mut [u32],
-    ends: &mut [u32],
-    from: Filled,
-) -> Filled
-    requires { AskLists tags.now values.now memo.now x.0 run.now literals.old ends.old from.0 from.1 }
-    ensures { Adds (cnf_and (run_of tags.now values.now run.now)) literals.old ends.old from.0 from.1 literals.new ends.new result }
+// Writes the list of the term at x to the beginning of both arrays.
+fn write_all(counted: &CountedPool<'_>, x: TermPlace, literals: &mut [u32], ends: &mut [u32])
+    requires { AskAll counted.now x.0 literals.old ends.old }
+    ensures literals { literals.new ≡ sets literals.old 0 (literal_places (list_at counted.now x.0)) }
+    ensures ends { ends.new ≡ sets ends.old 0 (clause_ends 0 (list_at counted.now x.0)) }
 {
-    let mut next = from;
-    for u in run {
-        next = write_list(tags, values, memo, TermPlace(*u), literals, ends, next);
-    }
-    next
+    let mut lists = ClauseLists {
+        literals,
+        ends,
+        literal_count: 0,
+        clause_count: 0,
+    };
+    lists.write_list(counted, x);
 }
 
 // The refusal 32, or the two totals with the list, in arrays of zeroes.
 fn list_counted(
-    tags: &[u8],
-    values: &[u32],
+    pool: &Pool<'_>,
     x: TermPlace,
     literals: &mut [u32],
     ends: &mut [u32],
 ) -> Result<Totals, Refusal>
-    requires { ListReady tags.now literals.old ends.old }
-    ensures { ListAnswered (count_answer (cnf (form_at tags.now values.now x.0))) (cnf (form_at tags.now values.now x.0)) (length literals.old) (length ends.old) (counted result) literals.new ends.new }
+    requires { ListReady pool.now.tags.now literals.old ends.old }
+    ensures { ListAnswered (count_answer (cnf (form_at pool.now.tags.now pool.now.values.now x.0))) (cnf (form_at pool.now.tags.now pool.now.values.now x.0)) (length literals.old) (length ends.old) (counted result) literals.new ends.new }
 {
     let mut memo = [0u32; CELLS];
-    let totals = list_totals(tags, values, &mut memo, x);
+    let totals = list_totals(pool, &mut memo, x);
     if MAX_CLAUSES < totals.clauses || MAX_LITERALS < totals.literals {
         return Err(Refusal::TooManyClauses);
     }
-    write_list(tags, values, &memo, x, literals, ends, Filled(0, 0));
+    let counted = CountedPool { pool, memo: &memo };
+    write_all(&counted, x, literals, ends);
     Ok(totals)
 }
 
@@ -128,18 +133,17 @@ pub fn clear_list(literals: &mut [u32], ends: &mut [u32])
 
 // The clause list of the term at x: 13, 32, or its two totals, with the list in the arrays; refused, both arrays are zeroes.
 pub fn list_clauses(
-    tags: &[u8],
-    values: &[u32],
+    pool: &Pool<'_>,
     x: TermPlace,
     literals: &mut [u32],
     ends: &mut [u32],
 ) -> Result<Totals, Refusal>
-    requires { Lent (length tags.now) (length literals.old) (length ends.old) }
-    ensures { ListAnswered (list_answer (form_at tags.now values.now x.0)) (cnf (form_at tags.now values.now x.0)) (length literals.old) (length ends.old) (counted result) literals.new ends.new }
+    requires { Lent (length pool.now.tags.now) (length literals.old) (length ends.old) }
+    ensures { ListAnswered (list_answer (form_at pool.now.tags.now pool.now.values.now x.0)) (cnf (form_at pool.now.tags.now pool.now.values.now x.0)) (length literals.old) (length ends.old) (counted result) literals.new ends.new }
 {
     clear_list(literals, ends);
-    if empty_or(tags, values, x) {
+    if empty_or(pool, x) {
         return Err(Refusal::EmptyOr);
     }
-    list_counted(tags, values, x, literals, ends)
+    list_counted(pool, x, literals, ends)
 }

@@ -1,13 +1,16 @@
 // The totals of a clause list, cut at 8,193: more than 01 allows of clauses or literals, so that 32 is told exactly.
 // A memo keeps the totals of the places that are counted, so that each term that x reaches is counted once however terms are
 // shared. An entry is `ENTRY_BASE` times the clauses, plus the literals, plus one: 0 is a place that is not counted.
+// An `Option` would take three times the room, and each step of rule 3 clears it.
 ghost use Rattle.std.specs.Prelude.{◌+◌, ◌*◌, ◌≤◌, ◌<◌, min, ◌≡◌, get_or};
+ghost use Rattle.formulas.specs.Formula.{is_and};
 ghost use Rattle.formulas.specs.Totals.{one_literal, combine, cap, start_of};
 ghost use Rattle.clauses.specs.ClauseWalk.{as_totals, clauses_at, memo_at, run_totals, AllCounted, Memo, TotalsNoted, TermCounted, AskOperands, OperandsCounted};
 
+use formulas::kinds::ConnectiveKind;
 use formulas::view::{NormalView, normal_view};
-use pool::TermPlace;
-use pool::run::{cell, operands};
+use pool::run::cell;
+use pool::{Pool, TermPlace};
 
 // A total is at most 8,193: one up, it is still below the base.
 const ENTRY_BASE: u32 = 16384;
@@ -44,18 +47,16 @@ fn capped_product(a: u32, b: u32) -> u32
     capped(wide_product(a, b))
 }
 
-// The totals of no clause for an `and` (`all`), of the empty clause for an `or`.
-fn start(all: bool) -> Totals
-    ensures { as_totals result ≡ cap 8193 (start_of all) }
+// The totals of no clause for an `and`, of the empty clause for an `or`.
+fn start(kind: ConnectiveKind) -> Totals
+    ensures { as_totals result ≡ cap 8193 (start_of (is_and kind)) }
 {
-    if all {
-        return Totals {
-            clauses: 0,
-            literals: 0,
-        };
-    }
+    let clauses = match kind {
+        ConnectiveKind::And => 0,
+        ConnectiveKind::Or => 1,
+    };
     Totals {
-        clauses: 1,
+        clauses,
         literals: 0,
     }
 }
@@ -71,21 +72,21 @@ fn one_literal() -> Totals
 }
 
 // The totals of two lists under an `and`, which joins them, or an `or`, which takes their product.
-fn combine(all: bool, t: Totals, u: Totals) -> Totals
-    ensures { as_totals result ≡ cap 8193 (combine all (as_totals t) (as_totals u)) }
+fn combine(kind: ConnectiveKind, t: Totals, u: Totals) -> Totals
+    ensures { as_totals result ≡ cap 8193 (combine (is_and kind) (as_totals t) (as_totals u)) }
 {
-    if all {
-        return Totals {
+    match kind {
+        ConnectiveKind::And => Totals {
             clauses: capped_sum(t.clauses, u.clauses),
             literals: capped_sum(t.literals, u.literals),
-        };
-    }
-    Totals {
-        clauses: capped_product(t.clauses, u.clauses),
-        literals: capped_sum(
-            capped_product(t.literals, u.clauses),
-            capped_product(u.literals, t.clauses),
-        ),
+        },
+        ConnectiveKind::Or => Totals {
+            clauses: capped_product(t.clauses, u.clauses),
+            literals: capped_sum(
+                capped_product(t.literals, u.clauses),
+                capped_product(u.literals, t.clauses),
+            ),
+        },
     }
 }
 
@@ -121,30 +122,30 @@ fn note(memo: &mut [u32], x: TermPlace, t: Totals) -> Totals
 }
 
 // The totals of a run whose places are counted, from the last operand to the first.
-fn run_totals(all: bool, memo: &[u32], run: &[u32]) -> Totals
+fn run_totals(kind: ConnectiveKind, memo: &[u32], run: &[u32]) -> Totals
     requires { AllCounted memo.now run.now }
-    ensures { as_totals result ≡ run_totals all (memo_at memo.now) run.now }
+    ensures { as_totals result ≡ run_totals (is_and kind) (memo_at memo.now) run.now }
 {
-    let mut sum = start(all);
+    let mut sum = start(kind);
     for u in run.iter().rev() {
-        sum = combine(all, noted(memo, TermPlace(*u)), sum);
+        sum = combine(kind, noted(memo, TermPlace(*u)), sum);
     }
     sum
 }
 
 // The totals of the clause list of the term at x, which is then counted: the term walker.
 #[cycle(count_operands_list_totals)]
-pub fn list_totals(tags: &[u8], values: &[u32], memo: &mut [u32], x: TermPlace) -> Totals
-    requires { Memo tags.now values.now memo.old }
-    ensures { TermCounted tags.now values.now x.0 memo.old memo.new result }
+pub fn list_totals(pool: &Pool<'_>, memo: &mut [u32], x: TermPlace) -> Totals
+    requires { Memo pool.now.tags.now pool.now.values.now memo.old }
+    ensures { TermCounted pool.now.tags.now pool.now.values.now x.0 memo.old memo.new result }
 {
-    let view = normal_view(tags, values, x);
+    let view = normal_view(pool, x);
     match view {
         NormalView::Literal => note(memo, x, one_literal()),
         NormalView::Forall(_) => note(memo, x, one_literal()),
-        NormalView::Connective(all) => {
-            count_operands(tags, values, memo, x);
-            let t = run_totals(all, memo, operands(tags, values, x));
+        NormalView::Connective(kind) => {
+            count_operands(pool, memo, x);
+            let t = run_totals(kind, memo, pool.operands(x));
             note(memo, x, t)
         }
     }
@@ -152,14 +153,14 @@ pub fn list_totals(tags: &[u8], values: &[u32], memo: &mut [u32], x: TermPlace) 
 
 // Counts the operands of the term at x that are not counted: the run walker.
 #[cycle(count_operands_list_totals)]
-fn count_operands(tags: &[u8], values: &[u32], memo: &mut [u32], x: TermPlace)
-    requires { AskOperands tags.now values.now memo.old x.0 }
-    ensures { OperandsCounted tags.now values.now x.0 memo.old memo.new }
+fn count_operands(pool: &Pool<'_>, memo: &mut [u32], x: TermPlace)
+    requires { AskOperands pool.now.tags.now pool.now.values.now memo.old x.0 }
+    ensures { OperandsCounted pool.now.tags.now pool.now.values.now x.0 memo.old memo.new }
 {
-    for u in operands(tags, values, x) {
+    for u in pool.operands(x) {
         if cell(memo, *u as usize) != 0 {
             continue;
         }
-        list_totals(tags, values, memo, TermPlace(*u));
+        list_totals(pool, memo, TermPlace(*u));
     }
 }

@@ -5,7 +5,7 @@
 -- Assumes nothing.
 use Prim.Native.Nat.{ℕ, zero, suc, ◌<◌}
 use mathlib.Core.Path.{◌≡◌, refl, sym, ap, ◌∙◌}
-use mathlib.Core.Bool.{Bool, true, false, cond}
+use mathlib.Core.Bool.{true, false, cond}
 use mathlib.Core.List.{List, [], ◌∷◌}
 use lib.ListN.{length, get_or, drop, replicate, get_or-eq_default}
 use lib.Dec.{ltb, leb, eqb}
@@ -14,17 +14,18 @@ use borrow.Author.Tests.{ltb-true, leb-true, leb-false, lt-ltb}
 use Rattle.cells.specs.declared.TermPlace.{TermPlace}
 use Rattle.cells.specs.Cell.{operands_of}
 use Rattle.cells.specs.ByPlace.{by-test, by_place-is}
+use Rattle.formulas.specs.declared.kinds.ConnectiveKind.{ConnectiveKind}
 use Rattle.formulas.specs.declared.view.NormalView.{NormalView}
 use Rattle.formulas.specs.declared.view.NormalView.TheVariants.{Literal, Connective, Forall}
-use Rattle.formulas.specs.Formula.{all_before}
+use Rattle.formulas.specs.Formula.{is_and, all_before}
 use Rattle.formulas.specs.Normal.{Normal, lit, nmany, nall}
 use Rattle.formulas.specs.Built.{normal_view, normals_of, normal_by, normal_at, form_at}
 
 -- ---- a view is one of three
-pub no-literal : (b : Bool) → Connective b ≡ Literal → ⊥
+pub no-literal : (b : ConnectiveKind) → Connective b ≡ Literal → ⊥
 no-literal b e = let z : ◌≡◌ {A = ℕ} 0 1 = cc in omega arith
 
-pub no-forall : (b : Bool) (body : TermPlace) → Connective b ≡ Forall body → ⊥
+pub no-forall : (b : ConnectiveKind) (body : TermPlace) → Connective b ≡ Forall body → ⊥
 no-forall b body e = let z : ◌≡◌ {A = ℕ} 0 1 = cc in omega arith
 
 false-true : false ≡ true → ⊥
@@ -65,7 +66,7 @@ module _ (tags values : List ℕ) (x : ℕ) where
   form-is = by_place-is (λ y rec. normal_by (normal_view tags values y) y (operands_of tags values y) rec) (lit true 0) x
 
   -- how a connective is read: by a tag that is not 23, with all operands before it
-  module _ (b : Bool) (e : Connective b ≡ normal_view tags values x) where
+  module _ (b : ConnectiveKind) (e : Connective b ≡ normal_view tags values x) where
     no-binder : eqb (get_or tags x 0) 23 ≡ false
     unfolding normal_view
     no-binder =
@@ -93,13 +94,13 @@ module _ (tags values : List ℕ) (x : ℕ) where
     unfolding normal_by
     read-forall body e = rw (form-is, ← is, e)
 
-    module _ (b : Bool) (e : v ≡ Connective b) where
+    module _ (b : ConnectiveKind) (e : v ≡ Connective b) where
       pub run-before : all_before x (operands_of tags values x) ≡ true
       run-before = all-before b (sym e ∙ is)
 
-      pub read-connective : form_at tags values x ≡ nmany b (normals_of (form_at tags values) (operands_of tags values x))
+      pub read-connective : form_at tags values x ≡ nmany (is_and b) (normals_of (form_at tags values) (operands_of tags values x))
       unfolding normal_by
-      read-connective = rw (form-is, ← is, e) (ap (nmany b) (normals-below _ _ x _ run-before))
+      read-connective = rw (form-is, ← is, e) (ap (nmany (is_and b)) (normals-below _ _ x _ run-before))
 
       pub connective-within : x < length tags
       connective-within =

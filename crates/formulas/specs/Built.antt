@@ -1,15 +1,17 @@
 -- Putting terms into a pool, and what the calls that build leave in it.
 -- 01, "Normal form and clauses": "New terms go after the count in the order of the finished term, operands first and left to right, each
 -- once." A pool here is its used cells alone: two lists of one length.
--- Rests on cells' ByPlace, Cell and Place, on descriptions' Description, and on Formula, Normal and the enum `NormalView`.
+-- Rests on cells' ByPlace, Cell and Place, on descriptions' Description, and on Formula, Normal and the enums `NormalView` and
+-- `ConnectiveKind`.
 use Rattle.std.specs.Prelude.{ℕ, Bool, true, false, cond, List, [], ◌∷◌, ◌++◌, length, get_or, drop, replicate, eqb, ltb, Option, Some, None}
 use Rattle.cells.specs.Cell.{operands_of}
 use Rattle.cells.specs.ByPlace.{by_place}
 use Rattle.cells.specs.Place.{term_at}
 use Rattle.descriptions.specs.Description.{find}
+use Rattle.formulas.specs.declared.kinds.ConnectiveKind.TheVariants.{And, Or}
 use Rattle.formulas.specs.declared.view.NormalView.{NormalView}
 use Rattle.formulas.specs.declared.view.NormalView.TheVariants.{Literal, Connective, Forall}
-use Rattle.formulas.specs.Formula.{connective_tag, quantifier_tag, form, all_before}
+use Rattle.formulas.specs.Formula.{is_and, connective_tag, quantifier_tag, form, all_before}
 use Rattle.formulas.specs.Normal.{Normal, Normals, lit, nmany, nall, nnil, ncons, nnf, prenex}
 
 pub record Pool : Type 0 where
@@ -65,7 +67,7 @@ normal_view tags values x =
     cond (eqb (get_or tags x 0) 23)
     (cond (ltb (get_or (operands_of tags values x) 0 0) x) (Forall (term_at (get_or (operands_of tags values x) 0 0))) Literal)
     (cond (all_before x (operands_of tags values x))
-    (cond (eqb (get_or tags x 0) 36) (Connective true) (cond (eqb (get_or tags x 0) 37) (Connective false) Literal))
+    (cond (eqb (get_or tags x 0) 36) (Connective And) (cond (eqb (get_or tags x 0) 37) (Connective Or) Literal))
     Literal)
 
 abbrev pub normals_of : (ℕ → Normal (List ℕ) ℕ) → List ℕ → Normals (List ℕ) ℕ
@@ -74,7 +76,7 @@ normals_of f (u ∷ us) = ncons (f u) (normals_of f us)
 
 unfoldable pub normal_by : NormalView → ℕ → List ℕ → (ℕ → Normal (List ℕ) ℕ) → Normal (List ℕ) ℕ
 normal_by Literal x run rec = lit true x
-normal_by (Connective b) x run rec = nmany b (normals_of rec run)
+normal_by (Connective b) x run rec = nmany (is_and b) (normals_of rec run)
 normal_by (Forall body) x run rec = nall true (drop 1 run) (rec body.0)
 
 unfoldable pub normal_at : Pool → ℕ → Normal (List ℕ) ℕ

@@ -1,9 +1,10 @@
 -- What the answers of `matching` say: each one's value as the pattern that it stands for.
--- Rests on cells' Cell and the struct `TermPlace`, on bindings' Binding, on Pattern, and on the struct `Quantified`.
+-- Rests on cells' Cell and the struct `TermPlace`, on bindings' Binding, on Formula, Pattern, and on the struct `Quantified`.
 use Rattle.std.specs.Prelude.{ℕ, Bool, cond, List, length, drop, eqb, Option, Some, None}
 use Rattle.std.proofs.Common.{Bor}
 use Rattle.cells.specs.Cell.{operands_of}
 use Rattle.bindings.specs.Binding.{Binding}
+use Rattle.formulas.specs.Formula.{is_forall}
 use Rattle.formulas.specs.Pattern.{Quantifier}
 use Rattle.cells.specs.declared.TermPlace.{TermPlace}
 use Rattle.formulas.specs.declared.matching.Quantified.{Quantified}
@@ -16,7 +17,7 @@ abbrev pub with_list : Bool → List Binding → ℕ → Quantifier
 with_list kind list body = record { kind = kind; list = list; body = body }
 
 unfoldable pub quantifier_in : List Binding → Option Quantified → Option Quantifier
-quantifier_in list (Some q) = Some (with_list q.kind list q.body.0)
+quantifier_in list (Some q) = Some (with_list (is_forall q.kind) list q.body.0)
 quantifier_in list None = None
 
 -- operands, if there are so many

@@ -1,57 +1,31 @@
 // How a term is read: as a connective, a quantifier, or as opaque.
 ghost use Rattle.std.specs.Prelude.{◌≡◌};
-ghost use Rattle.formulas.specs.Formula.{connective_tag, quantifier_tag, all_before, equality, connective, quantifier, view_of};
+ghost use Rattle.formulas.specs.Formula.{all_before, equality, connective, quantifier, view_of};
 ghost use Rattle.formulas.specs.Built.{normal_view};
 
-use pool::TermPlace;
-use pool::run::{cell, operands, sort_of};
-use pool::tags::{AND, EQUALS, EXISTS, FORALL, IMPLIES, ITE, NOT, OR, TRUE, tag_at};
+use crate::kinds::{ConnectiveKind, QuantifierKind};
+use pool::run::cell;
+use pool::tags::{AND, EQUALS, EXISTS, FORALL, IMPLIES, ITE, NOT, OR, TRUE};
+use pool::{Pool, TermPlace};
 
-// A term of a formula: `and` (true) or `or`, forall (true) or exists. Its operands stand before it.
+// A term of a formula. Its operands stand before it.
 #[derive(Clone, Copy)]
 pub enum View {
     Opaque,
     Not(TermPlace),
-    AndOr(bool),
+    AndOr(ConnectiveKind),
     Implies(TermPlace, TermPlace),
     Ite(TermPlace, TermPlace, TermPlace),
     Iff(TermPlace, TermPlace),
-    Quantifier(bool, TermPlace),
+    Quantifier(QuantifierKind, TermPlace),
 }
 
 // A term in negation normal form, as the taken-out form and the clauses read it.
 #[derive(Clone, Copy)]
 pub enum NormalView {
     Literal,
-    Connective(bool),
+    Connective(ConnectiveKind),
     Forall(TermPlace),
-}
-
-// The tag of `and` (true) or `or`.
-pub fn connective_tag(b: bool) -> u8
-    ensures { result ≡ connective_tag b }
-{
-    if b {
-        return AND;
-    }
-    OR
-}
-
-// The tag of forall (true) or exists.
-pub fn quantifier_tag(b: bool) -> u8
-    ensures { result ≡ quantifier_tag b }
-{
-    if b {
-        return FORALL;
-    }
-    EXISTS
-}
-
-// The tag of forall (true) or exists as a refusal carries it.
-pub fn carried_tag(b: bool) -> u32
-    ensures { result ≡ quantifier_tag b }
-{
-    quantifier_tag(b) as u32
 }
 
 // Whether every operand of the run stands before t.
@@ -62,14 +36,14 @@ fn all_before(t: TermPlace, os: &[u32]) -> bool
 }
 
 // The `=` of two operands whose left has sort Bool.
-fn equality(values: &[u32], os: &[u32]) -> View
-    ensures { result ≡ equality values.now os.now }
+fn equality(pool: &Pool<'_>, os: &[u32]) -> View
+    ensures { result ≡ equality pool.now.values.now os.now }
 {
     if os.len() != 2 {
         return View::Opaque;
     }
     let left = TermPlace(os[0]);
-    let sort = sort_of(values, left);
+    let sort = pool.sort_of(left);
     if sort.0 != 0 {
         return View::Opaque;
     }
@@ -77,17 +51,17 @@ fn equality(values: &[u32], os: &[u32]) -> View
 }
 
 // An operator's term, by its tag and its operands.
-fn connective(values: &[u32], tag: u8, os: &[u32]) -> View
-    ensures { result ≡ connective values.now tag os.now }
+fn connective(pool: &Pool<'_>, tag: u8, os: &[u32]) -> View
+    ensures { result ≡ connective pool.now.values.now tag os.now }
 {
     if tag == AND {
-        return View::AndOr(true);
+        return View::AndOr(ConnectiveKind::And);
     }
     if tag == OR {
-        return View::AndOr(false);
+        return View::AndOr(ConnectiveKind::Or);
     }
     if tag == EQUALS {
-        return equality(values, os);
+        return equality(pool, os);
     }
     if tag == NOT {
         if os.len() != 1 {
@@ -115,19 +89,19 @@ fn quantifier(tag: u8, body: TermPlace) -> View
     ensures { result ≡ quantifier tag body.0 }
 {
     match tag {
-        FORALL => View::Quantifier(true, body),
-        EXISTS => View::Quantifier(false, body),
+        FORALL => View::Quantifier(QuantifierKind::Forall, body),
+        EXISTS => View::Quantifier(QuantifierKind::Exists, body),
         _ => View::Opaque,
     }
 }
 
 // How the term at t is read.
-pub fn view_of(tags: &[u8], values: &[u32], t: TermPlace) -> View
-    ensures { result ≡ view_of tags.now values.now t.0 }
+pub fn view_of(pool: &Pool<'_>, t: TermPlace) -> View
+    ensures { result ≡ view_of pool.now.tags.now pool.now.values.now t.0 }
 {
     let at = t.0 as usize;
-    let tag = tag_at(tags, at);
-    let run = operands(tags, values, t);
+    let tag = pool.tag_at(at);
+    let run = pool.operands(t);
     if tag < TRUE {
         let body = TermPlace(cell(run, 0));
         if t.0 <= body.0 {
@@ -138,16 +112,16 @@ pub fn view_of(tags: &[u8], values: &[u32], t: TermPlace) -> View
     if !all_before(t, run) {
         return View::Opaque;
     }
-    connective(values, tag, run)
+    connective(pool, tag, run)
 }
 
 // How the term in normal form at x is read.
-pub fn normal_view(tags: &[u8], values: &[u32], x: TermPlace) -> NormalView
-    ensures { result ≡ normal_view tags.now values.now x.0 }
+pub fn normal_view(pool: &Pool<'_>, x: TermPlace) -> NormalView
+    ensures { result ≡ normal_view pool.now.tags.now pool.now.values.now x.0 }
 {
     let at = x.0 as usize;
-    let tag = tag_at(tags, at);
-    let run = operands(tags, values, x);
+    let tag = pool.tag_at(at);
+    let run = pool.operands(x);
     if tag == FORALL {
         let body = TermPlace(cell(run, 0));
         if x.0 <= body.0 {
@@ -159,10 +133,10 @@ pub fn normal_view(tags: &[u8], values: &[u32], x: TermPlace) -> NormalView
         return NormalView::Literal;
     }
     if tag == AND {
-        return NormalView::Connective(true);
+        return NormalView::Connective(ConnectiveKind::And);
     }
     if tag == OR {
-        return NormalView::Connective(false);
+        return NormalView::Connective(ConnectiveKind::Or);
     }
     NormalView::Literal
 }

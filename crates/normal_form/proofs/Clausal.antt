@@ -100,9 +100,6 @@ module _ (tags values : List ℕ) (n t : ℕ) where
           let s = normal-holds.state in
           record { size = s.size; within = s.within; small = s.small; fills = s.fills; source = omega arith }
 
-      pub normal-below : x.0 < m
-      normal-below = normal-holds.below
-
       clausal-is : taken_out_form (pool_of tags₁ values₁ m) x.0 ≡ clausal_in tags values n t
       clausal-is = ap₂ taken_out_form normal-holds.pool-is normal-holds.place_is
 
@@ -138,5 +135,3 @@ module _ (tags values : List ℕ) (n t : ℕ) where
             },
             rw size at full,
           )
-
-pub ruleset clausals = (clausal-full, clausal-then)

@@ -23,9 +23,11 @@ use Rattle.meaning.proofs.trees.Walk.{place-described}
 use Rattle.meaning.proofs.trees.Tags.{shape-op, by-term-tag}
 use Rattle.meaning.proofs.trees.Parts.{from_one, from-two}
 use Rattle.meaning.proofs.trees.Terms.{term_is, term-op, even-rest}
+use Rattle.formulas.specs.declared.kinds.ConnectiveKind.{ConnectiveKind}
+use Rattle.formulas.specs.declared.kinds.ConnectiveKind.TheVariants.{And, Or}
 use Rattle.formulas.specs.declared.view.NormalView.{NormalView}
 use Rattle.formulas.specs.declared.view.NormalView.TheVariants.{Literal, Connective, Forall}
-use Rattle.formulas.specs.Formula.{all_before}
+use Rattle.formulas.specs.Formula.{is_and, all_before}
 use Rattle.formulas.specs.Normal.{Normal, Normals, lit, nmany, nall, nnil, ncons, prenex, prenexes}
 use Rattle.formulas.specs.Built.{Pool, count, normal_view, normals_of, normal_by, normal_at}
 use Rattle.meaning.proofs.places.Operands.{IsTerm, AllTerms, all-terms, all-before}
@@ -71,9 +73,9 @@ module _ (q : Pool) (t : ℕ) (here : IsTerm q.tags (count q) t) (rec : ℕ → 
   still-literal os true x is = literal-reads os x is
   still-literal os false x is = literal-reads os x is
 
-  connective-reads : (b : Bool) (os : List ℕ) → AllTerms q.tags t os → Reads os (Connective b) (nmany b (read_terms (terms_of (term_in q) os)))
+  connective-reads : (b : ConnectiveKind) (os : List ℕ) → AllTerms q.tags t os → Reads os (Connective b) (nmany (is_and b) (read_terms (terms_of (term_in q) os)))
   unfolding normal_by
-  connective-reads b os a = let r = operands-read os a in record { is = ap (nmany b) r.are; fits = r.fit }
+  connective-reads b os a = let r = operands-read os a in record { is = ap (nmany (is_and b)) r.are; fits = r.fit }
 
   -- ---- by the tag k and the cells
   abbrev run : ℕ → List ℕ → List ℕ
@@ -83,7 +85,7 @@ module _ (q : Pool) (t : ℕ) (here : IsTerm q.tags (count q) t) (rec : ℕ → 
   view k cells =
       cond (eqb k 23)
       (cond (ltb (get_or (run k cells) 0 0) t) (Forall (term_at (get_or (run k cells) 0 0))) Literal)
-      (cond (all_before t (run k cells)) (cond (eqb k 36) (Connective true) (cond (eqb k 37) (Connective false) Literal)) Literal)
+      (cond (all_before t (run k cells)) (cond (eqb k 36) (Connective And) (cond (eqb k 37) (Connective Or) Literal)) Literal)
 
   abbrev made : ℕ → List ℕ → Term
   made k cells = term_from k cells (sort_tree q.tags q.values) (term_in q)
@@ -99,8 +101,8 @@ module _ (q : Pool) (t : ℕ) (here : IsTerm q.tags (count q) t) (rec : ℕ → 
       let a : AllTerms q.tags t os = all-terms q.tags t 1 os (omega arith) f.1 in
       let made-is = term-op (sort_tree q.tags q.values) (term_in q) k (s ∷ os) l m in
       rw (le-ltb k 22 (omega arith), ne_eqb k 23 (λ z. omega arith), all-before q.tags t os a, made-is)
-      (either os (eqb k 36) (Connective true) _ _ _ (connective-reads true os a)
-      (either os (eqb k 37) (Connective false) Literal _ _ (connective-reads false os a) (literal-reads os _ (is ∙ made-is)))))
+      (either os (eqb k 36) (Connective And) _ _ _ (connective-reads And os a)
+      (either os (eqb k 37) (Connective Or) Literal _ _ (connective-reads Or os a) (literal-reads os _ (is ∙ made-is)))))
       cells (leb-true 1 (length cells) (rw (shape-op k l m) at c)) is (rw (shape-op k l m) at f)
 
   forall-reads : (s body : ℕ) (cs : List ℕ) → length (s ∷ (body ∷ cs)) % 2 ≡ 0 → Right 23 (s ∷ (body ∷ cs))

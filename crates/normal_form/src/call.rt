@@ -1,4 +1,5 @@
 // The public calls, under the table of sort rules in use: the normal form of a term, and the clause list of a term.
+// Kept: the two arrays of a pool come one by one in a call that users make, as document 01 lends them.
 ghost use Rattle.cells.specs.Limits.{cell_limit};
 ghost use Rattle.std.specs.Prelude.{◌≤◌, ◌≡◌};
 ghost use Rattle.answers.specs.Refusal.{answer_to};
@@ -13,9 +14,9 @@ use clauses::clause_list::{clear_list, list_clauses};
 use clauses::totals::Totals;
 use pool::checks::index_term;
 use pool::description::cut_back;
-use pool::index::INDEX;
+use pool::index::{INDEX, IndexedPool};
 use pool::limits::{CLAUSE_ENDS, LITERALS};
-use pool::{Answer, Refusal, TermPlace};
+use pool::{Answer, Pool, Refusal, TermPlace};
 
 // The normal form of the term at t at a polarity: accepted, its place and the new count. What stands there has the term's value at true
 // polarity, and the negated value at false.
@@ -30,7 +31,7 @@ pub fn normal_form(
     ensures { NormalFormPromise tags.old values.old table.now n t.0 polarity result tags.new values.new }
 {
     let mut index = [0u32; INDEX];
-    if let Err(refusal) = index_term(tags, values, table, n, t, &mut index) {
+    if let Err(refusal) = index_term(&Pool { tags, values }, table, n, t, &mut index) {
         if refusal.is_bad_arrays() {
             return Answer::from(refusal);
         }
@@ -38,7 +39,15 @@ pub fn normal_form(
         return Answer::from(refusal);
     }
     let mut work = [0u32; WORK];
-    let Some((p, m)) = build_normal_form(tags, values, &mut work, &mut index, n, t, polarity) else {
+    let mut pool = IndexedPool {
+        tags,
+        values,
+        index: &mut index,
+        count: n,
+    };
+    let built = build_normal_form(&mut pool, &mut work, t, polarity);
+    let m = pool.count;
+    let Some(p) = built else {
         cut_back(tags, values, n);
         return Answer::from(Refusal::NoRoom);
     };
@@ -64,8 +73,14 @@ fn clausal_of(
     ensures { ClausalBuilt tags.old values.old table.now n t.0 result tags.new values.new }
 {
     let mut index = [0u32; INDEX];
-    index_term(tags, values, table, n, t, &mut index)?;
-    let forms = build_forms(tags, values, &mut index, n, t).ok_or(Refusal::NoRoom)?;
+    index_term(&Pool { tags, values }, table, n, t, &mut index)?;
+    let mut pool = IndexedPool {
+        tags,
+        values,
+        index: &mut index,
+        count: n,
+    };
+    let forms = build_forms(&mut pool, t).ok_or(Refusal::NoRoom)?;
     Ok((forms.taken_out, forms.count))
 }
 
@@ -130,7 +145,15 @@ pub fn clause_list(
             refused(refusal)
         }
         Ok((x, m)) => {
-            let listed = list_clauses(&tags[..m], &values[..m], x, literals, ends);
+            let listed = list_clauses(
+                &Pool {
+                    tags: &tags[..m],
+                    values: &values[..m],
+                },
+                x,
+                literals,
+                ends,
+            );
             keep_listed(tags, values, n, m, listed)
         }
     }

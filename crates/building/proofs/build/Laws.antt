@@ -11,11 +11,10 @@ use lib.Dec.{leb, ltb}
 use native.Mathlib.Omega.{arith}
 use borrow.Author.Tests.{le-ltb, le-leb, leb-true, ltb-false}
 use Rattle.cells.specs.Place.{term_at}
+use Rattle.cells.specs.declared.TermPlace.{TermPlace}
 use Rattle.cells.specs.ByPlace.{by-test}
 use Rattle.cells.specs.Cell.{is_at}
 use Rattle.descriptions.specs.Description.{find, is_full, append, found_or, adding, Added-is}
-use Rattle.descriptions.specs.declared.description.Added.{Added}
-use Rattle.descriptions.specs.declared.description.Added.TheVariants.{There, New, Full as NoRoom}
 use Rattle.cells.proofs.Walks.{first-end, first_below}
 use Rattle.descriptions.proofs.description.Fills.{Fills, filled, or_else, fills-grown}
 use Rattle.descriptions.proofs.description.Growth.{Same, find-grown, new-grown}
@@ -124,11 +123,11 @@ module _ (n : ℕ) (tags values : List ℕ) (s : State n n tags values) (tag : �
   o = put (pool_of tags values n) tag cells
 
   -- what adding comes to: the description stands; or there is no room; or it is written after n
-  data Case : Added → List ℕ → List ℕ → Type 0 where
-    stood : {p : ℕ} → find tags values n tag cells ≡ Some p → Case (There p) tags values
-    refused : find tags values n tag cells ≡ None → is_full tags values 8192 n (length cells) ≡ true → Case NoRoom tags values
+  data Case : Option ℕ → ℕ → List ℕ → List ℕ → Type 0 where
+    stood : {p : ℕ} → find tags values n tag cells ≡ Some p → Case (Some p) n tags values
+    refused : find tags values n tag cells ≡ None → is_full tags values 8192 n (length cells) ≡ true → Case None n tags values
     written : find tags values n tag cells ≡ None → is_full tags values 8192 n (length cells) ≡ false
-        → Case (New n (n + 1 + length cells)) (sets tags n (tag ∷ replicate (length cells) 0)) (sets values n (length cells ∷ cells))
+        → Case (Some n) (n + 1 + length cells) (sets tags n (tag ∷ replicate (length cells) 0)) (sets values n (length cells ∷ cells))
 
   module _ (f : Option ℕ) (e : find tags values n tag cells ≡ f) where
     put_is : o ≡ place_at (pool_of tags values n) tag cells f
@@ -187,42 +186,32 @@ module _ (n : ℕ) (tags values : List ℕ) (s : State n n tags values) (tag : �
         };
       }
 
-  module _ (a : Added) (tags' values' : List ℕ) (i : Added-is tags values 8192 n tag cells a tags' values') where
-    case : Case a tags' values'
+  -- the place and the count, as a call answers them
+  abbrev answer : Option ℕ → ℕ → Option (TermPlace × ℕ)
+  answer (Some p) m = Some ((term_at p), m)
+  answer None m = None
+
+  module _ (r : Option ℕ) (m : ℕ) (tags' values' : List ℕ) (i : Added-is tags values 8192 n tag cells r m tags' values') where
+    case : Case r m tags' values'
     unfolding adding found_or append
     case =
-        rw (i.answer, i.tags-are, i.values-are)
+        rw (i.place, i.count, i.tags-are, i.values-are)
         (by-found (find tags values n tag cells) (λ p e. rw e (stood e))
         (λ e. by-test (is_full tags values 8192 n (length cells)) (λ b. rw (e, b) (refused e b)) (λ b. rw (e, b) (written e b))))
 
-    pub put-there : (p : ℕ) → a ≡ There p → Puts n tags values o (Some ((term_at p), n)) tags' values'
-    put-there p e = go (rw e at case)
+    puts-answer : Puts n tags values o (answer r m) tags' values'
+    puts-answer = go case (λ p e h. (new-grown tags values 8192 n tag cells r m tags' values' i s.fills p e h).fills)
       where
-        go : {t v : List ℕ} → Case (There p) t v → Puts n tags values o (Some ((term_at p), n)) t v
-        go (stood e) = puts-stood p e
+        go : {a : Option ℕ} {b : ℕ} {t v : List ℕ} → Case a b t v → ((p : ℕ) → a ≡ Some p → n < b → Fills v b 0) → Puts n tags values o (answer a b) t v
+        go (stood e) f = puts-stood _ e
+        go (refused e y) f = puts-refused e y
+        go (written e y) f = puts-written _ _ e y refl refl (f n refl (omega arith))
 
-    pub put-there-small : (p : ℕ) → a ≡ There p → p < n
-    put-there-small p e = go (rw e at case)
-      where
-        go : {t v : List ℕ} → Case (There p) t v → p < n
-        go (stood e) = (puts-stood p e).outcome.below
+    pub put_at : (p : ℕ) → r ≡ Some p → Puts n tags values o (Some ((term_at p), m)) tags' values'
+    put_at p e = rw e at puts-answer
 
-    pub put_full : a ≡ NoRoom → Puts n tags values o None tags' values'
-    put_full e = go (rw e at case)
-      where
-        go : {t v : List ℕ} → Case NoRoom t v → Puts n tags values o None t v
-        go (refused e y) = puts-refused e y
+    pub put-small : (p : ℕ) → r ≡ Some p → p < 8192
+    put-small p e = let h = (put_at p e).outcome in omega (arith, h.below, h.state.small)
 
-    pub put-new-small : (p m : ℕ) → a ≡ New p m → p ≡ n
-    put-new-small p m e = go (rw e at case)
-      where
-        go : {x y : ℕ} {t v : List ℕ} → Case (New x y) t v → x ≡ n
-        go (written e y) = refl
-
-    pub put-new : (p m : ℕ) → a ≡ New p m → Puts n tags values o (Some ((term_at p), m)) tags' values'
-    put-new p m e = go (rw e at case) (new-grown tags values 8192 n tag cells a tags' values' i s.fills p m e).fills
-      where
-        go : {x y : ℕ} {t v : List ℕ} → Case (New x y) t v → Fills v y 0 → Puts n tags values o (Some ((term_at x), y)) t v
-        go (written e y) f = puts-written _ _ e y refl refl f
-
-pub ruleset puttings = (put-there, put_full, put-new)
+    pub put_full : r ≡ None → Puts n tags values o None tags' values'
+    put_full e = rw e at puts-answer

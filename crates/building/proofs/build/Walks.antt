@@ -17,13 +17,16 @@ use Rattle.formulas.specs.Normal.{Normal, Normals, nmany}
 use Rattle.formulas.specs.Built.{Pool, Placed, PlacedAll, count, put, intern, interns, normals_of}
 use Rattle.formulas.specs.Formula.{connective_tag}
 use Rattle.building.specs.Arrays.{pool_of}
-use Rattle.building.specs.Walk.{State, Left, Holds, Puts, Builds, memo_of, MemoEmpty, MemoKept, slot_of, places_in, Walk, normal, taken_out, form_of, run_of, entry_form, Formed, Known, operand_forms, OperandsKnown, Before, NormalBuilt, WalkReady}
+use Rattle.building.specs.Walk.{State, Left, Holds, Puts, Builds, memo_of, MemoEmpty, MemoKept, slot_of, places_in, FormKind, normal, taken_out, form_of, run_of, entry_form, Formed, Known, operand_forms, OperandsKnown, Before, NormalBuilt, WalkReady}
+use Rattle.descriptions.specs.IndexedPool.{HasIndex, SameArrays}
+use Rattle.descriptions.specs.declared.index.IndexedPool.{IndexedPool}
+use Rattle.building.specs.Lent.{counted, no_place, Ready, FormedIn, KnownIn, OperandsIn, run_in}
 use Rattle.building.proofs.Interning.{becomes-longer, interns-becomes, put-becomes, put-goes-on}
 use Rattle.building.proofs.build.Laws.{fits-true, pool-count, pool-good}
 use Rattle.building.proofs.build.Building.{memo-read, memo-here, left-refl, builds-put, builds-stood, builds-full, builds-holds, builds-noted, builds-then, builds-kept}
 
 -- ---- the memo's entries
-slot-entry : (w : Walk) (end : ℕ) (tags values : List ℕ) (t : ℕ) (polarity : Bool) → t < 8192
+slot-entry : (w : FormKind) (end : ℕ) (tags values : List ℕ) (t : ℕ) (polarity : Bool) → t < 8192
     → entry_form w end tags values (slot_of t polarity) ≡ form_of w end tags values t polarity
 unfolding entry_form slot_of
 slot-entry w end tags values t true h = rw (lt-ltb t 8192 h)
@@ -34,7 +37,7 @@ unfolding slot_of
 slot_small t true h = omega arith
 slot_small t false h = omega arith
 
-module _ (w : Walk) (end n : ℕ) (tags values work : List ℕ) (ready : WalkReady w end n tags values work) (t : ℕ) where
+module _ (w : FormKind) (end n : ℕ) (tags values work : List ℕ) (ready : WalkReady w end n tags values work) (t : ℕ) where
   place-within : t < end → t < 8192
   place-within h = omega (arith, ready.state.source, ready.state.small)
 
@@ -43,12 +46,12 @@ module _ (w : Walk) (end n : ℕ) (tags values work : List ℕ) (ready : WalkRea
 
 -- ---- the source cells stay as they are
 module _ (end : ℕ) (tags values tags₁ values₁ : List ℕ) (l : Left end tags values tags₁ values₁) where
-  pub form-same : (w : Walk) (t : ℕ) (polarity : Bool) → form_of w end tags₁ values₁ t polarity ≡ form_of w end tags values t polarity
+  pub form-same : (w : FormKind) (t : ℕ) (polarity : Bool) → form_of w end tags₁ values₁ t polarity ≡ form_of w end tags values t polarity
   unfolding form_of
   form-same normal t polarity = rw (l.tags-kept, l.values-kept)
   form-same taken_out t polarity = rw (l.tags-kept, l.values-kept)
 
-  pub entry-same : (w : Walk) → entry_form w end tags₁ values₁ ≡ entry_form w end tags values
+  pub entry-same : (w : FormKind) → entry_form w end tags₁ values₁ ≡ entry_form w end tags values
   unfolding entry_form
   entry-same w = fun_ext (λ i. rw (form-same w i true, form-same w (i - 8192) false))
 
@@ -59,7 +62,7 @@ module _ (end : ℕ) (tags values tags₁ values₁ : List ℕ) (l : Left end ta
   before_same t b = record { operand = λ i h. rw (run-same t) (b.operand i (rw (run-same t) at h)) }
 
 -- ---- after a step
-module _ (w : Walk) (end : ℕ) (tags values work : List ℕ) (o : Placed) (r : Option (TermPlace × ℕ)) (tags₁ values₁ work₁ : List ℕ)
+module _ (w : FormKind) (end : ℕ) (tags values work : List ℕ) (o : Placed) (r : Option (TermPlace × ℕ)) (tags₁ values₁ work₁ : List ℕ)
     (b : Builds (entry_form w end tags values) end tags values work o r tags₁ values₁ work₁) (p : TermPlace) (m : ℕ) (e : r ≡ Some (p, m)) where
   pub state-after : State end m tags₁ values₁
   state-after = (builds-holds (entry_form w end tags values) end tags values work o r tags₁ values₁ work₁ b p m e).state
@@ -103,8 +106,21 @@ place-is : (r s : TermPlace × ℕ) → Some r ≡ Some s → r.0 ≡ s.0
 unfolding place
 place-is r s e = ap (λ (o : Option (TermPlace × ℕ)). place o) e
 
+-- an answer's place is that with the count
+pub at_count : (r : Option TermPlace) (m : ℕ) (p : TermPlace) → r ≡ Some p → counted r m ≡ Some (p, m)
+at_count r m p e = rw e
+
+pub no_count : (r : Option TermPlace) (m : ℕ) → r ≡ None → counted r m ≡ None
+no_count r m e = rw e
+
+pub done_count : (r : Option (Unit {0})) (m : ℕ) (u : Unit {0}) → r ≡ Some u → counted (no_place r) m ≡ Some ((term_at 0), m)
+done_count r m u e = rw e
+
+pub undone_count : (r : Option (Unit {0})) (m : ℕ) → r ≡ None → counted (no_place r) m ≡ None
+undone_count r m e = rw e
+
 -- ---- one term: the memo has its form, or it is built and kept
-module _ (w : Walk) (end n : ℕ) (tags values work : List ℕ) (ready : WalkReady w end n tags values work) (t : ℕ) (polarity : Bool) (within : t < end) (i : ℕ) (is : i ≡ slot_of t polarity)
+module _ (w : FormKind) (end n : ℕ) (tags values work : List ℕ) (ready : WalkReady w end n tags values work) (t : ℕ) (polarity : Bool) (within : t < end) (i : ℕ) (is : i ≡ slot_of t polarity)
     (k : ℕ) (read : k ≡ get_or work i 0) where
   small : i < 16384
   small = slot-within w end n tags values work ready t polarity within i is
@@ -123,9 +139,6 @@ module _ (w : Walk) (end n : ℕ) (tags values work : List ℕ) (ready : WalkRea
       }
 
   module _ (r : Option (TermPlace × ℕ)) (tags₁ values₁ work₁ : List ℕ) (b : Formed w end n tags values work (form_of w end tags values t polarity) r tags₁ values₁ work₁) where
-    pub form-full : r ≡ None → Known w end n tags values work t polarity None tags₁ values₁ work₁
-    form-full e = record { formed = rw e at b; known = λ p m f. let z : ◌≡◌ {A = ℕ} 0 1 = cc in absurd (omega arith) }
-
     pub form-kept : k ≡ 0 → (p : TermPlace) (m : ℕ) → r ≡ Some (p, m) → Known w end n tags values work t polarity (Some (p, m)) tags₁ values₁ (set work₁ i (p.0 + 1))
     form-kept z p m e = record {
       formed = rw add-one (builds-kept (entry_form w end tags values) end n tags values work ready.state (form_of w end tags values t polarity) i
@@ -134,10 +147,8 @@ module _ (w : Walk) (end n : ℕ) (tags values work : List ℕ) (ready : WalkRea
           (memo-here work₁ (memo-long w end tags values work _ r tags₁ values₁ work₁ b p m e) i small (suc p.0));
     }
 
-pub ruleset one-term = (form-known, form-full, form-kept)
-
 -- ---- a run of operands
-module _ (w : Walk) (end n : ℕ) (tags values work : List ℕ) (t : ℕ) (polarity : Bool) (i : ℕ) (run : List ℕ) (are : run ≡ run_of end tags values t) where
+module _ (w : FormKind) (end n : ℕ) (tags values work : List ℕ) (t : ℕ) (polarity : Bool) (i : ℕ) (run : List ℕ) (are : run ≡ run_of end tags values t) where
   operands_end : WalkReady w end n tags values work → t < end → length run ≤ i → OperandsKnown w end n tags values work t polarity i (Some ((term_at 0), n)) tags values work
   unfolding interns
   operands_end ready h l =
@@ -206,7 +217,7 @@ module _ (w : Walk) (end n : ℕ) (tags values work : List ℕ) (t : ℕ) (polar
       }
 
 -- the loop of `operand_forms` at i: whoever does the operands from i on has done all
-pub record OperandsLeft (w : Walk) (end n : ℕ) (tags values work : List ℕ) (t : ℕ) (polarity : Bool) (m : ℕ) (tags₁ values₁ work₁ : List ℕ) (i : ℕ) : Type 0 where
+pub record OperandsLeft (w : FormKind) (end n : ℕ) (tags values work : List ℕ) (t : ℕ) (polarity : Bool) (m : ℕ) (tags₁ values₁ work₁ : List ℕ) (i : ℕ) : Type 0 where
   pub tags-size : length tags₁ ≡ length tags
   pub values-size : length values₁ ≡ length values
   pub ready : WalkReady w end m tags₁ values₁ work₁
@@ -215,8 +226,14 @@ pub record OperandsLeft (w : Walk) (end n : ℕ) (tags values work : List ℕ) (
   pub whole : (r : Option (TermPlace × ℕ)) (tags' values' work' : List ℕ) → OperandsKnown w end m tags₁ values₁ work₁ t polarity i r tags' values' work'
       → OperandsKnown w end n tags values work t polarity 0 r tags' values' work'
 
+-- the same of the pool
+pub record OperandsWalked (w : FormKind) (end : ℕ) (pool : IndexedPool) (work : List ℕ) (t : ℕ) (polarity : Bool) (pool₁ : IndexedPool) (work₁ : List ℕ) (i : ℕ) : Type 0 where
+  pub left : OperandsLeft w end pool.count pool.tags.now pool.values.now work t polarity pool₁.count pool₁.tags.now pool₁.values.now work₁ i
+  pub has_index : HasIndex pool₁
+  pub same_arrays : SameArrays pool pool₁
+
 -- `first` is the run as it was taken before the loop, and `run` as it is taken in it
-module _ (w : Walk) (end n : ℕ) (tags values work : List ℕ) (t : ℕ) (polarity : Bool)
+module _ (w : FormKind) (end n : ℕ) (tags values work : List ℕ) (t : ℕ) (polarity : Bool)
     (m : ℕ) (tags₁ values₁ work₁ : List ℕ) (i : ℕ) (s : OperandsLeft w end n tags values work t polarity m tags₁ values₁ work₁ i)
     (first : List ℕ) (was : first ≡ run_of end tags values t) where
   pub loop-end : t < end → length first ≤ i → OperandsKnown w end n tags values work t polarity 0 (Some ((term_at 0), m)) tags₁ values₁ work₁
@@ -241,8 +258,39 @@ module _ (w : Walk) (end n : ℕ) (tags values work : List ℕ) (t : ℕ) (polar
             s.whole r' tags' values' work' (operands_next w end m tags₁ values₁ work₁ t polarity i run are loop-within _ refl r tags₂ values₂ work₂ j p l e r' tags' values' work' k);
       }
 
+-- ---- the pool, from one call to the next
+pub ready-next : (w : FormKind) (end : ℕ) (pool : IndexedPool) (work : List ℕ) (f : Normal (List ℕ) ℕ) (r : Option TermPlace) (pool₁ : IndexedPool) (work₁ : List ℕ)
+    → FormedIn w end pool work f r pool₁ work₁ → HasIndex pool₁ → (p : TermPlace) → r ≡ Some p → Ready w end pool₁ work₁
+ready-next w end pool work f r pool₁ work₁ b h p e = record { walk_ready = ready-after w _ _ _ _ _ _ _ _ _ b p _ (at_count r _ p e); has_index = h }
+
+arrays-trans : (pool pool₁ pool₂ : IndexedPool) → SameArrays pool pool₁ → SameArrays pool₁ pool₂ → SameArrays pool pool₂
+arrays-trans pool pool₁ pool₂ s k = record {
+  tags = k.tags ∙ s.tags;
+  values = k.values ∙ s.values;
+  index = k.index ∙ s.index;
+  tags-size = k.tags-size ∙ s.tags-size;
+  values-size = k.values-size ∙ s.values-size;
+}
+
+module _ (w : FormKind) (end : ℕ) (pool : IndexedPool) (work : List ℕ) (t : ℕ) (polarity : Bool) (pool₁ : IndexedPool) (work₁ : List ℕ) (i : ℕ)
+    (s : OperandsWalked w end pool work t polarity pool₁ work₁ i) (first : List ℕ) (was : first ≡ run_in end pool t) where
+  pub walked_end : t < end → length first ≤ i → OperandsIn w end pool work t polarity (Some tt) pool₁ work₁
+  walked_end h l = loop-end w _ _ _ _ _ _ _ _ _ _ _ _ s.left first was h l
+
+  module _ (run : List ℕ) (are : run ≡ run_in end pool₁ t) (h : i < length first) (r : Option TermPlace) (pool₂ : IndexedPool) (work₂ : List ℕ)
+      (j : KnownIn w end pool₁ work₁ (get_or run i 0) polarity r pool₂ work₂) where
+    pub walked-full : r ≡ None → OperandsIn w end pool work t polarity None pool₂ work₂
+    walked-full e = loop-full w _ _ _ _ _ _ _ _ _ _ _ _ s.left first was run are h _ _ _ _ j (no_count r _ e)
+
+    pub walked_next : (p : TermPlace) → r ≡ Some p → HasIndex pool₂ → SameArrays pool₁ pool₂ → OperandsWalked w end pool work t polarity pool₂ work₂ (i + 1)
+    walked_next p e k same = record {
+      left = loop-next w _ _ _ _ _ _ _ _ _ _ _ _ s.left first was run are h _ _ _ _ j p _ (at_count r _ p e);
+      has_index = k;
+      same_arrays = arrays-trans pool pool₁ pool₂ s.same_arrays same;
+    }
+
 -- ---- a connective over its operands' forms
-module _ (w : Walk) (end n : ℕ) (tags values work : List ℕ) (t : ℕ) (polarity b : Bool) (is : form_of w end tags values t polarity ≡ nmany b (operand_forms w end tags values t polarity 0))
+module _ (w : FormKind) (end n : ℕ) (tags values work : List ℕ) (t : ℕ) (polarity b : Bool) (is : form_of w end tags values t polarity ≡ nmany b (operand_forms w end tags values t polarity 0))
     (r₁ : Option (TermPlace × ℕ)) (tags₁ values₁ work₁ : List ℕ) (j : OperandsKnown w end n tags values work t polarity 0 r₁ tags₁ values₁ work₁) where
   abbrev built : PlacedAll
   built = interns (operand_forms w end tags values t polarity 0) (pool_of tags values n)
@@ -266,7 +314,7 @@ module _ (w : Walk) (end n : ℕ) (tags values work : List ℕ) (t : ℕ) (polar
 
 -- ---- the whole
 -- a memo that has nothing
-pub ready-empty : (n : ℕ) (tags values work : List ℕ) → State n n tags values → MemoEmpty work → (w : Walk) → WalkReady w n n tags values work
+pub ready-empty : (n : ℕ) (tags values work : List ℕ) → State n n tags values → MemoEmpty work → (w : FormKind) → WalkReady w n n tags values work
 ready-empty n tags values work s empty w = record {
   state = s;
   right = record {
@@ -286,7 +334,7 @@ pub zeros-empty : (work : List ℕ) → work ≡ replicate 24576 0 → MemoEmpty
 unfolding memo_of
 zeros-empty work e = rw e record { size = length-replicate {A = ℕ} 24576 0; none = take-zeros 16384 24576 }
 
-module _ (w : Walk) (n : ℕ) (tags values work : List ℕ) (t : ℕ) (polarity : Bool) where
+module _ (w : FormKind) (n : ℕ) (tags values work : List ℕ) (t : ℕ) (polarity : Bool) where
   pub whole-built : (r : Option (TermPlace × ℕ)) (tags' values' work' : List ℕ) → Known w n n tags values work t polarity r tags' values' work'
       → NormalBuilt n tags values (intern (form_of w n tags values t polarity) (pool_of tags values n)) r tags' values'
   whole-built (Some (p, m)) tags' values' work' j =

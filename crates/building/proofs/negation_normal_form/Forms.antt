@@ -12,9 +12,13 @@ use Rattle.cells.specs.ByPlace.{by_place-is}
 use Rattle.cells.specs.Place.{term_at}
 use Rattle.cells.specs.declared.TermPlace.{TermPlace}
 use Rattle.cells.specs.Cell.{sort_of, operands_of}
+use Rattle.formulas.specs.declared.kinds.ConnectiveKind.{ConnectiveKind}
+use Rattle.formulas.specs.declared.kinds.ConnectiveKind.TheVariants.{And, Or}
+use Rattle.formulas.specs.declared.kinds.QuantifierKind.{QuantifierKind}
+use Rattle.formulas.specs.declared.kinds.QuantifierKind.TheVariants.{Forall, Exists}
 use Rattle.formulas.specs.declared.view.View.{View}
 use Rattle.formulas.specs.declared.view.View.TheVariants.{Opaque, Not, AndOr, Implies, Ite, Iff, Quantifier}
-use Rattle.formulas.specs.Formula.{Form, opaque, all_before, equality, connective, quantifier, view_of, forms_of, form_by, form}
+use Rattle.formulas.specs.Formula.{is_and, is_forall, Form, opaque, all_before, equality, connective, quantifier, view_of, forms_of, form_by, form}
 use Rattle.formulas.specs.Normal.{lit, nmany, nall, flip, pair, nnf, nnfs}
 use Rattle.formulas.specs.Built.{normals_of}
 use Rattle.building.specs.Walk.{two_pairs}
@@ -64,8 +68,8 @@ module _ (values : List ℕ) (tag t : ℕ) (os : List ℕ) (all : all_before t o
   connective-below : Below (connective values tag os) os t
   unfolding connective
   connective-below =
-      either (eqb tag 36) (AndOr true) _ os t (λ e. all-at t os all)
-      (λ e. either (eqb tag 37) (AndOr false) _ os t (λ e. all-at t os all)
+      either (eqb tag 36) (AndOr And) _ os t (λ e. all-at t os all)
+      (λ e. either (eqb tag 37) (AndOr Or) _ os t (λ e. all-at t os all)
       (λ e. either (eqb tag 39) (equality values os) _ os t (λ e. equality-below)
       (λ e. either (eqb tag 34) (cond (eqb (length os) 1) (Not (term_at (get_or os 0 0))) Opaque) _ os t
       (λ e. either (eqb (length os) 1) (Not (term_at (get_or os 0 0))) Opaque os t (λ k. at 0 1 k (omega arith)) (λ k. tt))
@@ -79,7 +83,7 @@ module _ (values : List ℕ) (tag t : ℕ) (os : List ℕ) (all : all_before t o
 quantifier-below : (tag body t : ℕ) (os : List ℕ) → body < t → Below (quantifier tag body) os t
 unfolding quantifier
 quantifier-below tag body t os h =
-    either (eqb tag 23) (Quantifier true (term_at body)) _ os t (λ e. h) (λ e. either (eqb tag 24) (Quantifier false (term_at body)) Opaque os t (λ e. h) (λ e. tt))
+    either (eqb tag 23) (Quantifier Forall (term_at body)) _ os t (λ e. h) (λ e. either (eqb tag 24) (Quantifier Exists (term_at body)) Opaque os t (λ e. h) (λ e. tt))
 
 module _ (tags values : List ℕ) (t : ℕ) where
   abbrev run : List ℕ
@@ -100,7 +104,7 @@ module _ (tags values : List ℕ) (t : ℕ) where
     pub not-below : (a : TermPlace) → v ≡ Not a → a.0 < t
     not-below a e = seen (Not a) e
 
-    pub many_below : (b : Bool) → v ≡ AndOr b → (i : ℕ) → i < length (operands_of tags values t) → get_or (operands_of tags values t) i 0 < t
+    pub many_below : (b : ConnectiveKind) → v ≡ AndOr b → (i : ℕ) → i < length (operands_of tags values t) → get_or (operands_of tags values t) i 0 < t
     many_below b e = seen (AndOr b) e
 
     pub implies-below : (a b : TermPlace) → v ≡ Implies a b → (a.0 < t) × (b.0 < t)
@@ -112,7 +116,7 @@ module _ (tags values : List ℕ) (t : ℕ) where
     pub iff-below : (a b : TermPlace) → v ≡ Iff a b → (a.0 < t) × (b.0 < t)
     iff-below a b e = seen (Iff a b) e
 
-    pub quantifier-body : (b : Bool) (body : TermPlace) → v ≡ Quantifier b body → body.0 < t
+    pub quantifier-body : (b : QuantifierKind) (body : TermPlace) → v ≡ Quantifier b body → body.0 < t
     quantifier-body b body e = seen (Quantifier b body) e
 
     -- ---- the form, by how the term is read
@@ -143,8 +147,8 @@ module _ (tags values : List ℕ) (t : ℕ) where
       unfolding form_by
       normal-not a e = rw (form-is (Not a) e, rec-is a.0 (not-below a e))
 
-      pub normal-many : (b : Bool) → v ≡ AndOr b
-          → nnf (form tags values t) p ≡ nmany (flip b p) (normals_of (λ u. nnf (form tags values u) p) (operands_of tags values t))
+      pub normal-many : (b : ConnectiveKind) → v ≡ AndOr b
+          → nnf (form tags values t) p ≡ nmany (flip (is_and b) p) (normals_of (λ u. nnf (form tags values u) p) (operands_of tags values t))
       unfolding form_by
       normal-many b e = rw (form-is (AndOr b) e, forms-are run (many_below b e) p)
 
@@ -169,7 +173,7 @@ module _ (tags values : List ℕ) (t : ℕ) where
           let (h, l) = iff-below a b e in
           rw (form-is (Iff a b) e, rec-is a.0 h, rec-is b.0 l)
 
-      pub normal-quantifier : (b : Bool) (body : TermPlace) → v ≡ Quantifier b body
-          → nnf (form tags values t) p ≡ nall (flip b p) (drop 1 (operands_of tags values t)) (nnf (form tags values body.0) p)
+      pub normal-quantifier : (b : QuantifierKind) (body : TermPlace) → v ≡ Quantifier b body
+          → nnf (form tags values t) p ≡ nall (flip (is_forall b) p) (drop 1 (operands_of tags values t)) (nnf (form tags values body.0) p)
       unfolding form_by
       normal-quantifier b body e = rw (form-is (Quantifier b body) e, rec-is body.0 (quantifier-body b body e))

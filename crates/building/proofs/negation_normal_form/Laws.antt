@@ -11,9 +11,11 @@ use native.Mathlib.Omega.{arith}
 use borrow.Author.Tests.{ltb-true, ltb-false}
 use Rattle.cells.specs.declared.TermPlace.{TermPlace}
 use Rattle.cells.specs.ByPlace.{by-test}
+use Rattle.formulas.specs.declared.kinds.ConnectiveKind.{ConnectiveKind}
+use Rattle.formulas.specs.declared.kinds.QuantifierKind.{QuantifierKind}
 use Rattle.formulas.specs.declared.view.View.{View}
 use Rattle.formulas.specs.declared.view.View.TheVariants.{Opaque, Not, AndOr, Implies, Ite, Iff, Quantifier}
-use Rattle.formulas.specs.Formula.{view_of, connective_tag, quantifier_tag}
+use Rattle.formulas.specs.Formula.{is_and, is_forall, view_of, connective_tag, quantifier_tag}
 use Rattle.formulas.specs.Normal.{lit, nmany, nall, flip, pair}
 use Rattle.formulas.specs.Built.{Placed, put, intern}
 use Rattle.building.specs.Arrays.{pool_of}
@@ -58,24 +60,24 @@ module _ (end n : ℕ) (tags values work : List ℕ) (ready : WalkReady normal e
   unfolding form_of
   expand-iff a b e r tags₁ values₁ work₁ j = rw (normal-iff (take end tags) (take end values) t v is polarity a b e) j
 
-  module _ (b : Bool) (e : v ≡ AndOr b) (r₁ : Option (TermPlace × ℕ)) (tags₁ values₁ work₁ : List ℕ) (j : OperandsKnown normal end n tags values work t polarity 0 r₁ tags₁ values₁ work₁) where
-    many_is : normal_of end tags values t polarity ≡ nmany (flip b polarity) (operand_forms normal end tags values t polarity 0)
+  module _ (b : ConnectiveKind) (e : v ≡ AndOr b) (r₁ : Option (TermPlace × ℕ)) (tags₁ values₁ work₁ : List ℕ) (j : OperandsKnown normal end n tags values work t polarity 0 r₁ tags₁ values₁ work₁) where
+    many_is : normal_of end tags values t polarity ≡ nmany (flip (is_and b) polarity) (operand_forms normal end tags values t polarity 0)
     unfolding form_of
     many_is = normal-many (take end tags) (take end values) t v is polarity b e
 
     pub expand-many-full : r₁ ≡ None → Formed normal end n tags values work (normal_of end tags values t polarity) None tags₁ values₁ work₁
-    expand-many-full = connective-full normal end n tags values work t polarity (flip b polarity) many_is r₁ tags₁ values₁ work₁ j
+    expand-many-full = connective-full normal end n tags values work t polarity (flip (is_and b) polarity) many_is r₁ tags₁ values₁ work₁ j
 
     pub expand-many : (p : TermPlace) (m : ℕ) → r₁ ≡ Some (p, m) → (r₂ : Option (TermPlace × ℕ)) (tags₂ values₂ work₂ : List ℕ)
-        → Puts m tags₁ values₁ (put (pool_of tags₁ values₁ m) (connective_tag (flip b polarity)) (0 ∷ places_in (memo_of work₁) polarity (run_of end tags₁ values₁ t))) r₂ tags₂ values₂
+        → Puts m tags₁ values₁ (put (pool_of tags₁ values₁ m) (connective_tag (flip (is_and b) polarity)) (0 ∷ places_in (memo_of work₁) polarity (run_of end tags₁ values₁ t))) r₂ tags₂ values₂
         → MemoKept work₁ work₂ → Formed normal end n tags values work (normal_of end tags values t polarity) r₂ tags₂ values₂ work₂
-    expand-many = connective-put normal end n tags values work t polarity (flip b polarity) many_is r₁ tags₁ values₁ work₁ j
+    expand-many = connective-put normal end n tags values work t polarity (flip (is_and b) polarity) many_is r₁ tags₁ values₁ work₁ j
 
-  module _ (b : Bool) (body : TermPlace) (e : v ≡ Quantifier b body) (r₁ : Option (TermPlace × ℕ)) (tags₁ values₁ work₁ : List ℕ) (j : Known normal end n tags values work body.0 polarity r₁ tags₁ values₁ work₁) where
+  module _ (b : QuantifierKind) (body : TermPlace) (e : v ≡ Quantifier b body) (r₁ : Option (TermPlace × ℕ)) (tags₁ values₁ work₁ : List ℕ) (j : Known normal end n tags values work body.0 polarity r₁ tags₁ values₁ work₁) where
     abbrev inner : Placed
     inner = intern (normal_of end tags values body.0 polarity) (pool_of tags values n)
 
-    quantifier-is : normal_of end tags values t polarity ≡ nall (flip b polarity) (drop 1 (run_of end tags values t)) (normal_of end tags values body.0 polarity)
+    quantifier-is : normal_of end tags values t polarity ≡ nall (flip (is_forall b) polarity) (drop 1 (run_of end tags values t)) (normal_of end tags values body.0 polarity)
     unfolding form_of
     quantifier-is = normal-quantifier (take end tags) (take end values) t v is polarity b body e
 
@@ -84,19 +86,19 @@ module _ (end n : ℕ) (tags values work : List ℕ) (ready : WalkReady normal e
     expand-quantifier-full f =
         rw quantifier-is
         (builds-full (entry_form normal end tags values) end tags values work inner r₁ tags₁ values₁ work₁ j.formed f _
-        (becomes-longer _ _ (put-becomes inner.pool (quantifier_tag (flip b polarity)) (0 ∷ inner.place ∷ drop 1 (run_of end tags values t)))))
+        (becomes-longer _ _ (put-becomes inner.pool (quantifier_tag (flip (is_forall b) polarity)) (0 ∷ inner.place ∷ drop 1 (run_of end tags values t)))))
 
     pub expand-quantifier : (p : TermPlace) (m : ℕ) → r₁ ≡ Some (p, m) → (r₂ : Option (TermPlace × ℕ)) (tags₂ values₂ work₂ : List ℕ)
-        → Puts m tags₁ values₁ (put (pool_of tags₁ values₁ m) (quantifier_tag (flip b polarity)) (0 ∷ p.0 ∷ drop 1 (run_of end tags₁ values₁ t))) r₂ tags₂ values₂
+        → Puts m tags₁ values₁ (put (pool_of tags₁ values₁ m) (quantifier_tag (flip (is_forall b) polarity)) (0 ∷ p.0 ∷ drop 1 (run_of end tags₁ values₁ t))) r₂ tags₂ values₂
         → MemoKept work₁ work₂ → Formed normal end n tags values work (normal_of end tags values t polarity) r₂ tags₂ values₂ work₂
     unfolding intern
     expand-quantifier p m f r₂ tags₂ values₂ work₂ y kept =
         let h = builds-holds (entry_form normal end tags values) end tags values work inner r₁ tags₁ values₁ work₁ j.formed p m f in
         rw (quantifier-is, ← h.place_is, ← run-same end tags values tags₁ values₁ j.formed.puts.left t)
-        (then-put normal end tags values work inner r₁ tags₁ values₁ work₁ j.formed p m f (quantifier_tag (flip b polarity)) _ r₂ tags₂ values₂ work₂ y kept)
+        (then-put normal end tags values work inner r₁ tags₁ values₁ work₁ j.formed p m f (quantifier_tag (flip (is_forall b) polarity)) _ r₂ tags₂ values₂ work₂ y kept)
 
   -- what the calls ask of the operands
-  pub many-before : (b : Bool) → v ≡ AndOr b → Before end tags values t
+  pub many-before : (b : ConnectiveKind) → v ≡ AndOr b → Before end tags values t
   many-before b e = record { operand = many_below (take end tags) (take end values) t v is b e }
 
 -- ---- the measures: the greater of two places

@@ -2,12 +2,12 @@
 -- Assumes nothing.
 use Rattle.std.specs.Prelude.{Option, Some, None}
 use Prim.Native.Nat.{ℕ, ◌≤◌}
-use mathlib.Core.Path.{◌≡◌}
-use mathlib.Core.Bool.{Bool, not}
+use mathlib.Core.Path.{◌≡◌, refl}
+use mathlib.Core.Bool.{Bool, true, false, not}
 use mathlib.Core.List.{List, [], ◌∷◌}
 use native.Mathlib.Omega.{arith}
 use Rattle.cells.specs.declared.TermPlace.{TermPlace}
-use Rattle.formulas.specs.Normal.{Normal, pair}
+use Rattle.formulas.specs.Normal.{Normal, pair, flip}
 use Rattle.formulas.specs.Built.{Placed, count, put, intern, interns}
 use Rattle.formulas.specs.Formula.{connective_tag}
 use Rattle.building.specs.Arrays.{pool_of}
@@ -80,8 +80,6 @@ module _ (end n : ℕ) (tags values work : List ℕ) (both : Bool) (a : ℕ) (a-
     pair_put q l e₂ r₃ tags₃ values₃ y =
         both-put end n tags values work f r₁ tags₁ values₁ work₁ j.formed both g p m e₁ r₂ tags₂ values₂ work₂ b₂ q l e₂ r₃ tags₃ values₃ y
 
-pub ruleset pairs = (pair-left-full, pair-right-full, pair_put)
-
 -- two_pairs
 module _ (end n : ℕ) (tags values work : List ℕ) (polarity : Bool) (a b c : ℕ) (c-polarity : Bool) (d : ℕ) (r₁ : Option (TermPlace × ℕ)) (tags₁ values₁ work₁ : List ℕ)
     (b₁ : Formed normal end n tags values work (pair (not polarity) (normal_of end tags values a (not polarity)) (normal_of end tags values b polarity)) r₁ tags₁ values₁ work₁) where
@@ -108,4 +106,11 @@ module _ (end n : ℕ) (tags values work : List ℕ) (polarity : Bool) (a b c : 
     two-put q l e₂ r₃ tags₃ values₃ y =
         both-put end n tags values work one r₁ tags₁ values₁ work₁ b₁ polarity two p m e₁ r₂ tags₂ values₂ work₂ same₂ q l e₂ r₃ tags₃ values₃ y
 
-pub ruleset twos = (two-left-full, two-right-full, two-put)
+-- ---- the kinds of a pair
+pub or-at : (p : Bool) → flip false p ≡ not p
+or-at true = refl
+or-at false = refl
+
+pub and-at : (p : Bool) → flip true p ≡ p
+and-at true = refl
+and-at false = refl

@@ -3,7 +3,7 @@
 use Rattle.std.specs.Prelude.{Option, Some, None}
 use Prim.Native.Nat.{ℕ, ◌<◌}
 use mathlib.Core.Path.{◌≡◌, refl, sym, ◌∙◌}
-use mathlib.Core.Bool.{Bool, true}
+use mathlib.Core.Bool.{true}
 use mathlib.Core.List.{List, [], ◌∷◌}
 use lib.ListN.{get_or, take}
 use lib.Dec.{ltb, eqb}
@@ -13,9 +13,11 @@ use Rattle.cells.specs.Place.{term_at}
 use Rattle.cells.specs.declared.TermPlace.{TermPlace}
 use Rattle.cells.specs.ByPlace.{by-test}
 use Rattle.cells.specs.Cell.{operands_of}
+use Rattle.formulas.specs.declared.kinds.ConnectiveKind.{ConnectiveKind}
+use Rattle.formulas.specs.declared.kinds.ConnectiveKind.TheVariants.{And}
 use Rattle.formulas.specs.declared.view.NormalView.{NormalView}
 use Rattle.formulas.specs.declared.view.NormalView.TheVariants.{Literal, Connective, Forall}
-use Rattle.formulas.specs.Formula.{all_before, connective_tag}
+use Rattle.formulas.specs.Formula.{is_and, all_before, connective_tag}
 use Rattle.formulas.specs.Normal.{Normal, lit, nmany, prenex, prenexes}
 use Rattle.formulas.specs.Built.{put, intern, normals_of, normal_view, taken_out_form}
 use Rattle.building.specs.Arrays.{pool_of}
@@ -34,7 +36,7 @@ body-before tags values x body e =
     (λ l. absurd (other Literal (rw (q, l) at e) refl)))
     (λ q. by-test (all_before x (operands_of tags values x))
     (λ l. by-test (eqb (get_or tags x 0) 36)
-    (λ k. absurd (connected true (rw (q, l, k) at e)))
+    (λ k. absurd (connected And (rw (q, l, k) at e)))
     (λ k. by-test (eqb (get_or tags x 0) 37)
     (λ m. absurd (connected _ (rw (q, l, k, m) at e)))
     (λ m. absurd (other Literal (rw (q, l, k, m) at e) refl))))
@@ -43,7 +45,7 @@ body-before tags values x body e =
     other : (v : NormalView) → Forall body ≡ v → v ≡ Literal → ⊥
     other v e f = let z : ◌≡◌ {A = ℕ} 0 1 = cc in omega arith
 
-    connected : (b : Bool) → Forall body ≡ Connective b → ⊥
+    connected : (b : ConnectiveKind) → Forall body ≡ Connective b → ⊥
     connected b e = let z : ◌≡◌ {A = ℕ} 0 1 = cc in omega arith
 
 prenexes-are : (f : ℕ → Normal (List ℕ) ℕ) (us : List ℕ) → prenexes (normals_of f us) ≡ normals_of (λ u. prenex (f u)) us
@@ -69,24 +71,22 @@ module _ (end n : ℕ) (tags values work : List ℕ) (ready : WalkReady taken_ou
   take-forall body e r tags₁ values₁ work₁ j =
       rw (read-forall (take end tags) (take end values) x v is body e, lt-ltb body.0 x (forall_below body e)) j.formed
 
-  module _ (b : Bool) (e : v ≡ Connective b) where
+  module _ (b : ConnectiveKind) (e : v ≡ Connective b) where
     pub connective-before : Before end tags values x
     connective-before = record { operand = before_at x (run_of end tags values x) (run-before (take end tags) (take end values) x v is b e) }
 
-    connective-is : form_of taken_out end tags values x true ≡ nmany b (operand_forms taken_out end tags values x true 0)
+    connective-is : form_of taken_out end tags values x true ≡ nmany (is_and b) (operand_forms taken_out end tags values x true 0)
     unfolding form_of
     connective-is = rw (read-connective (take end tags) (take end values) x v is b e, prenexes-are)
 
     module _ (r₁ : Option (TermPlace × ℕ)) (tags₁ values₁ work₁ : List ℕ) (j : OperandsKnown taken_out end n tags values work x true 0 r₁ tags₁ values₁ work₁) where
       pub take-full : r₁ ≡ None → Formed taken_out end n tags values work (form_of taken_out end tags values x true) None tags₁ values₁ work₁
-      take-full = connective-full taken_out end n tags values work x true b connective-is r₁ tags₁ values₁ work₁ j
+      take-full = connective-full taken_out end n tags values work x true (is_and b) connective-is r₁ tags₁ values₁ work₁ j
 
       pub take_put : (p : TermPlace) (m : ℕ) → r₁ ≡ Some (p, m) → (r₂ : Option (TermPlace × ℕ)) (tags₂ values₂ work₂ : List ℕ)
-          → Puts m tags₁ values₁ (put (pool_of tags₁ values₁ m) (connective_tag b) (0 ∷ places_in (memo_of work₁) true (run_of end tags₁ values₁ x))) r₂ tags₂ values₂
+          → Puts m tags₁ values₁ (put (pool_of tags₁ values₁ m) (connective_tag (is_and b)) (0 ∷ places_in (memo_of work₁) true (run_of end tags₁ values₁ x))) r₂ tags₂ values₂
           → MemoKept work₁ work₂ → Formed taken_out end n tags values work (form_of taken_out end tags values x true) r₂ tags₂ values₂ work₂
-      take_put = connective-put taken_out end n tags values work x true b connective-is r₁ tags₁ values₁ work₁ j
-
-pub ruleset takes = (take-literal, take-forall, take-full, take_put)
+      take_put = connective-put taken_out end n tags values work x true (is_and b) connective-is r₁ tags₁ values₁ work₁ j
 
 -- ---- the whole
 pub taken-built : (n : ℕ) (tags values work : List ℕ) (x : ℕ) (r : Option (TermPlace × ℕ)) (tags' values' work' : List ℕ)

@@ -1,4 +1,4 @@
--- Laws of the memo made empty, of its indices, of gathering cells in the row, and of one new term.
+-- Laws of the memo made empty, of its indices, of gathering cells in the row, and of a literal.
 -- Assumes nothing.
 use Rattle.cells.specs.declared.TermPlace.{TermPlace}
 use Rattle.std.specs.Prelude.{Option, Some}
@@ -17,9 +17,8 @@ use Rattle.std.proofs.lemmas.List.{take_at, length-append, drop-append-le}
 use Rattle.cells.specs.Place.{term_at}
 use Rattle.cells.specs.ByPlace.{by-test}
 use Rattle.cells.specs.Cell.{cells_of, operands_of}
-use Rattle.formulas.specs.Normal.{lit, flip}
+use Rattle.formulas.specs.Normal.{lit}
 use Rattle.formulas.specs.Built.{put, intern}
-use Rattle.formulas.specs.Formula.{quantifier_tag, connective_tag}
 use Rattle.building.specs.Arrays.{pool_of}
 use Rattle.building.specs.Walk.{State, Puts, memo_of, MemoEmpty, RowHolds, slot_of, places_in, run_of}
 
@@ -189,10 +188,7 @@ pub memo-part : (work : List ℕ) → length work ≡ 24576 → 16384 ≡ length
 memo-part work l = sym (length-take-le 16384 work (omega arith))
 
 module _ (end n : ℕ) (tags values : List ℕ) (s : State end n tags values) where
-  pub tags-part : end ≡ length (take end tags)
-  tags-part = sym (length-take-le end tags (omega (arith, s.source, s.within)))
-
-  pub values-part : end ≡ length (take end values)
+  values-part : end ≡ length (take end values)
   values-part = sym (length-take-le end values (omega (arith, s.source, s.within, s.size)))
 
   -- a run with the sort before it fits the row
@@ -203,25 +199,7 @@ module _ (end n : ℕ) (tags values : List ℕ) (s : State end n tags values) wh
       (by-test (ltb (get_or (take end tags) t 0) 22) (λ o. rw o (omega arith))
       (λ o. rw (o, length-drop, length-take, length-drop, ← values-part) (omega (arith, s.source, s.small))))
 
-pub ruleset parts = (tags-part, values-part, memo-part, run_short)
-
--- ---- one new term
-pub put-tag : (n : ℕ) (tags values : List ℕ) (tag tag' : ℕ) → tag ≡ tag' → (cells : List ℕ) (r : Option (TermPlace × ℕ)) (tags' values' : List ℕ)
-    → Puts n tags values (put (pool_of tags values n) tag cells) r tags' values'
-    → Puts n tags values (put (pool_of tags values n) tag' cells) r tags' values'
-put-tag n tags values tag tag' is cells r tags' values' s = rw (← is) s
-
-module _ (end n : ℕ) (tags values : List ℕ) (t tag : ℕ) (b polarity flipped : Bool) (is-flip : flipped ≡ flip b polarity)
-    (run : List ℕ) (are : run ≡ run_of end tags values t) (k : ℕ) (work work' : List ℕ)
-    (r : Option (TermPlace × ℕ)) (tags' values' : List ℕ) (s : Puts n tags values (put (pool_of tags values n) tag (take (k - 16384) (drop 16384 work'))) r tags' values') where
-  pub put-places : tag ≡ connective_tag flipped → RowHolds (0 ∷ places_in (memo_of work) polarity run) k work work'
-      → Puts n tags values (put (pool_of tags values n) (connective_tag (flip b polarity)) (0 ∷ places_in (memo_of work) polarity (run_of end tags values t))) r tags' values'
-  put-places is c = rw (← is-flip, ← is, ← are, ← c.are) s
-
-  pub put-pairs : tag ≡ quantifier_tag flipped → (body : ℕ) → RowHolds (0 ∷ body ∷ drop 1 run) k work work'
-      → Puts n tags values (put (pool_of tags values n) (quantifier_tag (flip b polarity)) (0 ∷ body ∷ drop 1 (run_of end tags values t))) r tags' values'
-  put-pairs is body c = rw (← is-flip, ← is, ← are, ← c.are) s
-
+-- ---- a literal
 module _ (n : ℕ) (tags values : List ℕ) (t : ℕ) (polarity : Bool) where
   pub literal-true : polarity ≡ true → State n n tags values → t < n
       → Puts n tags values (intern (lit polarity t) (pool_of tags values n)) (Some ((term_at t), n)) tags values
@@ -238,4 +216,4 @@ module _ (n : ℕ) (tags values : List ℕ) (t : ℕ) (polarity : Bool) where
   unfolding intern
   literal-false e r tags' values' s = rw e s
 
-pub ruleset terms = (put-tag, put-places, put-pairs, literal-true, literal-false)
+pub ruleset literals = (literal-true, literal-false)

@@ -1,6 +1,6 @@
 -- Laws of the whole clause list: the arrays hold the clauses before i, and zeroes.
 -- Assumes nothing.
-use Prim.Native.Nat.{ℕ, zero, suc, ◌+◌, ◌-◌, ◌^◌, ◌≤◌, ◌<◌, min}
+use Prim.Native.Nat.{ℕ, zero, suc, ◌+◌, ◌-◌, ◌≤◌, ◌<◌, min}
 use mathlib.Core.Path.{◌≡◌, refl, sym, ap, ap₂, ◌∙◌}
 use mathlib.Core.Bool.{Bool, true, false}
 use mathlib.Core.List.{List, [], ◌∷◌, ◌++◌, append_assoc, append-nil}
@@ -19,8 +19,7 @@ use Rattle.formulas.specs.Normal.{Normal}
 use Rattle.formulas.specs.Clauses.{cnf, literal_total, empty_or}
 use Rattle.formulas.specs.ClauseLists.{empty_or_reached, too_many_clauses, padded, clause_places, literal_places, clause_ends}
 use Rattle.clauses.specs.ClauseWalk.{TermCounted}
-use Rattle.clauses.specs.ClauseList.{Ask, Written, AskMore, Adds, Lent, count_answer, list_answer, held, ListAnswered, ListReady, ClausesHeld}
-use Rattle.clauses.specs.declared.clause_list.Filled.{Filled}
+use Rattle.clauses.specs.ClauseList.{Ask, Written, AskMore, Lent, count_answer, list_answer, held, ListAnswered, ListReady, ClausesHeld}
 use Rattle.clauses.proofs.totals.Laws.{clauses-cut, literals-cut}
 use Rattle.clauses.proofs.conjunctive_normal_form.Laws.{places-length, counts-one}
 
@@ -119,10 +118,13 @@ module _ (tags values memo : List ℕ) (x : ℕ) (literals₀ ends₀ : List ℕ
       room = omega (arith, total-before list k inside, w.at-is, w.literals-size, ask.literals_room);
     }
 
-    module _ (after : List ℕ) (r : ℕ) (p : Written (get_or (cnf (form_at tags values x)) k []) literals at after r) where
-      pub wrote-fits : r < 2 ^ 32
-      wrote-fits = omega (arith, p.end, total-before list k inside, w.at-is, ask.literals-small)
+    pub wrote-ends : i < length ends
+    wrote-ends = omega (arith, inside, w.i-is, w.ends-size, ask.clauses-room)
 
+    pub wrote-small : at + length (get_or (cnf (form_at tags values x)) k []) ≤ 8192
+    wrote-small = omega (arith, total-before list k inside, w.at-is, ask.literals-small)
+
+    module _ (after : List ℕ) (r : ℕ) (p : Written (get_or (cnf (form_at tags values x)) k []) literals at after r) where
       more : take (k + 1) list ≡ take k list ++ (get_or list k [] ∷ [])
       more = ap (λ (n : ℕ). take n list) (add-one k) ∙ take-suc list k [] inside
 
@@ -147,15 +149,15 @@ module _ (tags values memo : List ℕ) (x : ℕ) (literals₀ ends₀ : List ℕ
           (sym (ap (clause_ends at₀) more
           ∙ (ends_more (get_or list k []) at₀ (take k list) ∙ ap (λ (n : ℕ). clause_ends at₀ (take k list) ++ (n ∷ [])) end_is))))
 
-      pub wrote-next : Wrote (cnf (form_at tags values x)) literals₀ ends₀ i₀ at₀ after (set ends i r) (k + 1) (i + 1) r
-      wrote-next = record {
+      pub wrote-next : (ends' : List ℕ) → ends' ≡ set ends i r → (i' : ℕ) → i' ≡ i + 1 → Wrote (cnf (form_at tags values x)) literals₀ ends₀ i₀ at₀ after ends' (k + 1) i' r
+      wrote-next ends' e i' n = record {
         within = omega (arith, inside);
-        i-is = omega (arith, w.i-is);
+        i-is = omega (arith, n, w.i-is);
         at-is = sym (ap (λ (l : Clauses). at₀ + literal_total l) more ∙ (ap (λ (n : ℕ). at₀ + n) (total-more (get_or list k []) (take k list)) ∙ omega (arith, end_is)));
         literals-are = literals-next;
-        ends-are = ends_next;
+        ends-are = e ∙ ends_next;
         literals-size = ap length p.array ∙ (length-sets literals at (clause_places (get_or list k [])) ∙ w.literals-size);
-        ends-size = length-set ends i r ∙ w.ends-size;
+        ends-size = ap length e ∙ (length-set ends i r ∙ w.ends-size);
       }
 
 -- ---- the answers
@@ -208,33 +210,33 @@ module _ (tags values : List ℕ) (x : ℕ) (literals ends : List ℕ) (ready : 
         literals_room = omega (arith, literals-are, ready.lent.literals);
       }
 
-      listed : (literals' ends' : List ℕ) (f : Filled) → Adds (cnf (form_at tags values x)) literals ends 0 0 literals' ends' f
-          → ClausesHeld (cnf (form_at tags values x)) (length literals) (length ends) literals' ends'
-      listed literals' ends' f a = record {
-        literals-are = a.literals-are
-            ∙ (ap (λ (l : List ℕ). sets l 0 (literal_places (cnf (form_at tags values x)))) ready.literals-zero
-            ∙ sets-zeros (length literals) (literal_places (cnf (form_at tags values x)))
-            (omega (arith, places-total (cnf (form_at tags values x)), literals-are, ready.lent.literals)));
-        ends-are = a.ends-are
-            ∙ (ap (λ (l : List ℕ). sets l 0 (clause_ends 0 (cnf (form_at tags values x)))) ready.ends-zero
-            ∙ sets-zeros (length ends) (clause_ends 0 (cnf (form_at tags values x)))
-            (omega (arith, ends-length 0 (cnf (form_at tags values x)), clauses-are, ready.lent.ends)));
-      }
+      module _ (literals' ends' : List ℕ) (p : literals' ≡ sets literals 0 (literal_places (cnf (form_at tags values x))))
+          (q : ends' ≡ sets ends 0 (clause_ends 0 (cnf (form_at tags values x)))) where
+        listed : ClausesHeld (cnf (form_at tags values x)) (length literals) (length ends) literals' ends'
+        listed = record {
+          literals-are = p
+              ∙ (ap (λ (l : List ℕ). sets l 0 (literal_places (cnf (form_at tags values x)))) ready.literals-zero
+              ∙ sets-zeros (length literals) (literal_places (cnf (form_at tags values x)))
+              (omega (arith, places-total (cnf (form_at tags values x)), literals-are, ready.lent.literals)));
+          ends-are = q
+              ∙ (ap (λ (l : List ℕ). sets l 0 (clause_ends 0 (cnf (form_at tags values x)))) ready.ends-zero
+              ∙ sets-zeros (length ends) (clause_ends 0 (cnf (form_at tags values x)))
+              (omega (arith, ends-length 0 (cnf (form_at tags values x)), clauses-are, ready.lent.ends)));
+        }
 
-      pub fits-answer : (literals' ends' : List ℕ) (f : Filled) → Adds (cnf (form_at tags values x)) literals ends 0 0 literals' ends' f
-          → ListAnswered (count_answer (cnf (form_at tags values x))) (cnf (form_at tags values x)) (length literals) (length ends)
-          (accepted t.clauses t.literals) literals' ends'
-      unfolding count_answer held
-      fits-answer literals' ends' f a = record {
-        answer = rw (
-          le-leb (length (cnf (form_at tags values x))) 2048 (omega (arith, clauses-are)),
-          le-leb (literal_total (cnf (form_at tags values x))) 8192 (omega (arith, literals-are)),
-          ← clauses-are,
-          ← literals-are,
-        );
-        literals-are = (listed literals' ends' f a).literals-are;
-        ends-are = (listed literals' ends' f a).ends-are;
-      }
+        pub fits-answer : ListAnswered (count_answer (cnf (form_at tags values x))) (cnf (form_at tags values x)) (length literals) (length ends)
+            (accepted t.clauses t.literals) literals' ends'
+        unfolding count_answer held
+        fits-answer = record {
+          answer = rw (
+            le-leb (length (cnf (form_at tags values x))) 2048 (omega (arith, clauses-are)),
+            le-leb (literal_total (cnf (form_at tags values x))) 8192 (omega (arith, literals-are)),
+            ← clauses-are,
+            ← literals-are,
+          );
+          literals-are = listed.literals-are;
+          ends-are = listed.ends-are;
+        }
 
 module _ (literals₀ ends₀ literals ends : List ℕ) (cut : Cut 0 literals₀ ends₀ literals ends) where
   size-literals : length literals ≡ length literals₀

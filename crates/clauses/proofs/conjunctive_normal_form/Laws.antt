@@ -1,8 +1,9 @@
 -- Laws of the writing of a clause, one for each way out of the code.
 -- Assumes nothing.
+use Rattle.std.specs.Prelude.{Option, Some, None, is_some}
 use Prim.Native.Nat.{ℕ, zero, suc, ◌+◌, ◌-◌, ◌*◌, ◌/◌, ◌%◌, ◌≤◌, ◌<◌, min}
 use mathlib.Core.Path.{◌≡◌, refl, sym, ap, subst, ◌∙◌}
-use mathlib.Core.Bool.{Bool, true, false}
+use mathlib.Core.Bool.{true}
 use mathlib.Core.List.{List, [], ◌∷◌, ◌++◌}
 use lib.ListN.{length, get_or, drop, set, length-append, length-drop, drop_of_length-le}
 use lib.Seq.{sets, length-sets, drop-cons}
@@ -15,6 +16,8 @@ use Rattle.cells.specs.Place.{term_at}
 use Rattle.cells.specs.declared.TermPlace.{TermPlace}
 use Rattle.cells.specs.Cell.{operands_of}
 use Rattle.cells.specs.ByPlace.{by-test}
+use Rattle.formulas.specs.declared.kinds.ConnectiveKind.{ConnectiveKind}
+use Rattle.formulas.specs.declared.kinds.ConnectiveKind.TheVariants.{And, Or}
 use Rattle.formulas.specs.declared.view.NormalView.{NormalView}
 use Rattle.formulas.specs.declared.view.NormalView.TheVariants.{Literal, Connective, Forall}
 use Rattle.clauses.specs.declared.conjunctive_normal_form.Chosen.{Chosen}
@@ -31,13 +34,13 @@ use Rattle.clauses.proofs.ClauseAt.{append_left, append_right, product_at, claus
 use Rattle.formulas.proofs.Reading.{before_head, before-tail, read-literal, read-forall, read-connective, run-before, connective-within}
 
 -- ---- the walk along the operands of an `and`: w is what it finds, from j on, for the number left
-module _ (w : Chosen) (memo run : List ℕ) (j left : ℕ) (inv : w ≡ choose memo (drop j run) left) where
-  pub choose-end : length run ≤ j → record { place = term_at 0; index = 0 } ≡ w
+module _ (w : Option Chosen) (memo run : List ℕ) (j left : ℕ) (inv : w ≡ choose memo (drop j run) left) where
+  pub choose-end : length run ≤ j → None ≡ w
   unfolding choose
   choose-end h = rw (inv, drop_of_length-le run h)
 
   module _ (h : j < length run) (here : ℕ) (is : here ≡ clauses_at memo (get_or run j 0)) where
-    pub choose-here : left < here → record { place = term_at (get_or run j 0); index = left } ≡ w
+    pub choose-here : left < here → Some (record { place = term_at (get_or run j 0); index = left }) ≡ w
     unfolding choose
     choose-here l = rw (inv, drop-cons run j 0 h, ← is, lt-ltb _ _ l)
 
@@ -69,7 +72,7 @@ module _ (tags values memo : List ℕ) where
   pub counts-tail : (u : ℕ) (us : List ℕ) → ClauseCounts tags values memo (u ∷ us) → ClauseCounts tags values memo us
   counts-tail u us counted = record { right = counted.right; all = λ i h. counted.all (suc i) (omega arith) }
 
-  pub counts-operands : (x : ℕ) → ClauseCounts tags values memo (x ∷ []) → x < length tags → (b : Bool) → Connective b ≡ normal_view tags values x
+  pub counts-operands : (x : ℕ) → ClauseCounts tags values memo (x ∷ []) → x < length tags → (b : ConnectiveKind) → Connective b ≡ normal_view tags values x
       → ClauseCounts tags values memo (operands_of tags values x)
   counts-operands x counted h b e = record {
     right = counted.right;
@@ -84,33 +87,43 @@ pub record Found (tags values memo : List ℕ) (x : ℕ) (cs : List (List (Norma
   pub index : c.index < length (cnf (form_at tags values c.place.0))
   pub same : get_or (cnf (form_at tags values c.place.0)) c.index [] ≡ get_or cs i []
 
-module _ (tags values memo : List ℕ) (x : ℕ) (within : x < length tags) where
-  found : (run : List ℕ) → ClauseCounts tags values memo run → all_before x run ≡ true → (i : ℕ) → length (cnf_and (run_of tags values run)) ≤ 2048 → i < length (cnf_and (run_of tags values run))
-      → Found tags values memo x (cnf_and (run_of tags values run)) i (choose memo run i)
+module _ (tags values memo : List ℕ) (x : ℕ) where
+  module _ (u : ℕ) (us : List ℕ) (here : ℕ) (is : here ≡ length (cnf (form_at tags values u))) (i : ℕ) where
+    found-later : here ≤ i → (c : Chosen) → Found tags values memo x (cnf_and (run_of tags values us)) (i - here) c → Found tags values memo x (cnf_and (run_of tags values (u ∷ us))) i c
+    found-later l c f = record {
+      counted = f.counted;
+      below = f.below;
+      small = f.small;
+      index = f.index;
+      same = f.same ∙ (rw is (sym (append_right (cnf (form_at tags values u)) (cnf_and (run_of tags values us)) [] i (omega (arith, is)))));
+    }
+
+  found : x < length tags → (run : List ℕ) → ClauseCounts tags values memo run → all_before x run ≡ true → (i : ℕ)
+      → length (cnf_and (run_of tags values run)) ≤ 2048 → i < length (cnf_and (run_of tags values run))
+      → (c : Chosen) × ((choose memo run i ≡ Some c) × Found tags values memo x (cnf_and (run_of tags values run)) i c)
   unfolding choose
-  found [] counted b i s h = absurd (omega arith)
-  found (u ∷ us) counted b i s h =
+  found within [] counted b i s h = absurd (omega arith)
+  found within (u ∷ us) counted b i s h =
       let total = clauses-and (form_at tags values u) (run_of tags values us) in
       let less : u < x = before_head x u us b in
       let here : clauses_at memo u ≡ length (cnf (form_at tags values u)) = exact tags values memo u us counted (omega arith) (omega (arith, total)) in
       by-test (ltb i (clauses_at memo u))
-      (λ q. let l : i < clauses_at memo u = ltb-true i (clauses_at memo u) q in
-      rw q record {
-        counted = counts-head tags values memo u us counted;
-        below = less;
-        small = omega (arith, total);
-        index = omega (arith, here);
-        same = sym (append_left (cnf (form_at tags values u)) (cnf_and (run_of tags values us)) [] i (omega (arith, here)));
-      })
+      (λ q. let l : i < clauses_at memo u = ltb-true i (clauses_at memo u) q in (
+        record { place = term_at u; index = i },
+        (
+          rw q refl,
+          record {
+            counted = counts-head tags values memo u us counted;
+            below = less;
+            small = omega (arith, total);
+            index = omega (arith, here);
+            same = sym (append_left (cnf (form_at tags values u)) (cnf_and (run_of tags values us)) [] i (omega (arith, here)));
+          },
+        ),
+      ))
       (λ q. let l : clauses_at memo u ≤ i = ltb-false i (clauses_at memo u) q in
-      let f = found us (counts-tail tags values memo u us counted) (before-tail x u us b) (i - clauses_at memo u) (omega (arith, total)) (omega (arith, total, here)) in
-      rw q record {
-        counted = f.counted;
-        below = f.below;
-        small = f.small;
-        index = f.index;
-        same = f.same ∙ (rw here (sym (append_right (cnf (form_at tags values u)) (cnf_and (run_of tags values us)) [] i (omega (arith, here)))));
-      })
+      let f = found within us (counts-tail tags values memo u us counted) (before-tail x u us b) (i - clauses_at memo u) (omega (arith, total)) (omega (arith, total, here)) in
+      (f.0, (rw q f.1.0, found-later u us (clauses_at memo u) here i l f.0 f.1.1)))
 
 -- ---- a list of one clause with one literal
 one_at : (l : Normal (List ℕ) ℕ) (i : ℕ) → i < 1 → get_or ((l ∷ []) ∷ []) i [] ≡ l ∷ []
@@ -145,7 +158,7 @@ module _ (tags values memo : List ℕ) (x i : ℕ) (out : List ℕ) (at : ℕ) (
     pub forall-written : (after : List ℕ) (r : ℕ) → (r ≡ at + 1) × (after ≡ set out at 0) → Written (get_or (cnf (form_at tags values x)) i []) out at after r
     forall-written = one_written tags values memo _ _ _ (ap cnf (read-forall tags values x v is body e)) i out at ask
 
-  module _ (b : Bool) (e : v ≡ Connective b) (run : List ℕ) (o : run ≡ operands_of tags values x) where
+  module _ (b : ConnectiveKind) (e : v ≡ Connective b) (run : List ℕ) (o : run ≡ operands_of tags values x) where
     run-here : all_before x run ≡ true
     run-here = rw o (run-before tags values x v is b e)
 
@@ -155,15 +168,23 @@ module _ (tags values memo : List ℕ) (x i : ℕ) (out : List ℕ) (at : ℕ) (
     run-counts : ClauseCounts tags values memo run
     run-counts = rw o (counts-operands tags values memo x ask.counted within b (sym e ∙ is))
 
-    module _ (t : b ≡ true) where
+    module _ (t : b ≡ And) where
       and_is : cnf (form_at tags values x) ≡ cnf_and (run_of tags values run)
       and_is = rw (read-connective tags values x v is b e, t, o)
 
-      module _ (c : Chosen) (k : c ≡ choose memo run i) where
+      there : (c : Chosen) × ((choose memo run i ≡ Some c) × Found tags values memo x (cnf (form_at tags values x)) i c)
+      there = rw and_is
+          (found tags values memo x within run run-counts run-here i (omega (arith, ask.small, ap length and_is)) (omega (arith, ask.index, ap length and_is)))
+
+      pub and-some : (w : Option Chosen) → w ≡ choose memo run i → is_some w ≡ true
+      and-some w q = rw (q, there.1.0)
+
+      module _ (w : Option Chosen) (q : w ≡ choose memo run i) (c : Chosen) (k : w ≡ Some c) where
         chosen : Found tags values memo x (cnf (form_at tags values x)) i c
         chosen =
-            rw (k, and_is)
-            (found tags values memo x within run run-counts run-here i (omega (arith, ask.small, ap length and_is)) (omega (arith, ask.index, ap length and_is)))
+            let both : Some there.0 ≡ Some c = sym there.1.0 ∙ (sym q ∙ k) in
+            let same : there.0 ≡ c = cc in
+            rw same at there.1.1
 
         -- the measure falls
         pub and-falls : (m : ℕ) → x * 2 + 1 ≡ m → c.place.0 * 2 + 1 < m
@@ -181,12 +202,12 @@ module _ (tags values memo : List ℕ) (x i : ℕ) (out : List ℕ) (at : ℕ) (
             → Written (get_or (cnf (form_at tags values x)) i []) out at after r
         and-written after r w = rw (← chosen.same) w
 
-    module _ (f : b ≡ false) where
+    module _ (f : b ≡ Or) where
       or_is : cnf (form_at tags values x) ≡ cnf_or (run_of tags values run)
       or_is = rw (read-connective tags values x v is b e, f, o)
 
-      pub or-ask : (total : ℕ) → total ≡ clauses_at memo x → AskRun tags values memo x run total i out at
-      or-ask total q = record {
+      pub or-ask : AskRun tags values memo x run (clauses_at memo x) i out at
+      or-ask = record {
         ask = record {
           counted = run-counts;
           small = rw or_is at ask.small;
@@ -195,7 +216,7 @@ module _ (tags values memo : List ℕ) (x i : ℕ) (out : List ℕ) (at : ℕ) (
         };
         before = run-here;
         within = within;
-        count = q ∙ (exact tags values memo x [] ask.counted within ask.small ∙ ap length or_is);
+        count = exact tags values memo x [] ask.counted within ask.small ∙ ap length or_is;
       }
 
       pub or-written : (after : List ℕ) (r : ℕ) → Written (get_or (cnf_or (run_of tags values run)) i []) out at after r

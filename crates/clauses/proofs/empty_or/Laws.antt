@@ -12,15 +12,17 @@ use borrow.Author.Tests.{eqb-true, eqb-false}
 use Rattle.cells.specs.declared.TermPlace.{TermPlace}
 use Rattle.cells.specs.Cell.{operands_of}
 use Rattle.cells.specs.ByPlace.{by-test}
+use Rattle.formulas.specs.declared.kinds.ConnectiveKind.{ConnectiveKind}
+use Rattle.formulas.specs.declared.kinds.ConnectiveKind.TheVariants.{And, Or}
 use Rattle.formulas.specs.declared.view.NormalView.{NormalView}
 use Rattle.formulas.specs.declared.view.NormalView.TheVariants.{Literal, Connective, Forall}
-use Rattle.formulas.specs.Formula.{all_before}
+use Rattle.formulas.specs.Formula.{is_and}
 use Rattle.formulas.specs.Normal.{Normal}
 use Rattle.formulas.specs.Clauses.{empty_or, empty_ors, is_empty_or}
 use Rattle.formulas.specs.Built.{normal_view, normals_of, form_at}
 use Rattle.cells.specs.Marks.{MarkNoted}
 use Rattle.clauses.specs.ClauseWalk.{NoneReached, Reached}
-use Rattle.formulas.proofs.Reading.{read-literal, read-forall, read-connective, run-before, zeros}
+use Rattle.formulas.proofs.Reading.{read-literal, read-forall, read-connective, zeros}
 
 -- ---- operands
 none-empty : (f : ℕ → Normal (List ℕ) ℕ) (b : Bool) (run : List ℕ) → length run ≡ 0
@@ -43,19 +45,25 @@ module _ (tags values : List ℕ) (x : ℕ) (memo : List ℕ) (v : NormalView) (
   pub term-forall : NoneReached tags values memo → (body : TermPlace) → v ≡ Forall body → Reached tags values memo false (empty_or (form_at tags values x))
   term-forall right body e = record { is = rw (read-forall tags values x v is body e); right = right }
 
-  module _ (b : Bool) (e : v ≡ Connective b) (run : List ℕ) (o : run ≡ operands_of tags values x) where
-    reached-is : is_empty_or b (normals_of (form_at tags values) run) || empty_ors (normals_of (form_at tags values) run) ≡ empty_or (form_at tags values x)
+  module _ (b : ConnectiveKind) (e : v ≡ Connective b) (run : List ℕ) (o : run ≡ operands_of tags values x) (m : Bool) (q : m ≡ eqb (length run) 0) where
+    reached-is : is_empty_or (is_and b) (normals_of (form_at tags values) run) || empty_ors (normals_of (form_at tags values) run) ≡ empty_or (form_at tags values x)
     reached-is = rw (read-connective tags values x v is b e, o)
 
-    pub term-before : all_before x run ≡ true
-    term-before = rw o (run-before tags values x v is b e)
+    empty_at : NoneReached tags values memo → m ≡ true → Reached tags values memo (not (is_and b)) (empty_or (form_at tags values x))
+    empty_at right y = record { is = none-empty _ (is_and b) run (eqb-true _ _ (sym q ∙ y)) ∙ reached-is; right = right }
 
-    pub term-empty : NoneReached tags values memo → length run ≡ 0 → Reached tags values memo (not b) (empty_or (form_at tags values x))
-    term-empty right z = record { is = none-empty _ b run z ∙ reached-is; right = right }
+    pub term-or : NoneReached tags values memo → m ≡ true → b ≡ Or → Reached tags values memo true (empty_or (form_at tags values x))
+    term-or right y k = rw k at (empty_at right y)
 
-    pub term-run : (length run ≡ 0 → ⊥) → (s : Bool) → Reached tags values memo s (empty_ors (normals_of (form_at tags values) run))
+    pub term-and : NoneReached tags values memo → m ≡ true → b ≡ And → Reached tags values memo false (empty_or (form_at tags values x))
+    term-and right y k = rw k at (empty_at right y)
+
+    pub term-run : m ≡ false → (s : Bool) → Reached tags values memo s (empty_ors (normals_of (form_at tags values) (operands_of tags values x)))
         → Reached tags values memo s (empty_or (form_at tags values x))
-    term-run some s a = record { is = a.is ∙ (sym (some-empty _ b run some) ∙ reached-is); right = a.right }
+    term-run n s a = record {
+      is = (rw (← o) at a.is) ∙ (sym (some-empty _ (is_and b) run (eqb-false _ _ (sym q ∙ n))) ∙ reached-is);
+      right = a.right;
+    }
 
 module _ (tags values : List ℕ) (x : ℕ) (memo : List ℕ) (s : Bool) (a : Reached tags values memo s (empty_or (form_at tags values x))) where
   -- a right no keeps the memo right
@@ -77,7 +85,7 @@ pub record RunLeft (tags values run memo : List ℕ) (i : ℕ) : Type 0 where
   pub right : NoneReached tags values memo
   pub left : empty_ors (normals_of (form_at tags values) run) ≡ empty_ors (normals_of (form_at tags values) (drop i run))
 
-pub ruleset walks = (term-literal, term-forall, term-empty, term-run, noted)
+pub ruleset walks = (term-literal, term-forall, term-or, term-and, term-run, noted)
 
 -- ---- a fresh memo
 pub fresh : (tags values : List ℕ) (k : ℕ) → NoneReached tags values (replicate k 0)

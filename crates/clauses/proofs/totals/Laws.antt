@@ -2,7 +2,7 @@
 -- Assumes nothing.
 use Prim.Native.Nat.{ℕ, suc, ◌+◌, ◌-◌, ◌*◌, ◌/◌, ◌%◌, ◌^◌, ◌≤◌, ◌<◌, min}
 use mathlib.Core.Path.{◌≡◌, refl, sym, ap, ap₂, ◌∙◌}
-use mathlib.Core.Bool.{Bool, true, false}
+use mathlib.Core.Bool.{Bool}
 use mathlib.Core.List.{List, [], ◌∷◌, reverse}
 use lib.ListN.{length, get_or, drop, set, replicate, length-set, length-replicate, get_or-eq_default}
 use lib.Seq.{drop-cons, drop-length, get_or-set_same, get_or-set_other, set_out}
@@ -14,6 +14,9 @@ use borrow.Author.Tests.{leb-true, leb-false, eqb-true, eqb-false}
 use Rattle.cells.specs.declared.TermPlace.{TermPlace}
 use Rattle.cells.specs.Cell.{operands_of}
 use Rattle.cells.specs.ByPlace.{by-test}
+use Rattle.formulas.specs.Formula.{is_and}
+use Rattle.formulas.specs.declared.kinds.ConnectiveKind.{ConnectiveKind}
+use Rattle.formulas.specs.declared.kinds.ConnectiveKind.TheVariants.{And, Or}
 use Rattle.formulas.specs.declared.view.NormalView.{NormalView}
 use Rattle.formulas.specs.declared.view.NormalView.TheVariants.{Literal, Connective, Forall}
 use Rattle.clauses.specs.declared.totals.Totals as code
@@ -31,23 +34,23 @@ product-fits a b ha hb =
     let h : a * b ≤ 4294967295 * 4294967295 = mul-le-mul {n₂ = 4294967295} {m₂ = 4294967295} (omega arith) (omega arith) in
     omega arith
 
-pub start-and : (b : Bool) → b ≡ true → record { clauses = 0; literals = 0 } ≡ cap 8193 (start_of b)
+pub start-and : (b : ConnectiveKind) → b ≡ And → record { clauses = 0; literals = 0 } ≡ cap 8193 (start_of (is_and b))
 start-and b e = rw e
 
-pub start-or : (b : Bool) → b ≡ false → record { clauses = 1; literals = 0 } ≡ cap 8193 (start_of b)
+pub start-or : (b : ConnectiveKind) → b ≡ Or → record { clauses = 1; literals = 0 } ≡ cap 8193 (start_of (is_and b))
 start-or b e = rw e
 
 pub noted-is : (memo : List ℕ) (u e : ℕ) → e ≡ get_or memo u 0 → record { clauses = e / entry_base; literals = (e - 1) % entry_base } ≡ memo_at memo u
 noted-is memo u e p = rw p
 
-module _ (all : Bool) (t u : code.Totals) (c l : ℕ) where
-  pub combine-sums : all ≡ true → c ≡ min 8193 (t.clauses + u.clauses) → l ≡ min 8193 (t.literals + u.literals)
-      → record { clauses = c; literals = l } ≡ cap 8193 (combine all (as_totals t) (as_totals u))
+module _ (b : ConnectiveKind) (t u : code.Totals) (c l : ℕ) where
+  pub combine-sums : b ≡ And → c ≡ min 8193 (t.clauses + u.clauses) → l ≡ min 8193 (t.literals + u.literals)
+      → record { clauses = c; literals = l } ≡ cap 8193 (combine (is_and b) (as_totals t) (as_totals u))
   combine-sums e p q = rw (e, p, q)
 
-  pub combine-products : all ≡ false → c ≡ min 8193 (t.clauses * u.clauses)
+  pub combine-products : b ≡ Or → c ≡ min 8193 (t.clauses * u.clauses)
       → (x y : ℕ) → x ≡ min 8193 (t.literals * u.clauses) → y ≡ min 8193 (u.literals * t.clauses) → l ≡ min 8193 (x + y)
-      → record { clauses = c; literals = l } ≡ cap 8193 (combine all (as_totals t) (as_totals u))
+      → record { clauses = c; literals = l } ≡ cap 8193 (combine (is_and b) (as_totals t) (as_totals u))
   combine-products e p x y hx hy q = rw (e, p, q, hx, hy, ← cut-add 8193 (t.literals * u.clauses) (u.literals * t.clauses))
 
 pub ruleset steps = (start-and, start-or, noted-is, combine-sums, combine-products)
@@ -120,7 +123,7 @@ kept_set memo x n = record {
 
 module _ (tags values : List ℕ) (x : ℕ) (memo : List ℕ) (right : Memo tags values memo)
     (t : code.Totals) (is : as_totals t ≡ cap 8193 (totals (form_at tags values x)))
-    (down : (b : Bool) → Connective b ≡ normal_view tags values x → AllCounted memo (operands_of tags values x)) where
+    (down : (b : ConnectiveKind) → Connective b ≡ normal_view tags values x → AllCounted memo (operands_of tags values x)) where
   set_keeps : CountedKept memo (set memo x (entry_of t))
   set_keeps = kept_set memo x (entry_base * t.clauses + t.literals)
 
@@ -167,10 +170,10 @@ run-counted tags values memo right b (u ∷ run) all =
     ∙ sym (cap-combine 8193 b (totals (form_at tags values u)) (totals_of b (normals_of (form_at tags values) run)))
 
 module _ (tags values : List ℕ) (x : ℕ) (v : NormalView) (is : v ≡ normal_view tags values x) where
-  literal-no-run : v ≡ Literal → (b : Bool) → Connective b ≡ normal_view tags values x → ⊥
+  literal-no-run : v ≡ Literal → (b : ConnectiveKind) → Connective b ≡ normal_view tags values x → ⊥
   literal-no-run e b q = no-literal b (q ∙ (sym is ∙ e))
 
-  forall-no-run : (body : TermPlace) → v ≡ Forall body → (b : Bool) → Connective b ≡ normal_view tags values x → ⊥
+  forall-no-run : (body : TermPlace) → v ≡ Forall body → (b : ConnectiveKind) → Connective b ≡ normal_view tags values x → ⊥
   forall-no-run body e b q = no-forall b body (q ∙ (sym is ∙ e))
 
   module _ (memo : List ℕ) (right : Memo tags values memo) (t : code.Totals) (one : as_totals t ≡ one_literal)
@@ -185,7 +188,7 @@ module _ (tags values : List ℕ) (x : ℕ) (v : NormalView) (is : v ≡ normal_
         noted-counted tags values x memo right t (one ∙ rw (read-forall tags values x v is body e)) (λ b q. absurd (forall-no-run body e b q))
         memo (kept_same memo) memo' r n
 
-  module _ (b : Bool) (e : v ≡ Connective b) where
+  module _ (b : ConnectiveKind) (e : v ≡ Connective b) where
     pub term-operands : (memo : List ℕ) → Memo tags values memo → AskOperands tags values memo x
     term-operands memo right = record {
       right = right;
@@ -194,11 +197,11 @@ module _ (tags values : List ℕ) (x : ℕ) (v : NormalView) (is : v ≡ normal_
     }
 
     pub term-connective : (memo₀ memo : List ℕ) → OperandsCounted tags values x memo₀ memo
-        → (run : List ℕ) → run ≡ operands_of tags values x → (t : code.Totals) → as_totals t ≡ run_totals b (memo_at memo) run
+        → (run : List ℕ) → run ≡ operands_of tags values x → (t : code.Totals) → as_totals t ≡ run_totals (is_and b) (memo_at memo) run
         → (memo' : List ℕ) (r : code.Totals) → TotalsNoted memo x t memo' r → TermCounted tags values x memo₀ memo' r
     term-connective memo₀ memo a run o t q memo' r n =
         noted-counted tags values x memo a.right t
-        (rw (read-connective tags values x v is b e) (rw o at q ∙ run-counted tags values memo a.right b (operands_of tags values x) a.all))
+        (rw (read-connective tags values x v is b e) (rw o at q ∙ run-counted tags values memo a.right (is_and b) (operands_of tags values x) a.all))
         (λ c p. a.all) memo₀ a.kept memo' r n
 
 -- ---- totals fit an entry

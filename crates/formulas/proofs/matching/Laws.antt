@@ -19,6 +19,7 @@ use Rattle.bindings.specs.Binding.{bindings_of}
 use Rattle.cells.specs.Place.{term_at}
 use Rattle.formulas.specs.Pattern.{quantifier, operator, one_of, two_of, three_of, and_then}
 use Rattle.formulas.specs.PatternAnswer.{pairs_of, quantifier_in, of_count, cells_in}
+use Rattle.formulas.specs.declared.kinds.QuantifierKind.TheVariants.{Forall, Exists}
 use Rattle.formulas.specs.declared.matching.Quantified.{Quantified}
 
 -- ---- the quantifier at x: what `quantified_at` says of it
@@ -27,11 +28,11 @@ Reads tags values x q = quantifier tags values x ≡ quantifier_in (bindings_of 
 
 module _ (tags values : List ℕ) (x tag : ℕ) (is : tag ≡ get_or tags x 0) where
   module _ (run : List ℕ) (o : run ≡ operands_of tags values x) (body : ℕ) (b : body ≡ get_or run 0 0) where
-    pub quantifier-forall : tag ≡ 23 → Reads tags values x (Some (record { kind = true; body = term_at body }))
+    pub quantifier-forall : tag ≡ 23 → Reads tags values x (Some (record { kind = Forall; body = term_at body }))
     unfolding quantifier quantifier_in pairs_of
     quantifier-forall e = rw (← is, eq-eqb _ _ e, b, o)
 
-    pub quantifier-exists : tag ≡ 24 → Reads tags values x (Some (record { kind = false; body = term_at body }))
+    pub quantifier-exists : tag ≡ 24 → Reads tags values x (Some (record { kind = Exists; body = term_at body }))
     unfolding quantifier quantifier_in pairs_of
     quantifier-exists e = rw (← is, e, b, o)
 

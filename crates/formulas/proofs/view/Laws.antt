@@ -13,6 +13,8 @@ use Rattle.cells.specs.Cell.{sort_of, operands_of}
 use Rattle.cells.specs.Place.{term_at}
 use Rattle.formulas.specs.Formula.{all_before, equality, connective, quantifier, view_of}
 use Rattle.formulas.specs.Built.{normal_view}
+use Rattle.formulas.specs.declared.kinds.ConnectiveKind.TheVariants.{And, Or}
+use Rattle.formulas.specs.declared.kinds.QuantifierKind.TheVariants as kind
 use Rattle.formulas.specs.declared.view.View.{View}
 use Rattle.formulas.specs.declared.view.View.TheVariants.{Opaque, Not, AndOr, Implies, Ite, Iff, Quantifier}
 use Rattle.formulas.specs.declared.view.NormalView.TheVariants.{Literal, Connective, Forall}
@@ -39,12 +41,12 @@ module _ (values os : List ℕ) where
 pub ruleset equalities = (equality-count, equality-sort, equality-bool)
 
 module _ (values : List ℕ) (tag : ℕ) (os : List ℕ) where
-  pub is-and : tag ≡ 36 → AndOr true ≡ connective values tag os
+  pub is-and : tag ≡ 36 → AndOr And ≡ connective values tag os
   unfolding connective
   is-and e = rw (eq-eqb _ _ e)
 
   module _ (n36 : tag ≡ 36 → ⊥) where
-    pub is-or : tag ≡ 37 → AndOr false ≡ connective values tag os
+    pub is-or : tag ≡ 37 → AndOr Or ≡ connective values tag os
     unfolding connective
     is-or e = rw (ne_eqb _ _ n36, eq-eqb _ _ e)
 
@@ -87,11 +89,11 @@ module _ (values : List ℕ) (tag : ℕ) (os : List ℕ) where
 pub ruleset connectives = (is-and, is-or, is-equality, not-other, is-not, implies-other, is-implies, ite-other, is-ite, no-connective)
 
 module _ (tag body : ℕ) where
-  pub is-forall : tag ≡ 23 → Quantifier true (term_at body) ≡ quantifier tag body
+  pub is-forall : tag ≡ 23 → Quantifier kind.Forall (term_at body) ≡ quantifier tag body
   unfolding quantifier
   is-forall e = rw (eq-eqb _ _ e)
 
-  pub is-exists : tag ≡ 24 → Quantifier false (term_at body) ≡ quantifier tag body
+  pub is-exists : tag ≡ 24 → Quantifier kind.Exists (term_at body) ≡ quantifier tag body
   unfolding quantifier
   is-exists e = rw (ne_eqb tag 23 (λ f. omega arith), eq-eqb _ _ e)
 
@@ -135,12 +137,12 @@ module _ (tags values : List ℕ) (t tag : ℕ) (is-tag : tag ≡ get_or tags t 
     literal-late e = rw (← is-tag, ← is-run, ne_eqb _ _ h, ← is, not-true b e)
 
     module _ (e : not b ≡ false) where
-      pub and_view : tag ≡ 36 → Connective true ≡ normal_view tags values t
+      pub and_view : tag ≡ 36 → Connective And ≡ normal_view tags values t
       unfolding normal_view
       and_view q = rw (← is-tag, ← is-run, ne_eqb _ _ h, ← is, not-false b e, eq-eqb _ _ q)
 
       module _ (n : tag ≡ 36 → ⊥) where
-        pub or-view : tag ≡ 37 → Connective false ≡ normal_view tags values t
+        pub or-view : tag ≡ 37 → Connective Or ≡ normal_view tags values t
         unfolding normal_view
         or-view q = rw (← is-tag, ← is-run, ne_eqb _ _ h, ← is, not-false b e, ne_eqb _ _ n, eq-eqb _ _ q)
 

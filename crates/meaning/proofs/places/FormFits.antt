@@ -23,6 +23,8 @@ use Rattle.meaning.proofs.trees.Walk.{place-described}
 use Rattle.meaning.proofs.trees.Tags.{shape-op, by-term-tag}
 use Rattle.meaning.proofs.trees.Parts.{from_one, from-two}
 use Rattle.meaning.proofs.trees.Terms.{even-rest}
+use Rattle.formulas.specs.declared.kinds.ConnectiveKind.TheVariants.{And, Or}
+use Rattle.formulas.specs.declared.kinds.QuantifierKind.TheVariants.{Forall, Exists}
 use Rattle.formulas.specs.declared.view.View.{View}
 use Rattle.formulas.specs.declared.view.View.TheVariants.{Opaque, Not, AndOr, Implies, Ite, Iff, Quantifier}
 use Rattle.formulas.specs.Formula.{Form, Forms, opaque, neg, many, imp, ite, iff, all, fnil, fcons, all_before, equality, connective, quantifier, view_of, forms_of, form_by, form}
@@ -109,8 +111,8 @@ module _ (tags values : List ℕ) (t : ℕ) where
     connective-seen : (k : ℕ) → Seen (connective values k os) os
     unfolding connective equality
     connective-seen k =
-        either (eqb k 36) (AndOr true) _ os (λ e. a)
-        (λ e. either (eqb k 37) (AndOr false) _ os (λ e. a)
+        either (eqb k 36) (AndOr And) _ os (λ e. a)
+        (λ e. either (eqb k 37) (AndOr Or) _ os (λ e. a)
         (λ e. either (eqb k 39) (equality values os) _ os
         (λ e. either (eqb (length os) 2) _ Opaque os
         (λ o. either (eqb (sort_of values (get_or os 0 0)) 0) (Iff (term_at (get_or os 0 0)) (term_at (get_or os 1 0))) Opaque os
@@ -162,9 +164,9 @@ module _ (tags values : List ℕ) (t : ℕ) where
       (λ e f. opaque-seen (ltb 0 t) [])
       (λ e f. opaque-seen (ltb (get_or (drop 1 cells) 0 0) t) (drop 1 cells))
       (λ e. from-two (λ cs. length cs % 2 ≡ 0 → Right 23 cs)
-      (λ s b cs o f. either (ltb b t) (Quantifier true (term_at b)) Opaque (b ∷ cs) (λ z. (term-cell tags t b f.1.0, (omega arith, f.1.1))) (λ z. tt)) cells (even-rest _ e).0 (even-rest _ e).1)
+      (λ s b cs o f. either (ltb b t) (Quantifier Forall (term_at b)) Opaque (b ∷ cs) (λ z. (term-cell tags t b f.1.0, (omega arith, f.1.1))) (λ z. tt)) cells (even-rest _ e).0 (even-rest _ e).1)
       (λ e. from-two (λ cs. length cs % 2 ≡ 0 → Right 24 cs)
-      (λ s b cs o f. either (ltb b t) (Quantifier false (term_at b)) Opaque (b ∷ cs) (λ z. (term-cell tags t b f.1.0, (omega arith, f.1.1))) (λ z. tt)) cells (even-rest _ e).0 (even-rest _ e).1)
+      (λ s b cs o f. either (ltb b t) (Quantifier Exists (term_at b)) Opaque (b ∷ cs) (λ z. (term-cell tags t b f.1.0, (omega arith, f.1.1))) (λ z. tt)) cells (even-rest _ e).0 (even-rest _ e).1)
       (λ e f. opaque-seen (ltb (get_or (drop 1 cells) 0 0) t) (drop 1 cells))
       (λ e f. opaque-seen (ltb (get_or (drop 1 cells) 0 0) t) (drop 1 cells))
       (λ e f. opaque-seen (ltb (get_or (drop 1 cells) 0 0) t) (drop 1 cells))

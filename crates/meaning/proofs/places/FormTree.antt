@@ -33,9 +33,12 @@ use Rattle.meaning.proofs.trees.Terms.{term_is, term-op, even-rest}
 use Rattle.meaning.proofs.trees.Stated.{sort-place, stated-is}
 use Rattle.meaning.proofs.trees.Forms.{tag_of}
 use Rattle.meaning.proofs.trees.Passed.{Passed, one-sort}
+use Rattle.formulas.specs.declared.kinds.ConnectiveKind.TheVariants.{And, Or}
+use Rattle.formulas.specs.declared.kinds.QuantifierKind.{QuantifierKind}
+use Rattle.formulas.specs.declared.kinds.QuantifierKind.TheVariants.{Forall, Exists}
 use Rattle.formulas.specs.declared.view.View.{View}
 use Rattle.formulas.specs.declared.view.View.TheVariants.{Opaque, Not, AndOr, Implies, Ite, Iff, Quantifier}
-use Rattle.formulas.specs.Formula.{Form, opaque, neg, many, imp, ite, iff, all, fcons, all_before, equality, connective, quantifier, view_of, forms_of, form_by, form}
+use Rattle.formulas.specs.Formula.{Form, opaque, neg, many, imp, ite, iff, all, fcons, is_forall, all_before, equality, connective, quantifier, view_of, forms_of, form_by, form}
 use Rattle.formulas.specs.Mapped.{map_f, map_fs}
 use Rattle.meaning.specs.Skeleton.{not_of, implies_of, ite_of, iff_of, form_of, left_bool, skeleton, skeletons}
 use Rattle.meaning.proofs.places.Operands.{IsTerm, AllTerms, all-terms, all-before}
@@ -144,8 +147,8 @@ module _ (tags values : List ℕ) (n : ℕ) (whole : n ≤ length values) (forme
           → Reads os (connective values k os) (form_of x k (left_bool (terms_of (tree tags values) os)) (skeletons (terms_of (tree tags values) os)))
       unfolding connective form_of form_by
       connective-reads k os a =
-          either os (eqb k 36) (AndOr true) _ _ _ (ap (many true) (forms-are os a))
-          (either os (eqb k 37) (AndOr false) _ _ _ (ap (many false) (forms-are os a))
+          either os (eqb k 36) (AndOr And) _ _ _ (ap (many true) (forms-are os a))
+          (either os (eqb k 37) (AndOr Or) _ _ _ (ap (many false) (forms-are os a))
           (either os (eqb k 39) (equality values os) _ _ _ (equality-reads os a)
           (either os (eqb k 34) _ _ _ _ (not-reads os a)
           (either os (eqb k 35) _ _ _ _ (implies-reads os a)
@@ -182,10 +185,10 @@ module _ (tags values : List ℕ) (n : ℕ) (whole : n ≤ length values) (forme
         rw (le-ltb k 22 (omega arith), le-ltb k 32 l, all-before tags t os a, made-is) (connective-reads _ (is ∙ made-is) k os a))
         cells (leb-true 1 (length cells) (rw (shape-op k l m) at c)) is (rw (shape-op k l m) at f)
 
-    quantifier-reads : (b : Bool) (k s body : ℕ) (cs : List ℕ) → IsTerm tags t body → (ltb k 22 ≡ false) → (ltb k 32 ≡ true) → quantifier k body ≡ Quantifier b (term_at body)
-        → Reads (body ∷ cs) (view k (s ∷ (body ∷ cs))) (all b (vars_at tags values cs) (skeleton (tree tags values body)))
+    quantifier-reads : (b : QuantifierKind) (k s body : ℕ) (cs : List ℕ) → IsTerm tags t body → (ltb k 22 ≡ false) → (ltb k 32 ≡ true) → quantifier k body ≡ Quantifier b (term_at body)
+        → Reads (body ∷ cs) (view k (s ∷ (body ∷ cs))) (all (is_forall b) (vars_at tags values cs) (skeleton (tree tags values body)))
     unfolding form_by
-    quantifier-reads b k s body cs a e₁ e₂ e₃ = rw (e₁, e₂, lt-ltb body t a.0, e₃) (ap (all b (vars_at tags values cs)) (right-at body a))
+    quantifier-reads b k s body cs a e₁ e₂ e₃ = rw (e₁, e₂, lt-ltb body t a.0, e₃) (ap (all (is_forall b) (vars_at tags values cs)) (right-at body a))
 
     reads : (cells : List ℕ) (k : ℕ) → is_term_tag k ≡ true → count_fits (shape_of k) (length cells) ≡ true → Right k cells
     unfolding skeleton term_from quantifier shape_of count_fits kind_at pair_kind
@@ -198,8 +201,8 @@ module _ (tags values : List ℕ) (n : ℕ) (whole : n ≤ length values) (forme
         (λ e is f. opaque-reads [] (ltb 0 t) _ is)
         (λ e is f. opaque-reads [] (ltb 0 t) _ is)
         (λ e is f. opaque-reads (drop 1 cells) (ltb (get_or (drop 1 cells) 0 0) t) _ is)
-        (λ e. from-two (Right 23) (λ s b cs is f. quantifier-reads true 23 s b cs (term-cell tags t b f.1.0) refl refl refl) cells (even-rest _ e).0)
-        (λ e. from-two (Right 24) (λ s b cs is f. quantifier-reads false 24 s b cs (term-cell tags t b f.1.0) refl refl refl) cells (even-rest _ e).0)
+        (λ e. from-two (Right 23) (λ s b cs is f. quantifier-reads Forall 23 s b cs (term-cell tags t b f.1.0) refl refl refl) cells (even-rest _ e).0)
+        (λ e. from-two (Right 24) (λ s b cs is f. quantifier-reads Exists 24 s b cs (term-cell tags t b f.1.0) refl refl refl) cells (even-rest _ e).0)
         (λ e is f. opaque-reads (drop 1 cells) (ltb (get_or (drop 1 cells) 0 0) t) _ is)
         (λ e is f. opaque-reads (drop 1 cells) (ltb (get_or (drop 1 cells) 0 0) t) _ is)
         (λ e is f. opaque-reads (drop 1 cells) (ltb (get_or (drop 1 cells) 0 0) t) _ is)

@@ -1,6 +1,5 @@
 use Rattle.building.specs.Walk.{normal}
-use Rattle.descriptions.specs.Index.{Index}
-use Rattle.building.proofs.build.Walks.{OperandsLeft}
+use Rattle.building.proofs.build.Walks.{OperandsWalked}
 use Rattle.building.proofs.negation_normal_form.Laws.{max_of}
 use Prim.Native.Nat.{◌+◌, ◌*◌}
 use Rattle.building.proofs.negation_normal_form.+connective_form_expand_negation_normal_form_operand_forms_pair_of_quantifier_form_two_pairs.Given as goal
@@ -27,4 +26,4 @@ abbrev pub decreases-two_pairs : goal.decreases-two_pairs
 decreases-two_pairs l = max_of (max_of l.a.0 l.b.0) (max_of l.c.0.0 l.d.0) * 32768 + 24578
 
 abbrev pub invariant-operand_forms-loop-i : goal.invariant-operand_forms-loop-i
-invariant-operand_forms-loop-i l = OperandsLeft normal l.end l.n l.initial.tags l.initial.values l.initial.work l.t.0 l.polarity l.m l.tags l.values l.work l.i × Index l.tags l.values l.m l.index
+invariant-operand_forms-loop-i l = OperandsWalked normal l.end l.initial.pool l.initial.work l.t.0 l.polarity l.pool l.work l.i

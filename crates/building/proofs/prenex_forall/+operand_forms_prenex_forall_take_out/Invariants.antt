@@ -1,7 +1,6 @@
 use mathlib.Core.Bool.{true}
 use Rattle.building.specs.Walk.{taken_out}
-use Rattle.descriptions.specs.Index.{Index}
-use Rattle.building.proofs.build.Walks.{OperandsLeft}
+use Rattle.building.proofs.build.Walks.{OperandsWalked}
 use Prim.Native.Nat.{◌+◌, ◌*◌}
 use Rattle.building.proofs.prenex_forall.+operand_forms_prenex_forall_take_out.Given as goal
 
@@ -15,4 +14,4 @@ abbrev pub decreases-take_out : goal.decreases-take_out
 decreases-take_out l = l.x.0 * 32768 + 16384
 
 abbrev pub invariant-operand_forms-loop-i : goal.invariant-operand_forms-loop-i
-invariant-operand_forms-loop-i l = OperandsLeft taken_out l.end l.n l.initial.tags l.initial.values l.initial.work l.x.0 true l.m l.tags l.values l.work l.i × Index l.tags l.values l.m l.index
+invariant-operand_forms-loop-i l = OperandsWalked taken_out l.end l.initial.pool l.initial.work l.x.0 true l.pool l.work l.i

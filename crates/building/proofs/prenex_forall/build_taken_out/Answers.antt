@@ -1,10 +1,5 @@
-use Rattle.building.proofs.build.Indexing.{indexings}
-use Rattle.building.proofs.build.Walks.{ready-empty}
 use Rattle.building.proofs.prenex_forall.Laws.{taken-built}
 use Rattle.building.proofs.prenex_forall.build_taken_out.Goals as goal
 
-pub prenex_forall-requires : goal.prenex_forall-requires
-prenex_forall-requires c = search ready-empty
-
-pub returns : goal.returns
-returns c = search (taken-built, indexings)
+pub returns-clause-normal_built : goal.returns-clause-normal_built
+returns-clause-normal_built c = taken-built _ _ _ _ _ _ _ _ _ c.prenex_forall.ensures.known

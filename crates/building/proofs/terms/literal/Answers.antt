@@ -1,9 +1,8 @@
-use Rattle.building.proofs.build.Indexing.{indexings}
-use Rattle.building.proofs.terms.Cells.{terms}
+use Rattle.building.proofs.terms.Cells.{literals}
 use Rattle.building.proofs.terms.literal.Goals as goal
 
-pub returns-then-polarity : goal.returns-then-polarity
-returns-then-polarity c = search (terms, indexings)
+pub returns-then-polarity-clause-puts : goal.returns-then-polarity-clause-puts
+returns-then-polarity-clause-puts c = search literals
 
-pub returns : goal.returns
-returns c = search (terms, indexings)
+pub returns-clause-puts : goal.returns-clause-puts
+returns-clause-puts c = search literals

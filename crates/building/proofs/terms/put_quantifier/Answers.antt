@@ -1,15 +1,6 @@
-use borrow.Author.Rules.{rules}
-use Rattle.building.proofs.terms.Cells.{terms, parts}
+use mathlib.Core.Path.{◌∙◌}
+use Rattle.building.proofs.terms.Cells.{run_short}
 use Rattle.building.proofs.terms.put_quantifier.Goals as goal
 
-pub slice_bounds-operands-end-2 : goal.slice_bounds-operands-end-2
-slice_bounds-operands-end-2 c = search parts
-
-pub slice_bounds-operands-end-4 : goal.slice_bounds-operands-end-4
-slice_bounds-operands-end-4 c = search parts
-
-pub gather_pairs-k-requires : goal.gather_pairs-k-requires
-gather_pairs-k-requires c = search parts
-
-pub returns : goal.returns
-returns c = (record { puts = search terms; indexed = search rules; memo_kept = search rules })
+pub gather_pairs-k-requires-clause-run_len_bound : goal.gather_pairs-k-requires-clause-run_len_bound
+gather_pairs-k-requires-clause-run_len_bound c = run_short _ _ _ _ c.requires.pool_ready.state _ c.requires.t_lt_end _ (c.operands-run.ensures ∙ rw (c.first-source.ensures.tags, c.first-source.ensures.values))

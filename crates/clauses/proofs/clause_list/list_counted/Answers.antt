@@ -16,8 +16,8 @@ returns-then-totals-gt-MAX_CLAUSES c =
           many-literals _ _ _ _ _ c.requires _ _ _ c.list_totals-totals.ensures w.if-totals-gt-MAX_CLAUSES.false w.if-totals-gt-MAX_LITERALS.true
     ]
 
-pub write_list-requires : goal.write_list-requires
-write_list-requires c = search fits-ask
+pub write_all-requires : goal.write_all-requires
+write_all-requires c = search fits-ask
 
 pub returns : goal.returns
 returns c = search fits-answer

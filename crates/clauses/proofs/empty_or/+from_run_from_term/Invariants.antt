@@ -10,4 +10,4 @@ abbrev pub decreases-from_term : goal.decreases-from_term
 decreases-from_term l = l.x.0 * 2 + 1
 
 abbrev pub invariant-from_run-loop-u : goal.invariant-from_run-loop-u
-invariant-from_run-loop-u l = RunLeft l.tags l.values l.run l.memo l.u-index
+invariant-from_run-loop-u l = RunLeft l.pool.tags.now l.pool.values.now l.run l.memo l.u-index

@@ -10,4 +10,4 @@ abbrev pub decreases-list_totals : goal.decreases-list_totals
 decreases-list_totals l = l.x.0 * 2 + 1
 
 abbrev pub invariant-count_operands-loop-u : goal.invariant-count_operands-loop-u
-invariant-count_operands-loop-u l = CountedTo l.tags l.values l.u-items l.initial.memo l.memo l.u-index
+invariant-count_operands-loop-u l = CountedTo l.pool.tags.now l.pool.values.now l.u-items l.initial.memo l.memo l.u-index

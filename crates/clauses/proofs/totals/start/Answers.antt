@@ -1,8 +1,8 @@
 use Rattle.clauses.proofs.totals.Laws.{steps}
 use Rattle.clauses.proofs.totals.start.Goals as goal
 
-pub returns-then-all : goal.returns-then-all
-returns-then-all c = search steps
+pub returns-in-And : goal.returns-in-And
+returns-in-And c = search steps
 
-pub returns : goal.returns
-returns c = search steps
+pub returns-in-Or : goal.returns-in-Or
+returns-in-Or c = search steps
