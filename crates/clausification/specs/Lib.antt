@@ -4,3 +4,4 @@ pub mod Promises
 pub mod QntCnf
 pub mod TakenList
 pub mod TakenSearch
+pub mod Searching

@@ -1,11 +1,10 @@
 -- The search among the variables that are taken out of a term in normal form: what is sought, and what the walk and its memo promise.
 -- The memo is no part of a public contract.
--- Rests on cells' Cell, on bindings' Binding and BindingAnswer, on free_pairs' BindingFree, on free_variables' Names, on formulas' Formula,
--- Normal and Built, and on the enums `Sought` and `Step`.
-use Rattle.std.specs.Prelude.{ℕ, ◌<◌, ◌≡◌, Bool, true, not, ◌&&◌, List, get_or, set, Option, Some, None}
-use Rattle.cells.specs.Cell.{operands_of}
+-- Rests on bindings' Binding and BindingAnswer, on free_pairs' BindingFree, on free_variables' Names, on formulas'
+-- Normal and Built, and on the enum `Sought`.
+use Rattle.std.specs.Prelude.{ℕ, ◌≡◌, Bool, not, ◌&&◌, List, get_or, set, Option, Some, None}
+use Rattle.cells.specs.declared.TermPlace.{TermPlace}
 use Rattle.free_variables.specs.Names.{free_in, NamesMarked}
-use Rattle.formulas.specs.Formula.{all_before}
 use Rattle.formulas.specs.Normal.{taken, takens}
 use Rattle.formulas.specs.Built.{normals_of, form_at}
 use Rattle.bindings.specs.Binding.{Binding, bindings_of, same, has, first_of}
@@ -13,8 +12,6 @@ use Rattle.free_pairs.specs.BindingFree.{binding_free}
 use Rattle.bindings.specs.BindingAnswer.{binding, name_of}
 use Rattle.clausification.specs.declared.taken_search.Sought.{Sought}
 use Rattle.clausification.specs.declared.taken_search.Sought.TheVariants.{Pair, Missing}
-use Rattle.clausification.specs.declared.taken_search.Step.{Step}
-use Rattle.clausification.specs.declared.taken_search.Step.TheVariants as step
 
 -- a pair is the one sought; or the right list lacks it, and its variable is free in the term at t
 unfoldable pub is_sought : List ℕ → List ℕ → ℕ → List Binding → Sought → Binding → Bool
@@ -22,9 +19,8 @@ is_sought tags values n right (Pair v) b = same b (binding v)
 is_sought tags values n right (Missing t) b = not (has right b) && binding_free tags values n t.0 b
 
 -- the table has the names of the term where a missing variable is to be free
-abbrev pub Tabled : List ℕ → List ℕ → List ℕ → Sought → Type 0
-Tabled tags values names (Pair v) = Unit {0}
-Tabled tags values names (Missing t) = NamesMarked tags values names (free_in tags values t.0)
+pub record Tabled (tags values names : List ℕ) (sought : Sought) : Type 0 where
+  pub at : (t : TermPlace) → sought ≡ Missing t → NamesMarked tags values names (free_in tags values t.0)
 
 module _ (tags values : List ℕ) (test : Binding → Bool) where
   -- the first of the variables that are taken out of the term at x
@@ -34,14 +30,6 @@ module _ (tags values : List ℕ) (test : Binding → Bool) where
   -- and of the terms of a run
   unfoldable pub found_in : List ℕ → Option ℕ
   found_in run = name_of (first_of test (takens bindings_of (normals_of (form_at tags values) run)))
-
--- what each step at x says of the answer there
-abbrev pub StepMeans : List ℕ → List ℕ → (Binding → Bool) → ℕ → Step → Type 0
-StepMeans tags values test x (step.Found a) = Some a ≡ found_at tags values test x
-StepMeans tags values test x step.Nothing = None ≡ found_at tags values test x
-StepMeans tags values test x (step.Body u) = (u.0 < x) × (found_at tags values test u.0 ≡ found_at tags values test x)
-StepMeans tags values test x step.Run =
-    (all_before x (operands_of tags values x) ≡ true) × (found_in tags values test (operands_of tags values x) ≡ found_at tags values test x)
 
 -- the memo: nothing is found from a place whose entry is 1; any other entry says nothing
 pub record SearchMemo (tags values : List ℕ) (test : Binding → Bool) (seen : List ℕ) : Type 0 where

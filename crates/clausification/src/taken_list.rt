@@ -2,6 +2,7 @@
 // a byte for each place, keeps the places whose variables are collected. A pool of at most 8,192 cells has no more pairs
 // than the array has room for; where other arguments fill it, each pair of the list is sought by a walk of its own.
 ghost use Rattle.std.specs.Prelude.{◌≡◌, true, not, ◌++◌, ◌≤◌, length};
+ghost use Rattle.cells.specs.Cell.{operands_of};
 ghost use Rattle.formulas.specs.Built.{form_at};
 ghost use Rattle.formulas.specs.Formula.{all_before};
 ghost use Rattle.formulas.specs.Normal.{taken};
@@ -16,8 +17,7 @@ use pool::binding::has;
 use pool::limits::CELLS;
 use pool::marks::{mark_at, set_mark};
 use pool::pairs::pairs_of;
-use pool::run::operands;
-use pool::{TermPlace, Variable};
+use pool::{Pool, TermPlace, Variable};
 
 // Puts the pairs of a list before those that stand from k on in an array that is filled from its end. Where they begin then, if there
 // is room for all of them.
@@ -37,54 +37,54 @@ fn put_pairs(cells: &mut [u32], k: usize, list: &[u32]) -> Option<usize>
 // Collects the variables that are taken out of the term at x: the term walker.
 #[cycle(collect_run_collect_term)]
 fn collect_term(
-    tags: &[u8],
-    values: &[u32],
+    pool: &Pool<'_>,
     seen: &mut [u8],
     cells: &mut [u32],
     k: usize,
     x: TermPlace,
 ) -> Option<usize>
-    requires { CollectedMemo tags.now values.now seen.old (pairs_from cells.old k) × (k ≤ length cells.old) }
-    ensures { CollectedBy tags.now values.now cells.old k seen.new cells.new (taken_at tags.now values.now x.0) result }
+    requires memo { CollectedMemo pool.now.tags.now pool.now.values.now seen.old (pairs_from cells.old k) }
+    requires room { k ≤ length cells.old }
+    ensures { CollectedBy pool.now.tags.now pool.now.values.now cells.old k seen.new cells.new (taken_at pool.now.tags.now pool.now.values.now x.0) result }
 {
     if mark_at(seen, x) == 1 {
         return Some(k);
     }
-    let view = normal_view(tags, values, x);
+    let view = normal_view(pool, x);
     match view {
         NormalView::Literal => Some(k),
         NormalView::Connective(_) => {
-            let run = operands(tags, values, x);
-            let r = collect_run(tags, values, seen, cells, k, x, run);
+            let r = collect_run(pool, seen, cells, k, x);
             set_mark(seen, x);
             r
         }
         NormalView::Forall(body) => {
-            let j = put_pairs(cells, k, bindings(tags, values, x))?;
-            let r = collect_term(tags, values, seen, cells, j, body);
+            let j = put_pairs(cells, k, bindings(pool, x))?;
+            let r = collect_term(pool, seen, cells, j, body);
             set_mark(seen, x);
             r
         }
     }
 }
 
-// The same of the terms of a run, which stand before x: the run walker.
+// The same of the operands of the term at x, which stand before it: the run walker.
 #[cycle(collect_run_collect_term)]
 fn collect_run(
-    tags: &[u8],
-    values: &[u32],
+    pool: &Pool<'_>,
     seen: &mut [u8],
     cells: &mut [u32],
     k: usize,
     x: TermPlace,
-    run: &[u32],
 ) -> Option<usize>
-    requires { CollectedMemo tags.now values.now seen.old (pairs_from cells.old k) × (k ≤ length cells.old) × (all_before x.0 run.now ≡ true) }
-    ensures { CollectedBy tags.now values.now cells.old k seen.new cells.new (taken_in tags.now values.now run.now) result }
+    requires memo { CollectedMemo pool.now.tags.now pool.now.values.now seen.old (pairs_from cells.old k) }
+    requires room { k ≤ length cells.old }
+    requires before { all_before x.0 (operands_of pool.now.tags.now pool.now.values.now x.0) ≡ true }
+    ensures { CollectedBy pool.now.tags.now pool.now.values.now cells.old k seen.new cells.new (taken_in pool.now.tags.now pool.now.values.now (operands_of pool.now.tags.now pool.now.values.now x.0)) result }
 {
+    let run = pool.operands(x);
     let mut j = k;
     for u in run {
-        j = collect_term(tags, values, seen, cells, j, TermPlace(*u))?;
+        j = collect_term(pool, seen, cells, j, TermPlace(*u))?;
     }
     Some(j)
 }
@@ -109,19 +109,14 @@ fn first_in_neither(left: &[u32], taken: &[u32], right: &[u32]) -> Option<u32>
 }
 
 // The first pair of the right list that is neither in the left list nor among the variables taken out of the term at x.
-pub fn first_unbound(
-    tags: &[u8],
-    values: &[u32],
-    x: TermPlace,
-    left: &[u32],
-    right: &[u32],
-) -> Option<u32>
-    ensures { result ≡ name_of (first_of (λ a. not (has (bindings_of left.now ++ taken bindings_of (form_at tags.now values.now x.0)) a)) (bindings_of right.now)) }
+#[tactic(auto, using(crate::proofs::taken_list::Laws::walk_within))]
+pub fn first_unbound(pool: &Pool<'_>, x: TermPlace, left: &[u32], right: &[u32]) -> Option<u32>
+    ensures { result ≡ name_of (first_of (λ a. not (has (bindings_of left.now ++ taken bindings_of (form_at pool.now.tags.now pool.now.values.now x.0)) a)) (bindings_of right.now)) }
 {
     let mut seen = [0u8; CELLS];
     let mut cells = [0u32; CELLS];
-    let Some(k) = collect_term(tags, values, &mut seen, &mut cells, CELLS, x) else {
-        return first_unbound_by_walks(tags, values, x, left, right);
+    let Some(k) = collect_term(pool, &mut seen, &mut cells, CELLS, x) else {
+        return first_unbound_by_walks(pool, x, left, right);
     };
     first_in_neither(left, &cells[k..], right)
 }

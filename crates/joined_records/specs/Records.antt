@@ -1,6 +1,6 @@
 -- 01: "The list comparison of `qnt_join` is also offered over lent records of name and sort, after the core."
--- A list of records is a list of pairs, and the comparison goes through it one pair at a time. That it is QntJoin's comparison is `joined_is` of
--- proofs/Laws.antt.
+-- A list of records is a list of pairs, and the comparison goes through it one pair at a time. That it is QntJoin's comparison is
+-- `joined_is` of proofs/Laws.antt.
 -- Rests on bindings' Binding, and on the structs `Binding` and `Along`.
 use Rattle.std.specs.Prelude.{ℕ, ◌+◌, Bool, false, not, ◌&&◌, cond, List, [], ◌∷◌, length, get_or, eqb, leb, Option, None, Some, option_and_then}
 use Rattle.bindings.specs.Binding.{Binding as Pair, same}

@@ -8,22 +8,15 @@ ghost use Rattle.miniscoping.specs.MiniscopeDistribute.{distributed, distributed
 use crate::sides::{Places, either_sides, of_kind, operand_count};
 use formulas::matching::bindings;
 use pool::list_comparison::same_lists;
-use pool::run::operands;
 use pool::tags::{AND, OR};
-use pool::{Refusal, TermPlace};
+use pool::{Pool, Refusal, TermPlace};
 
 // Whether the right operand at u is the left quantifier over the left operand at t.
-fn distributed(
-    tags: &[u8],
-    values: &[u32],
-    s: Places,
-    t: TermPlace,
-    u: TermPlace,
-) -> Result<(), Refusal>
-    ensures { distributed tags.now values.now (sides_at tags.now values.now s) t.0 u.0 ≡ outcome_of result tt }
+fn distributed(pool: &Pool<'_>, s: Places, t: TermPlace, u: TermPlace) -> Result<(), Refusal>
+    ensures { distributed pool.now.tags.now pool.now.values.now (sides_at pool.now.tags.now pool.now.values.now s) t.0 u.0 ≡ outcome_of result tt }
 {
-    let right = of_kind(tags, values, s.kind, u).ok_or(Refusal::WrongForm(u))?;
-    if !same_lists(bindings(tags, values, s.left), bindings(tags, values, u)) {
+    let right = of_kind(pool, s.kind, u).ok_or(Refusal::WrongForm(u))?;
+    if !same_lists(bindings(pool, s.left), bindings(pool, u)) {
         return Err(Refusal::ListsDiffer(s.left, u));
     }
     if t != right.body {
@@ -33,32 +26,26 @@ fn distributed(
 }
 
 // The operands one after another, as long as both lists go on.
-fn distributed_all(
-    tags: &[u8],
-    values: &[u32],
-    s: Places,
-    from: &[u32],
-    to: &[u32],
-) -> Result<(), Refusal>
-    ensures { answer_of_check result ≡ answer_of (distributed_all tags.now values.now (sides_at tags.now values.now s) from.now to.now) }
+fn distributed_all(pool: &Pool<'_>, s: Places, from: &[u32], to: &[u32]) -> Result<(), Refusal>
+    ensures { answer_of_check result ≡ answer_of (distributed_all pool.now.tags.now pool.now.values.now (sides_at pool.now.tags.now pool.now.values.now s) from.now to.now) }
 {
     for (t, u) in from.iter().zip(to) {
-        distributed(tags, values, s, TermPlace(*t), TermPlace(*u))?;
+        distributed(pool, s, TermPlace(*t), TermPlace(*u))?;
     }
     Ok(())
 }
 
 // Rule 4: the conclusion at x.
-pub fn miniscope_distribute(tags: &[u8], values: &[u32], x: TermPlace) -> Result<(), Refusal>
-    ensures { answer_of_check result ≡ answer_of (miniscope_distribute tags.now values.now x.0) }
+pub fn miniscope_distribute(pool: &Pool<'_>, x: TermPlace) -> Result<(), Refusal>
+    ensures { answer_of_check result ≡ answer_of (miniscope_distribute pool.now.tags.now pool.now.values.now x.0) }
 {
-    let s = either_sides(tags, values, AND, OR, x).ok_or(Refusal::WrongForm(x))?;
-    let from_count = operand_count(tags, values, s.body);
-    let to_count = operand_count(tags, values, s.right);
+    let s = either_sides(pool, AND, OR, x).ok_or(Refusal::WrongForm(x))?;
+    let from_count = operand_count(pool, s.body);
+    let to_count = operand_count(pool, s.right);
     if from_count != to_count {
         return Err(Refusal::OperandCounts(from_count, to_count));
     }
-    let from = operands(tags, values, s.body);
-    let to = operands(tags, values, s.right);
-    distributed_all(tags, values, s, from, to)
+    let from = pool.operands(s.body);
+    let to = pool.operands(s.right);
+    distributed_all(pool, s, from, to)
 }

@@ -8,10 +8,9 @@ ghost use Rattle.quantifier_rules.specs.QntJoin.{joined, qnt_join};
 ghost use Rattle.quantifier_rules.specs.JoinAlong.{is_repeat, Follows};
 
 use formulas::matching::{bindings, equality_at, quantified_at};
-use formulas::view::carried_tag;
 use pool::pairs::pairs_of;
 use pool::run::cell;
-use pool::{Refusal, SortPlace, TermPlace, Variable};
+use pool::{Pool, Refusal, SortPlace, TermPlace, Variable};
 
 // Whether a pair equals the one before j in the right list.
 fn is_repeat(right: &[u32], j: usize, pair: Variable) -> bool
@@ -63,28 +62,28 @@ pub(crate) fn same_joined(outer: &[u32], inner: &[u32], right: &[u32]) -> bool
 }
 
 // The checks in 01's order.
-pub fn qnt_join(tags: &[u8], values: &[u32], x: TermPlace) -> Result<(), Refusal>
-    ensures { answer_of_check result ≡ answer_of (qnt_join tags.now values.now x.0) }
+pub fn qnt_join(pool: &Pool<'_>, x: TermPlace) -> Result<(), Refusal>
+    ensures { answer_of_check result ≡ answer_of (qnt_join pool.now.tags.now pool.now.values.now x.0) }
 {
-    let (l, r) = equality_at(tags, values, x).ok_or(Refusal::WrongForm(x))?;
-    let left = quantified_at(tags, values, l).ok_or(Refusal::NoQuantifier(l))?;
+    let (l, r) = equality_at(pool, x).ok_or(Refusal::WrongForm(x))?;
+    let left = quantified_at(pool, l).ok_or(Refusal::NoQuantifier(l))?;
     let body = left.body;
-    let inner = quantified_at(tags, values, body).ok_or(Refusal::NoQuantifier(body))?;
-    let right = quantified_at(tags, values, r).ok_or(Refusal::NoQuantifier(r))?;
+    let inner = quantified_at(pool, body).ok_or(Refusal::NoQuantifier(body))?;
+    let right = quantified_at(pool, r).ok_or(Refusal::NoQuantifier(r))?;
     if left.kind != inner.kind {
-        let (wanted, found) = (carried_tag(left.kind), carried_tag(inner.kind));
+        let (wanted, found) = (left.kind.carried_tag(), inner.kind.carried_tag());
         return Err(Refusal::OtherQuantifier(wanted, found));
     }
     if inner.kind != right.kind {
-        let (wanted, found) = (carried_tag(inner.kind), carried_tag(right.kind));
+        let (wanted, found) = (inner.kind.carried_tag(), right.kind.carried_tag());
         return Err(Refusal::OtherQuantifier(wanted, found));
     }
     if inner.body != right.body {
         return Err(Refusal::TermsDiffer(inner.body, right.body));
     }
-    let outer_list = bindings(tags, values, l);
-    let inner_list = bindings(tags, values, body);
-    if !same_joined(outer_list, inner_list, bindings(tags, values, r)) {
+    let outer_list = bindings(pool, l);
+    let inner_list = bindings(pool, body);
+    if !same_joined(outer_list, inner_list, bindings(pool, r)) {
         return Err(Refusal::NotJoined(l, r));
     }
     Ok(())

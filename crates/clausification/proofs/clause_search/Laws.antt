@@ -5,8 +5,8 @@ use Prim.Native.Nat.{ℕ, suc, ◌+◌, ◌-◌, ◌≤◌, ◌<◌}
 use mathlib.Core.Path.{◌≡◌, refl, sym, ap, ap₂, ◌∙◌, subst}
 use mathlib.Core.Bool.{Bool, true, false}
 use mathlib.Core.List.{List, [], ◌∷◌, ◌++◌, map, append_assoc}
-use lib.ListN.{length, get_or, take, drop, length-append, length-drop, drop_of_length-le}
-use lib.Seq.{take_all, take-nil, take_at, drop-cons, drop-append_seam}
+use lib.ListN.{length, get_or, take, drop, length-append, drop_of_length-le}
+use lib.Seq.{take_at, drop-cons, drop-append_seam}
 use native.Mathlib.Omega.{arith}
 use native.Mathlib.Numerals.{add-one}
 use lib.Dec.{eqb, ltb}
@@ -34,24 +34,7 @@ module _ (tags values : List ℕ) (x : ℕ) (c : List ℕ) where
     unfolding is_clause
     clause-or e run o r is = rw (ne_eqb _ _ n, ← k, eq-eqb _ _ e, ← o, is)
 
-pub ruleset one-clause = (clause-literal, clause-other, clause-or)
-
--- ---- a part of an array
-module _ (l : List ℕ) (start end : ℕ) where
-  pub part-past : length l ≤ start → [] ≡ take (end - start) (drop start l)
-  part-past h = rw (drop_of_length-le l h, take-nil)
-
-  pub part_none : end ≤ start → [] ≡ take (end - start) (drop start l)
-  part_none h =
-      let z : end - start ≡ 0 = omega arith in
-      rw z
-
-  pub part-rest : length l ≤ end → take (length l - start) (drop start l) ≡ take (end - start) (drop start l)
-  part-rest h =
-      take_all (length l - start) (drop start l) (rw length-drop (omega arith))
-      ∙ sym (take_all (end - start) (drop start l) (rw length-drop (omega arith)))
-
-pub ruleset parts = (part-past, part_none, part-rest)
+pub ruleset one_clause = (clause-literal, clause-other, clause-or)
 
 -- ---- the list
 pub any-start : (tags values : List ℕ) (x : ℕ) (literals ends : List ℕ) (count : ℕ)

@@ -86,11 +86,8 @@ module _ (n t : ℕ) (tags values : List ℕ) (f : Option ClausalForms) (tags₂
   pub all-within-values : k ≤ length values₂
   all-within-values = omega (arith, source.state.within, source.state.size)
 
-  pub all-part : k ≡ length (take k tags₂)
+  all-part : k ≡ length (take k tags₂)
   all-part = sym (length-take-le k tags₂ all-within)
-
-  pub all-part-values : k ≡ length (take k values₂)
-  all-part-values = sym (length-take-le k values₂ all-within-values)
 
   pub lent : Lent (length (take k tags₂)) 8192 2048
   lent = record { small = omega (arith, all-part, source.state.small); literals = omega arith; ends = omega arith }
@@ -101,9 +98,6 @@ module _ (n t : ℕ) (tags values : List ℕ) (f : Option ClausalForms) (tags₂
 
   pub source-within-values : m ≤ length values₂
   source-within-values = omega (arith, source.state.source, all-within-values)
-
-  pub source-part : m ≡ length (take m tags₂)
-  source-part = sym (length-take-le m tags₂ source-within)
 
   pub source-part-values : m ≡ length (take m values₂)
   source-part-values = sym (length-take-le m values₂ source-within-values)

@@ -21,7 +21,7 @@ use Rattle.meaning.proofs.trees.Header.{both}
 use Rattle.meaning.proofs.trees.Passed.{Passed, pool-passes, pool-accepts}
 use Rattle.normal_form.proofs.Clausal.{zero-kept}
 use Rattle.answers.specs.Outcome.{Outcome, refuse, answer_of, ◌>>=◌, ◌>>◌, need, guard}
-use Rattle.formulas.specs.Formula.{quantifier_tag}
+use Rattle.formulas.specs.Formula.{is_forall, quantifier_tag}
 use Rattle.formulas.specs.Pattern.{quantifier, operator, one_of, two_of, and_then}
 use Rattle.formulas.specs.PatternAnswer.{with_list, quantifier_in, of_count, cells_in, two_in}
 use Rattle.formulas.specs.declared.matching.Quantified.{Quantified}
@@ -101,17 +101,17 @@ module _ (tags values : List ℕ) (n x : ℕ) (t : Option (TermPlace × TermPlac
       sides-right o = rw (form, e, left, q-is, right, o)
 
       module _ (f' : Quantified) (q'-is : q' ≡ Some f') where
-        pub sides-kind : not f.kind ≡ true → (m k : ℕ) → m ≡ quantifier_tag true → k ≡ quantifier_tag false → refuse 4 m k ≡ qnt_cnf tags values n x
+        pub sides-kind : not (is_forall f.kind) ≡ true → (m k : ℕ) → m ≡ quantifier_tag true → k ≡ quantifier_tag false → refuse 4 m k ≡ qnt_cnf tags values n x
         unfolding qnt_cnf two_in quantifier_in need guard ◌>>=◌ ◌>>◌
-        sides-kind o m k is is' = rw (form, e, left, q-is, right, q'-is, not-true f.kind o, is, is')
+        sides-kind o m k is is' = rw (form, e, left, q-is, right, q'-is, not-true (is_forall f.kind) o, is, is')
 
-        pub sides-right-kind : not f.kind ≡ false → not f'.kind ≡ true → (m k : ℕ) → m ≡ quantifier_tag true → k ≡ quantifier_tag false → refuse 4 m k ≡ qnt_cnf tags values n x
+        pub sides-right-kind : not (is_forall f.kind) ≡ false → not (is_forall f'.kind) ≡ true → (m k : ℕ) → m ≡ quantifier_tag true → k ≡ quantifier_tag false → refuse 4 m k ≡ qnt_cnf tags values n x
         unfolding qnt_cnf two_in quantifier_in need guard ◌>>=◌ ◌>>◌
-        sides-right-kind o o' m k is is' = rw (form, e, left, q-is, right, q'-is, not-false f.kind o, not-true f'.kind o', is, is')
+        sides-right-kind o o' m k is is' = rw (form, e, left, q-is, right, q'-is, not-false (is_forall f.kind) o, not-true (is_forall f'.kind) o', is, is')
 
-        pub sides-rest : not f.kind ≡ false → not f'.kind ≡ false → clausified tags values n (forall_at tags values p.0.0 f.body.0) (forall_at tags values p.1.0 f'.body.0) ≡ qnt_cnf tags values n x
+        pub sides-rest : not (is_forall f.kind) ≡ false → not (is_forall f'.kind) ≡ false → clausified tags values n (forall_at tags values p.0.0 f.body.0) (forall_at tags values p.1.0 f'.body.0) ≡ qnt_cnf tags values n x
         unfolding qnt_cnf two_in quantifier_in need guard ◌>>=◌ ◌>>◌
-        sides-rest o o' = rw (form, e, left, q-is, right, q'-is, not-false f.kind o, not-false f'.kind o')
+        sides-rest o o' = rw (form, e, left, q-is, right, q'-is, not-false (is_forall f.kind) o, not-false (is_forall f'.kind) o')
 
         pub sides-are : CheckedTerm tags values n x → ForallSides tags values n p.0.0 f.body.0 p.1.0 f'.body.0
         unfolding two_in quantifier_in
@@ -124,9 +124,9 @@ module _ (tags values : List ℕ) (n x : ℕ) (t : Option (TermPlace × TermPlac
               table = table;
               passed = pool-ok;
               left-place = term-below tags n p.0.0 l-term;
-              left_body = term-below tags n f.body.0 (body-term c p.0.0 l-term f.kind _ f.body.0 (left ∙ ap (quantifier_in _) q-is));
+              left_body = term-below tags n f.body.0 (body-term c p.0.0 l-term (is_forall f.kind) _ f.body.0 (left ∙ ap (quantifier_in _) q-is));
               right-place = term-below tags n p.1.0 r-term;
-              right-body = term-below tags n f'.body.0 (body-term c p.1.0 r-term f'.kind _ f'.body.0 (right ∙ ap (quantifier_in _) q'-is));
+              right-body = term-below tags n f'.body.0 (body-term c p.1.0 r-term (is_forall f'.kind) _ f'.body.0 (right ∙ ap (quantifier_in _) q'-is));
             }
 
 -- ---- what is left in the arrays

@@ -14,12 +14,12 @@ use borrow.Author.Tests.{lt-ltb, eqb-true, eqb-false}
 use Rattle.cells.specs.declared.TermPlace.{TermPlace}
 use Rattle.cells.specs.ByPlace.{by-test}
 use Rattle.cells.specs.Cell.{operands_of}
+use Rattle.formulas.specs.declared.kinds.ConnectiveKind.{ConnectiveKind}
 use Rattle.formulas.specs.declared.view.NormalView.{NormalView}
 use Rattle.formulas.specs.declared.view.NormalView.TheVariants.{Literal, Connective, Forall}
-use Rattle.formulas.specs.Formula.{all_before}
 use Rattle.formulas.specs.Normal.{taken}
 use Rattle.formulas.specs.Built.{normal_view, form_at}
-use Rattle.formulas.proofs.Reading.{read-literal, read-forall, read-connective, run-before}
+use Rattle.formulas.proofs.Reading.{read-literal, read-forall, read-connective}
 use Rattle.bindings.specs.Binding.{Binding, bindings_of, same, has, first_of}
 use Rattle.bindings.specs.BindingAnswer.{pair, binding, name_of}
 use Rattle.cells.specs.declared.variable.Variable.{Variable}
@@ -106,16 +106,13 @@ module _ (tags values : List ℕ) (x : ℕ) (v : NormalView) (is : v ≡ normal_
   unfolding taken_at
   taken-literal e = rw (read-literal tags values x v is e)
 
-  taken-run : (b : Bool) → v ≡ Connective b → taken_at tags values x ≡ taken_in tags values (operands_of tags values x)
+  taken-run : (b : ConnectiveKind) → v ≡ Connective b → taken_at tags values x ≡ taken_in tags values (operands_of tags values x)
   unfolding taken_at taken_in
   taken-run b e = rw (read-connective tags values x v is b e)
 
   taken-forall : (body : TermPlace) → v ≡ Forall body → taken_at tags values x ≡ bindings_of (pairs_of tags values x) ++ taken_at tags values body.0
   unfolding taken_at pairs_of
   taken-forall body e = rw (read-forall tags values x v is body e, lt-ltb body.0 x (look-below tags values x v is body e))
-
-  pub operands-before : (b : Bool) → v ≡ Connective b → (run : List ℕ) → run ≡ operands_of tags values x → all_before x run ≡ true
-  operands-before b e run o = rw o (run-before tags values x v is b e)
 
 -- ---- what was put, and then collected
 pub put-from : (cells : List ℕ) (k : ℕ) (more : List Binding) (cells' : List ℕ) (r : Option ℕ) → PairsPut cells k more cells' r → (j : ℕ) → r ≡ Some j → Joined cells k more cells' j
@@ -124,6 +121,10 @@ put-from cells k more cells' r p j e = rw e at p
 pub walk_from : (tags values cells : List ℕ) (k : ℕ) (seen cells' : List ℕ) (more : List Binding) (r : Option ℕ) → CollectedBy tags values cells k seen cells' more r
     → (j : ℕ) → r ≡ Some j → Gathered tags values cells k seen cells' more j
 walk_from tags values cells k seen cells' more r w j e = rw e at w.leaves
+
+pub walk_within : (tags values cells : List ℕ) (k : ℕ) (seen cells' : List ℕ) (more : List Binding) (r : Option ℕ) → CollectedBy tags values cells k seen cells' more r
+    → (j : ℕ) → r ≡ Some j → j ≤ k
+walk_within tags values cells k seen cells' more r w j e = (walk_from tags values cells k seen cells' more r w j e).joined.within
 
 module _ (tags values cells : List ℕ) (k : ℕ) (own : List Binding) (cells' : List ℕ) (j : ℕ) (p : Joined cells k own cells' j) where
   pub right-joined : (seen : List ℕ) → CollectedMemo tags values seen (pairs_from cells k) → CollectedMemo tags values seen (pairs_from cells' j)
@@ -182,10 +183,10 @@ module _ (tags values cells : List ℕ) (k x : ℕ) where
     walk-literal v is e = unchanged tags values cells k seen r (taken_at tags values x) (λ a. rw (taken-literal tags values x v is e) (sym (or-false _)))
 
   module _ (v : NormalView) (is : v ≡ normal_view tags values x) where
-    pub walk-run : (b : Bool) → v ≡ Connective b → (run : List ℕ) → run ≡ operands_of tags values x
-        → (seen cells' : List ℕ) (r : Option ℕ) → CollectedBy tags values cells k seen cells' (taken_in tags values run) r
+    pub walk-run : (b : ConnectiveKind) → v ≡ Connective b
+        → (seen cells' : List ℕ) (r : Option ℕ) → CollectedBy tags values cells k seen cells' (taken_in tags values (operands_of tags values x)) r
         → (seen' : List ℕ) → seen' ≡ set seen x 1 → CollectedBy tags values cells k seen' cells' (taken_at tags values x) r
-    walk-run b e run o seen cells' r w = noted seen cells' (taken_in tags values run) (rw o (taken-run tags values x v is b e)) r w
+    walk-run b e seen cells' r w = noted seen cells' (taken_in tags values (operands_of tags values x)) (taken-run tags values x v is b e) r w
 
     pub walk-forall : (body : TermPlace) → v ≡ Forall body → (list : List ℕ) → list ≡ pairs_of tags values x
         → (cells₁ : List ℕ) (own : Option ℕ) → PairsPut cells k (bindings_of list) cells₁ own → (j : ℕ) → own ≡ Some j
@@ -263,4 +264,4 @@ module _ (tags values : List ℕ) (n x : ℕ) (seen cells : List ℕ) (r : Optio
       → f ≡ name_of (first_of (λ a. not (has (bindings_of left ++ taken bindings_of (form_at tags values x)) a)) (bindings_of right))
   whole m h left right f q =
       q ∙ ap (λ (test : Binding → Bool). name_of (first_of test (bindings_of right)))
-      (fun_ext (λ a. rw (take_all (m - k) (drop k cells) (rw length-drop (omega arith)), has-append (bindings_of left) _ a, has-append (bindings_of left) _ a, collected-are a)))
+      (fun_ext (λ a. rw (take_all (m - k) (drop k cells) (rw length-drop (omega arith)), has-append (bindings_of left) (bindings_of (drop k cells)) a, has-append (bindings_of left) (taken bindings_of (form_at tags values x)) a, collected-are a)))

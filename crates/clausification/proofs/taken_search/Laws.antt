@@ -17,13 +17,12 @@ use Rattle.cells.specs.declared.TermPlace.{TermPlace}
 use Rattle.cells.specs.declared.variable.Variable.{Variable}
 use Rattle.cells.specs.ByPlace.{by-test}
 use Rattle.cells.specs.Cell.{operands_of}
-use Rattle.free_variables.specs.Names.{free_in, NamesMarked}
+use Rattle.formulas.specs.declared.kinds.ConnectiveKind.{ConnectiveKind}
 use Rattle.formulas.specs.declared.view.NormalView.{NormalView}
 use Rattle.formulas.specs.declared.view.NormalView.TheVariants.{Literal, Connective, Forall}
-use Rattle.formulas.specs.Formula.{all_before}
 use Rattle.formulas.specs.Normal.{taken}
 use Rattle.formulas.specs.Built.{normal_view, form_at}
-use Rattle.formulas.proofs.Reading.{before_at, before-tail, read-literal, read-forall, read-connective, run-before}
+use Rattle.formulas.proofs.Reading.{read-literal, read-forall, read-connective}
 use Rattle.building.proofs.prenex_forall.Laws.{body-before}
 use Rattle.bindings.specs.Binding.{Binding, bindings_of, same, has, first_of}
 use Rattle.bindings.specs.BindingAnswer.{binding, name_of}
@@ -32,9 +31,7 @@ use Rattle.free_pairs.specs.FreeLists.{is_missing}
 use Rattle.formulas.specs.PatternAnswer.{pairs_of}
 use Rattle.clausification.specs.declared.taken_search.Sought.{Sought}
 use Rattle.clausification.specs.declared.taken_search.Sought.TheVariants.{Pair, Missing}
-use Rattle.clausification.specs.declared.taken_search.Step.{Step}
-use Rattle.clausification.specs.declared.taken_search.Step.TheVariants as step
-use Rattle.clausification.specs.TakenSearch.{is_sought, Tabled, found_at, found_in, after_note, StepMeans, SearchMemo, SearchAnswered, SearchNoted}
+use Rattle.clausification.specs.TakenSearch.{is_sought, found_at, found_in, after_note, SearchMemo, SearchAnswered, SearchNoted}
 
 -- ---- the first pair of a list that is sought
 first-same : (v : Variable) (l : List Binding) → has l (binding v) ≡ true → name_of (first_of (λ b. same b (binding v)) l) ≡ Some v.name
@@ -68,15 +65,20 @@ module _ (tags values : List ℕ) (n : ℕ) (right : List Binding) (sought : Sou
   unfolding is_sought
   sought-missing t e r is = rw e is
 
--- the table that a search for a missing variable has
-pub tabled-missing : (tags values names : List ℕ) (sought : Sought) → Tabled tags values names sought → (t : TermPlace) → sought ≡ Missing t
-    → NamesMarked tags values names (free_in tags values t.0)
-tabled-missing tags values names sought tabled t e = rw e at tabled
+pub ruleset soughts = (sought-pair, sought-missing)
 
 -- ---- the first of two lists, one after the other
 abbrev pub or_else : Option ℕ → Option ℕ → Option ℕ
 or_else (Some a) f = Some a
 or_else None f = f
+
+or_else-some : (f g : Option ℕ) → true ≡ is_some f → f ≡ or_else f g
+or_else-some (Some a) g e = refl
+or_else-some None g e = absurd (let z : ◌≡◌ {A = ℕ} 0 1 = cc in omega arith)
+
+or_else-none : (f g : Option ℕ) → false ≡ is_some f → g ≡ or_else f g
+or_else-none (Some a) g e = absurd (let z : ◌≡◌ {A = ℕ} 0 1 = cc in omega arith)
+or_else-none None g e = refl
 
 pub name-append : (test : Binding → Bool) (as' bs : List Binding) → name_of (first_of test (as' ++ bs)) ≡ or_else (name_of (first_of test as')) (name_of (first_of test bs))
 unfolding first_of name_of
@@ -88,17 +90,22 @@ pub look-below : (tags values : List ℕ) (x : ℕ) (v : NormalView) → v ≡ n
 look-below tags values x v is body e = body-before tags values x body (sym e ∙ is)
 
 module _ (tags values : List ℕ) (test : Binding → Bool) (x : ℕ) where
-  pub look-seen : (seen : List ℕ) → SearchMemo tags values test seen → (m : ℕ) → m ≡ get_or seen x 0 → m ≡ 1 → None ≡ found_at tags values test x
-  look-seen seen right m is e = right.at x (sym is ∙ e)
+  pub walk-seen : (seen : List ℕ) → SearchMemo tags values test seen → (m : ℕ) → m ≡ get_or seen x 0 → m ≡ 1 → SearchAnswered tags values test seen None (found_at tags values test x)
+  walk-seen seen right m is e = record { is = right.at x (sym is ∙ e); right = right }
 
   module _ (v : NormalView) (is : v ≡ normal_view tags values x) where
-    pub look-literal : v ≡ Literal → None ≡ found_at tags values test x
+    pub walk-literal : v ≡ Literal → (seen : List ℕ) → SearchMemo tags values test seen → SearchAnswered tags values test seen None (found_at tags values test x)
     unfolding found_at first_of name_of
-    look-literal e = rw (read-literal tags values x v is e)
+    walk-literal e seen right = record { is = rw (read-literal tags values x v is e); right = right }
 
-    pub look-run : (b : Bool) → v ≡ Connective b → found_in tags values test (operands_of tags values x) ≡ found_at tags values test x
-    unfolding found_at found_in
-    look-run b e = rw (read-connective tags values x v is b e)
+    module _ (b : ConnectiveKind) (e : v ≡ Connective b) where
+      operands-are : found_in tags values test (operands_of tags values x) ≡ found_at tags values test x
+      unfolding found_at found_in
+      operands-are = rw (read-connective tags values x v is b e)
+
+      pub walk-run : (seen : List ℕ) (f : Option ℕ) → SearchAnswered tags values test seen f (found_in tags values test (operands_of tags values x))
+          → SearchAnswered tags values test seen f (found_at tags values test x)
+      walk-run seen f a = record { is = a.is ∙ operands-are; right = a.right }
 
     module _ (body : TermPlace) (e : v ≡ Forall body) (list : List ℕ) (l : list ≡ pairs_of tags values x) (own : Option ℕ)
         (o : own ≡ name_of (first_of test (bindings_of list))) where
@@ -108,13 +115,12 @@ module _ (tags values : List ℕ) (test : Binding → Bool) (x : ℕ) where
           rw (read-forall tags values x v is body e, lt-ltb body.0 x (look-below tags values x v is body e), o, l)
           (name-append test _ _)
 
-      pub look-found : (a : ℕ) → own ≡ Some a → Some a ≡ found_at tags values test x
-      look-found a q = rw (forall-is, q)
+      pub walk-own : (h : Bool) → h ≡ is_some own → h ≡ true → (seen : List ℕ) → SearchMemo tags values test seen → SearchAnswered tags values test seen own (found_at tags values test x)
+      walk-own h i y seen right = record { is = or_else-some own _ (sym y ∙ i) ∙ sym forall-is; right = right }
 
-      pub look-body : own ≡ None → found_at tags values test body.0 ≡ found_at tags values test x
-      look-body q = rw (forall-is, q)
-
-pub ruleset looks = (look-seen, look-literal, run-before, look-run, look-below, look-found, look-body)
+      pub walk-body : (h : Bool) → h ≡ is_some own → h ≡ false → (seen : List ℕ) (f : Option ℕ) → SearchAnswered tags values test seen f (found_at tags values test body.0)
+          → SearchAnswered tags values test seen f (found_at tags values test x)
+      walk-body h i n seen f a = record { is = a.is ∙ (or_else-none own _ (sym n ∙ i) ∙ sym forall-is); right = a.right }
 
 -- ---- noting an answer; past the end of the memo nothing is set
 module _ (seen : List ℕ) (x : ℕ) (f : Option ℕ) where
@@ -129,29 +135,6 @@ module _ (seen : List ℕ) (x : ℕ) (f : Option ℕ) where
     note-past h = record { same = sym e; kept = rw (e, set_out seen x 1 h) }
 
 pub ruleset notes = (note-found, note-nothing, note-past)
-
--- ---- the answer at x, from the step s at x
-module _ (tags values : List ℕ) (test : Binding → Bool) (x : ℕ) (s : Step) (m : StepMeans tags values test x s) where
-  module _ (seen : List ℕ) (right : SearchMemo tags values test seen) where
-    pub step-found : (a : ℕ) → s ≡ step.Found a → SearchAnswered tags values test seen (Some a) (found_at tags values test x)
-    step-found a e = record { is = rw e at m; right = right }
-
-    pub step-nothing : s ≡ step.Nothing → SearchAnswered tags values test seen None (found_at tags values test x)
-    step-nothing e = record { is = rw e at m; right = right }
-
-  module _ (u : TermPlace) (e : s ≡ step.Body u) where
-    pub step-below : u.0 < x
-    step-below = (rw e at m).0
-
-    pub step-body : (seen : List ℕ) (r : Option ℕ) → SearchAnswered tags values test seen r (found_at tags values test u.0) → SearchAnswered tags values test seen r (found_at tags values test x)
-    step-body seen r a = record { is = a.is ∙ (rw e at m).1; right = a.right }
-
-  module _ (e : s ≡ step.Run) (run : List ℕ) (o : run ≡ operands_of tags values x) where
-    pub step-before : all_before x run ≡ true
-    step-before = rw o (rw e at m).0
-
-    pub step_run : (seen : List ℕ) (r : Option ℕ) → SearchAnswered tags values test seen r (found_in tags values test run) → SearchAnswered tags values test seen r (found_at tags values test x)
-    step_run seen r a = record { is = a.is ∙ rw o (rw e at m).1; right = a.right }
 
 module _ (tags values : List ℕ) (test : Binding → Bool) (x : ℕ) (seen : List ℕ) (f : Option ℕ)
     (a : SearchAnswered tags values test seen f (found_at tags values test x)) where
@@ -193,8 +176,6 @@ module _ (tags values : List ℕ) (test : Binding → Bool) (run seen : List ℕ
 
     pub left-next : f ≡ None → SearchLeft tags values test run seen' (i + 1)
     left-next e = record { right = a.right; left = rw e at run_is }
-
-pub ruleset walks = (step-found, step-nothing, step-body, step_run, noted)
 
 -- ---- the whole walk, from a fresh memo
 pub fresh : (tags values : List ℕ) (test : Binding → Bool) (k : ℕ) → SearchMemo tags values test (replicate k 0)

@@ -9,6 +9,7 @@ use borrow.Author.Tests.{eq-eqb, ne_eqb, not-true, not-false}
 use Rattle.cells.specs.Cell.{operands_of}
 use Rattle.answers.specs.Outcome.{Outcome, pass, refuse, ◌>>=◌, ◌>>◌, need, guard, answer_of}
 use Rattle.bindings.specs.Binding.{bindings_of, same_all}
+use Rattle.formulas.specs.Formula.{is_forall}
 use Rattle.formulas.specs.Pattern.{quantifier, and_then}
 use Rattle.formulas.specs.PatternAnswer.{pairs_of, quantifier_in}
 use Rattle.miniscoping.specs.MiniscopeDistribute.{Sides, sides_of, or_else, of_kind, distributed, distributed_all, miniscope_distribute}
@@ -24,7 +25,7 @@ use lib.Dec.{eqb}
 
 -- ---- one operand
 module _ (tags values : List ℕ) (s : Places) (t u : ℕ) (r : Option Quantified)
-    (is : and_then (quantifier tags values u) (of_kind s.kind) ≡ quantifier_in (bindings_of (pairs_of tags values u)) r) where
+    (is : and_then (quantifier tags values u) (of_kind (is_forall s.kind)) ≡ quantifier_in (bindings_of (pairs_of tags values u)) r) where
   pub operand-form : r ≡ None → distributed tags values (sides_at tags values s) t u ≡ refuse 2 u 0
   unfolding distributed sides_at quantifier_in need ◌>>=◌
   operand-form e = rw (is, e)

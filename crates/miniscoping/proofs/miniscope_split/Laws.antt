@@ -13,6 +13,7 @@ use Rattle.answers.specs.Outcome.{Outcome, pass, refuse, ◌>>=◌, ◌>>◌, ne
 use Rattle.bindings.specs.Binding.{Binding, bindings_of, first_of}
 use Rattle.free_pairs.specs.BindingFree.{binding_free}
 use Rattle.bindings.specs.BindingAnswer.{name_of}
+use Rattle.formulas.specs.Formula.{is_forall}
 use Rattle.formulas.specs.Pattern.{quantifier, and_then}
 use Rattle.formulas.specs.PatternAnswer.{pairs_of, quantifier_in}
 use Rattle.miniscoping.specs.MiniscopeDistribute.{Sides, sides_of, or_else, of_kind}
@@ -90,16 +91,16 @@ fresh tags values kind outer from to k h o is = rw (all_left k (bindings_of oute
 module _ (tags values : List ℕ) (n : ℕ) (s : Places) (outer from to : List ℕ) (o_is : outer ≡ pairs_of tags values s.left.0)
     (f-is : from ≡ operands_of tags values s.body.0) (t-is : to ≡ operands_of tags values s.right.0) where
   sides-are : split_sides tags values n (sides_at tags values s)
-      ≡ split_all tags values s.kind (bindings_of outer) from to >> unless 12 (λ (b : Binding). b.name) s.right.0 (first_of (binding_free tags values n s.right.0) (bindings_of outer))
+      ≡ split_all tags values (is_forall s.kind) (bindings_of outer) from to >> unless 12 (λ (b : Binding). b.name) s.right.0 (first_of (binding_free tags values n s.right.0) (bindings_of outer))
   unfolding split_sides sides_at
   sides-are = rw (o_is, f-is, t-is)
 
-  pub sides-operand : (x : Refusal) → split_all tags values s.kind (bindings_of outer) from to ≡ outcome_of (Err x) (tt {0}) → (r : Result (Unit {0}) Refusal) → IsErrAnd r (λ e. e ≡ x)
+  pub sides-operand : (x : Refusal) → split_all tags values (is_forall s.kind) (bindings_of outer) from to ≡ outcome_of (Err x) (tt {0}) → (r : Result (Unit {0}) Refusal) → IsErrAnd r (λ e. e ≡ x)
       → answer_of_check r ≡ answer_of (split_sides tags values n (sides_at tags values s))
   unfolding ◌>>◌
   sides-operand x walk r h = rw (handed-on r x h, sides-are, walk)
 
-  module _ (walk : split_all tags values s.kind (bindings_of outer) from to ≡ pass tt)
+  module _ (walk : split_all tags values (is_forall s.kind) (bindings_of outer) from to ≡ pass tt)
       (f : Option ℕ) (free : f ≡ name_of (first_of (binding_free tags values n s.right.0) (bindings_of outer))) where
     pub sides-free : (name : ℕ) → f ≡ Some name → refuse 12 name s.right.0 ≡ split_sides tags values n (sides_at tags values s)
     unfolding ◌>>◌

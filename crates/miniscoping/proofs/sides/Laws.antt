@@ -14,10 +14,12 @@ use Rattle.cells.specs.declared.TermPlace.{TermPlace}
 use Rattle.cells.specs.ByPlace.{by-test}
 use Rattle.cells.specs.Cell.{cells_of, operands_of}
 use Rattle.bindings.specs.Binding.{Binding, bindings_of}
+use Rattle.formulas.specs.Formula.{is_forall}
 use Rattle.formulas.specs.Pattern.{Quantifier, quantifier, operator, equality, and_then}
 use Rattle.formulas.specs.PatternAnswer.{pairs_of, quantifier_in, two_in}
 use Rattle.miniscoping.specs.MiniscopeDistribute.{Sides, sides_of, or_else, of_kind}
 use Rattle.miniscoping.specs.SidesAnswer.{sides_at, sides_in}
+use Rattle.formulas.specs.declared.kinds.QuantifierKind.{QuantifierKind}
 use Rattle.formulas.specs.declared.matching.Quantified.{Quantified}
 use Rattle.miniscoping.specs.declared.sides.Places.{Places}
 
@@ -28,11 +30,11 @@ module _ (tags values : List ℕ) (x : ℕ) (kind : Bool) (list : List Binding) 
   kind-none e = rw (is, e)
 
   module _ (q : Quantified) (e : r ≡ Some q) where
-    pub kind-is : beq q.kind kind ≡ true → and_then (quantifier tags values x) (of_kind kind) ≡ quantifier_in list (Some q)
+    pub kind-is : beq (is_forall q.kind) kind ≡ true → and_then (quantifier tags values x) (of_kind kind) ≡ quantifier_in list (Some q)
     unfolding quantifier_in
     kind-is t = rw (is, e, t)
 
-    pub kind-other : beq q.kind kind ≡ false → and_then (quantifier tags values x) (of_kind kind) ≡ quantifier_in list None
+    pub kind-other : beq (is_forall q.kind) kind ≡ false → and_then (quantifier tags values x) (of_kind kind) ≡ quantifier_in list None
     unfolding quantifier_in
     kind-other t = rw (is, e, t)
 
@@ -73,10 +75,10 @@ module _ (tags values : List ℕ) (kind : Bool) (tag x : ℕ) (b : Option (TermP
         unfolding sides_in quantifier_in operators operator
         sides-right n = rw (found, there, ← b-is, eq-eqb _ _ same, ← r-is, ne_eqb _ _ n)
 
-        pub sides-are : r-tag ≡ tag
-            → sides_of tags values kind tag x ≡ sides_in tags values (Some (record { kind = kind; left = p.0; body = a.body; right = p.1 }))
+        pub sides-are : (k : QuantifierKind) → kind ≡ is_forall k → r-tag ≡ tag
+            → sides_of tags values kind tag x ≡ sides_in tags values (Some (record { kind = k; left = p.0; body = a.body; right = p.1 }))
         unfolding sides_in sides_at quantifier_in operators operator
-        sides-are m = rw (found, there, ← b-is, eq-eqb _ _ same, ← r-is, eq-eqb _ _ m)
+        sides-are k k-is m = rw (found, k-is, there, ← b-is, eq-eqb _ _ same, ← r-is, eq-eqb _ _ m)
 
 -- ---- the left side is the equality's
 absurd-some : {A P : Type 0} (a : A) → None ≡ Some a → P

@@ -14,7 +14,7 @@ use Rattle.bindings.specs.Binding.{Binding, bindings_of, has, first_of}
 use Rattle.free_pairs.specs.BindingFree.{binding_free}
 use Rattle.bindings.specs.BindingAnswer.{name_of}
 use Rattle.formulas.specs.Pattern.{equality}
-use Rattle.formulas.specs.Formula.{quantifier_tag}
+use Rattle.formulas.specs.Formula.{is_forall, quantifier_tag}
 use Rattle.formulas.specs.PatternAnswer.{pairs_of, with_list, quantifier_in, two_in}
 use Rattle.quantifier_rules.specs.QntRmUnused.{is_some, removes, unused, body_or, qnt_rm_unused}
 use Rattle.formulas.specs.declared.matching.Quantified.{Quantified}
@@ -29,15 +29,15 @@ module _ (tags values : List ℕ) (n : ℕ) (kind : Bool) (left : List ℕ) (bod
   removes-none e = rw (right, e)
 
   module _ (b : Quantified) (q-is : q ≡ Some b) where
-    pub removes-kinds : not (beq kind b.kind) ≡ true → (a a' : ℕ) → a ≡ quantifier_tag kind → a' ≡ quantifier_tag b.kind
+    pub removes-kinds : not (beq kind (is_forall b.kind)) ≡ true → (a a' : ℕ) → a ≡ quantifier_tag kind → a' ≡ quantifier_tag (is_forall b.kind)
         → refuse 4 a a' ≡ removes tags values n (with_list kind (bindings_of left) body) x
     unfolding removes quantifier_in need guard ◌>>=◌ ◌>>◌
-    removes-kinds e a a' is is' = rw (right, q-is, not-true (beq kind b.kind) e, is, is')
+    removes-kinds e a a' is is' = rw (right, q-is, not-true (beq kind (is_forall b.kind)) e, is, is')
 
-    module _ (same : not (beq kind b.kind) ≡ false) (v : Bool) (v-is : v ≡ not (eqb body b.body.0)) where
+    module _ (same : not (beq kind (is_forall b.kind)) ≡ false) (v : Bool) (v-is : v ≡ not (eqb body b.body.0)) where
       pub removes-bodies : v ≡ true → refuse 5 body b.body.0 ≡ removes tags values n (with_list kind (bindings_of left) body) x
       unfolding removes quantifier_in need guard ◌>>=◌ ◌>>◌
-      removes-bodies e = rw (right, q-is, not-false (beq kind b.kind) same, not-true (eqb body b.body.0) (sym v-is ∙ e))
+      removes-bodies e = rw (right, q-is, not-false (beq kind (is_forall b.kind)) same, not-true (eqb body b.body.0) (sym v-is ∙ e))
 
       module _ (bodies : v ≡ false) (f : Option ℕ) (g : List ℕ) (f-is : f ≡ name_of (first_of (λ a. not (has (bindings_of left) a)) (bindings_of g)))
           (g-is : g ≡ pairs_of tags values x) where
@@ -46,19 +46,19 @@ module _ (tags values : List ℕ) (n : ℕ) (kind : Bool) (left : List ℕ) (bod
 
         pub removes-new : (m : ℕ) → f ≡ Some m → refuse 8 m 0 ≡ removes tags values n (with_list kind (bindings_of left) body) x
         unfolding removes quantifier_in need guard ◌>>=◌ ◌>>◌
-        removes-new m e = rw (right, q-is, not-false (beq kind b.kind) same, agree, ← g-is, unless-name 8 0 _ m (sym e ∙ f-is))
+        removes-new m e = rw (right, q-is, not-false (beq kind (is_forall b.kind)) same, agree, ← g-is, unless-name 8 0 _ m (sym e ∙ f-is))
 
         module _ (e : f ≡ None) (f' : Option ℕ)
             (f'-is : f' ≡ name_of (first_of (λ a. not (has (bindings_of g) a) && binding_free tags values n body a) (bindings_of left))) where
           pub removes-missing : (m : ℕ) → f' ≡ Some m → refuse 9 m 0 ≡ removes tags values n (with_list kind (bindings_of left) body) x
           unfolding removes quantifier_in need guard ◌>>=◌ ◌>>◌
           removes-missing m e' =
-              rw (right, q-is, not-false (beq kind b.kind) same, agree, ← g-is, unless-none 8 0 _ (sym e ∙ f-is), unless-name 9 0 _ m (sym e' ∙ f'-is))
+              rw (right, q-is, not-false (beq kind (is_forall b.kind)) same, agree, ← g-is, unless-none 8 0 _ (sym e ∙ f-is), unless-name 9 0 _ m (sym e' ∙ f'-is))
 
           pub removes-passes : f' ≡ None → pass tt ≡ removes tags values n (with_list kind (bindings_of left) body) x
           unfolding removes quantifier_in need guard ◌>>=◌ ◌>>◌
           removes-passes e' =
-              rw (right, q-is, not-false (beq kind b.kind) same, agree, ← g-is, unless-none 8 0 _ (sym e ∙ f-is), unless-none 9 0 _ (sym e' ∙ f'-is))
+              rw (right, q-is, not-false (beq kind (is_forall b.kind)) same, agree, ← g-is, unless-none 8 0 _ (sym e ∙ f-is), unless-none 9 0 _ (sym e' ∙ f'-is))
 
 -- ---- the early acceptance
 -- a pair is found if its name is
@@ -100,6 +100,6 @@ module _ (tags values : List ℕ) (n x : ℕ) (t : Option (TermPlace × TermPlac
     unused-left o = rw (form, e, left, o)
 
     pub unused-rest : (b : Quantified) → q ≡ Some b → (g : List ℕ) → g ≡ pairs_of tags values p.0.0
-        → (a : Answer) → a ≡ answer_of (body_or tags values n (with_list b.kind (bindings_of g) b.body.0) p.1.0) → a ≡ answer_of (qnt_rm_unused tags values n x)
+        → (a : Answer) → a ≡ answer_of (body_or tags values n (with_list (is_forall b.kind) (bindings_of g) b.body.0) p.1.0) → a ≡ answer_of (qnt_rm_unused tags values n x)
     unfolding qnt_rm_unused two_in quantifier_in need ◌>>=◌
     unused-rest b q-is g g-is a is = rw (is, form, e, left, q-is, g-is)

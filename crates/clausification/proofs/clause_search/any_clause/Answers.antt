@@ -1,8 +1,5 @@
-use Rattle.clausification.proofs.clause_search.Laws.{any-start, any-all, any_here, any_next}
+use Rattle.clausification.proofs.clause_search.Laws.{any-all, any_here, any_next}
 use Rattle.clausification.proofs.clause_search.any_clause.Goals as goal
-
-pub loop-end-init : goal.loop-end-init
-loop-end-init c = any-start _ _ _ _ _ _
 
 pub returns-then-is_clause : goal.returns-then-is_clause
 returns-then-is_clause c = any_here _ _ _ _ _ _ _ _ _ c.loop-end.invariant _ c.part-end-items.ensures c.loop-end-test.true _ c.part.ensures _ c.is_clause.ensures c.if-is_clause.true

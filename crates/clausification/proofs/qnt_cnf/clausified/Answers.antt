@@ -1,53 +1,28 @@
-use Rattle.clausification.proofs.qnt_cnf.Clauses.{sides-state, sides-below, all-within, all-part, all-within-values, all-part-values, source-within, source-part, source-within-values, source-part-values, lent, clausified-full, clausified-refused, clausified-follows}
-use borrow.Author.Rules.{rules}
 use mathlib.Core.Path.{refl}
 use Rattle.answers.proofs.Refusals.{handed-on, named}
+use Rattle.clausification.proofs.qnt_cnf.Clauses.{sides-state, sides-below, all-within, all-within-values, source-within, source-within-values, lent, clausified-full, clausified-refused, clausified-follows}
 use Rattle.clausification.proofs.qnt_cnf.clausified.Goals as goal
 
 pub build_forms-requires : goal.build_forms-requires
-build_forms-requires c = (record { state = search sides-state; t_lt_n = search sides-below; index = search rules })
-
-pub returns-in_err-forms : goal.returns-in_err-forms
-returns-in_err-forms c = record {
-  leaves = clausified-full _ _ _ _ _ _ _ c.requires.forall_sides _ _ _ c.build_forms.ensures.forms_built c.in_err-forms.ensures.ok_part _ (named _ _ _ _ c.in_err-forms.ensures.value c.from_residual.ensures.1);
-  index_2 = c.build_forms.ensures.index_2;
+build_forms-requires c = record {
+  pool_ready = record { state = search sides-state; has_index = c.requires.has_index };
+  t_lt_count = search sides-below;
 }
 
-pub slice_bounds-list_clauses-end : goal.slice_bounds-list_clauses-end
-slice_bounds-list_clauses-end c = all-within _ _ _ _ _ _ _ c.build_forms.ensures.forms_built _ c.in_ok-forms.ensures.ok_part
+pub returns-in_err-forms-clause-leaves : goal.returns-in_err-forms-clause-leaves
+returns-in_err-forms-clause-leaves c = clausified-full _ _ _ _ _ _ _ c.requires.forall_sides _ _ _ c.build_forms.ensures.forms_built c.in_err-forms.ensures.ok_part _ (named _ _ _ _ c.in_err-forms.ensures.value c.from_residual.ensures.1)
 
-pub slice_bounds-list_clauses-end-2 : goal.slice_bounds-list_clauses-end-2
-slice_bounds-list_clauses-end-2 c = all-part _ _ _ _ _ _ _ c.build_forms.ensures.forms_built _ c.in_ok-forms.ensures.ok_part
-
-pub slice_bounds-list_clauses-end-3 : goal.slice_bounds-list_clauses-end-3
-slice_bounds-list_clauses-end-3 c = all-within-values _ _ _ _ _ _ _ c.build_forms.ensures.forms_built _ c.in_ok-forms.ensures.ok_part
-
-pub slice_bounds-list_clauses-end-4 : goal.slice_bounds-list_clauses-end-4
-slice_bounds-list_clauses-end-4 c = all-part-values _ _ _ _ _ _ _ c.build_forms.ensures.forms_built _ c.in_ok-forms.ensures.ok_part
+pub first-taken_out-requires : goal.first-taken_out-requires
+first-taken_out-requires c = record { tags_len = all-within _ _ _ _ _ _ _ c.build_forms.ensures.forms_built _ c.in_ok-forms.ensures.ok_part; values_len = all-within-values _ _ _ _ _ _ _ c.build_forms.ensures.forms_built _ c.in_ok-forms.ensures.ok_part }
 
 pub list_clauses-requires : goal.list_clauses-requires
-list_clauses-requires c = lent _ _ _ _ _ _ _ c.build_forms.ensures.forms_built _ c.in_ok-forms.ensures.ok_part
+list_clauses-requires c = rw c.first-taken_out.ensures.tags (lent _ _ _ _ _ _ _ c.build_forms.ensures.forms_built _ c.in_ok-forms.ensures.ok_part)
 
-pub returns-in_err-listed : goal.returns-in_err-listed
-returns-in_err-listed c = record {
-  leaves = clausified-refused _ _ _ _ _ _ _ c.requires.forall_sides _ _ _ c.build_forms.ensures.forms_built _ c.in_ok-forms.ensures.ok_part _ _ _ c.in_err-listed.ensures _ refl _ (handed-on _ _ c.from_residual-in_err-listed.ensures.1);
-  index_2 = c.build_forms.ensures.index_2;
-}
+pub returns-in_err-totals-clause-leaves : goal.returns-in_err-totals-clause-leaves
+returns-in_err-totals-clause-leaves c = clausified-refused _ _ _ _ _ _ _ c.requires.forall_sides _ _ _ c.build_forms.ensures.forms_built _ c.in_ok-forms.ensures.ok_part _ _ _ (rw (c.first-taken_out.ensures.tags, c.first-taken_out.ensures.values) at c.in_err-totals.ensures) _ refl _ (handed-on _ _ c.from_residual-in_err-totals.ensures.1)
 
-pub slice_bounds-clause_follows-end : goal.slice_bounds-clause_follows-end
-slice_bounds-clause_follows-end c = source-within _ _ _ _ _ _ _ c.build_forms.ensures.forms_built _ c.in_ok-forms.ensures.ok_part
+pub first-normal-requires : goal.first-normal-requires
+first-normal-requires c = record { tags_len = source-within _ _ _ _ _ _ _ c.build_forms.ensures.forms_built _ c.in_ok-forms.ensures.ok_part; values_len = source-within-values _ _ _ _ _ _ _ c.build_forms.ensures.forms_built _ c.in_ok-forms.ensures.ok_part }
 
-pub slice_bounds-clause_follows-end-2 : goal.slice_bounds-clause_follows-end-2
-slice_bounds-clause_follows-end-2 c = source-part _ _ _ _ _ _ _ c.build_forms.ensures.forms_built _ c.in_ok-forms.ensures.ok_part
-
-pub slice_bounds-clause_follows-end-3 : goal.slice_bounds-clause_follows-end-3
-slice_bounds-clause_follows-end-3 c = source-within-values _ _ _ _ _ _ _ c.build_forms.ensures.forms_built _ c.in_ok-forms.ensures.ok_part
-
-pub slice_bounds-clause_follows-end-4 : goal.slice_bounds-clause_follows-end-4
-slice_bounds-clause_follows-end-4 c = source-part-values _ _ _ _ _ _ _ c.build_forms.ensures.forms_built _ c.in_ok-forms.ensures.ok_part
-
-pub returns : goal.returns
-returns c = record {
-  leaves = clausified-follows _ _ _ _ _ _ _ c.requires.forall_sides _ _ _ c.build_forms.ensures.forms_built _ c.in_ok-forms.ensures.ok_part _ _ _ c.in_ok-listed.ensures refl _ c.clause_follows.ensures;
-  index_2 = c.build_forms.ensures.index_2;
-}
+pub returns-clause-leaves : goal.returns-clause-leaves
+returns-clause-leaves c = clausified-follows _ _ _ _ _ _ _ c.requires.forall_sides _ _ _ c.build_forms.ensures.forms_built _ c.in_ok-forms.ensures.ok_part _ _ _ (rw (c.first-taken_out.ensures.tags, c.first-taken_out.ensures.values) at c.in_ok-totals.ensures) refl _ (rw (c.first-normal.ensures.tags, c.first-normal.ensures.values) at c.clause_follows.ensures)

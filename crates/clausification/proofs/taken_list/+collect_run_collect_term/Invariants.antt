@@ -10,4 +10,4 @@ abbrev pub decreases-collect_term : goal.decreases-collect_term
 decreases-collect_term l = l.x.0 * 2 + 1
 
 abbrev pub invariant-collect_run-loop-u : goal.invariant-collect_run-loop-u
-invariant-collect_run-loop-u l = Collecting l.tags l.values l.initial.cells l.k l.run l.seen l.cells l.j l.u-index
+invariant-collect_run-loop-u l = Collecting l.pool.tags.now l.pool.values.now l.initial.cells l.k l.run l.seen l.cells l.j l.u-index

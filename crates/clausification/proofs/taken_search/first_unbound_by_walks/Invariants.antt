@@ -9,5 +9,5 @@ use Rattle.clausification.proofs.taken_search.first_unbound_by_walks.Given as go
 
 abbrev pub invariant-loop-pair : goal.invariant-loop-pair
 invariant-loop-pair l =
-    name_of (first_of (λ a. not (has (bindings_of l.left ++ taken bindings_of (form_at l.tags l.values l.x.0)) a)) (bindings_of l.right))
-    ≡ name_of (first_of (λ a. not (has (bindings_of l.left ++ taken bindings_of (form_at l.tags l.values l.x.0)) a)) (pairs_left l.pair-iterator))
+    name_of (first_of (λ a. not (has (bindings_of l.left ++ taken bindings_of (form_at l.pool.tags.now l.pool.values.now l.x.0)) a)) (bindings_of l.right))
+    ≡ name_of (first_of (λ a. not (has (bindings_of l.left ++ taken bindings_of (form_at l.pool.tags.now l.pool.values.now l.x.0)) a)) (pairs_left l.pair-iterator))

@@ -1,3 +1,4 @@
+use mathlib.Core.Path.{refl}
 use Rattle.miniscoping.proofs.sides.Laws.{sides-form, sides-kind, sides-left, sides-right, sides-are}
 use Rattle.miniscoping.proofs.sides.sides_of.Goals as goal
 
@@ -14,4 +15,4 @@ pub returns-then-tag_at-tag-2 : goal.returns-then-tag_at-tag-2
 returns-then-tag_at-tag-2 c = sides-right _ _ _ _ _ _ c.equality_at.ensures _ c.in_ok-left.was _ c.of_kind.ensures _ c.in_ok-body.was _ c.tag_at.ensures c.if-tag_at-tag.false _ c.tag_at-2.ensures c.if-tag_at-tag-2.true
 
 pub returns : goal.returns
-returns c = sides-are _ _ _ _ _ _ c.equality_at.ensures _ c.in_ok-left.was _ c.of_kind.ensures _ c.in_ok-body.was _ c.tag_at.ensures c.if-tag_at-tag.false _ c.tag_at-2.ensures c.if-tag_at-tag-2.false
+returns c = sides-are _ _ _ _ _ _ c.equality_at.ensures _ c.in_ok-left.was _ c.of_kind.ensures _ c.in_ok-body.was _ c.tag_at.ensures c.if-tag_at-tag.false _ c.tag_at-2.ensures c.args.kind refl c.if-tag_at-tag-2.false
