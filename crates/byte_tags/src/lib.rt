@@ -1,5 +1,6 @@
 // The calls that users make on a pool whose tags are bytes (document 02, S-9). They work on the lent arrays themselves: no tag is copied.
 // Each is lent the table of sort rules in use: `built_in` hands out the built-in one, and `load` replaces one (S-2).
+// Kept: the two arrays of a pool come one by one in a call that users make, as document 01 lends them.
 #![tactic(auto)]
 
 ghost use Rattle.std.specs.Prelude.{◌≡◌};
@@ -9,6 +10,7 @@ ghost use Rattle.normal_form.specs.Promise.{NormalFormPromise, ClauseListPromise
 ghost use Rattle.rules.specs.Step.{Step};
 
 pub use normal_form::call::Listed;
+use pool::Pool;
 pub use pool::{Answer, TermPlace};
 pub use sort_table::loading::load;
 pub use sort_table::table::built_in;
@@ -17,14 +19,14 @@ pub use sort_table::table::built_in;
 pub fn check_pool(tags: &[u8], values: &[u32], table: &[u32], n: usize) -> Answer
     ensures { result ≡ check_pool tags.now values.now table.now n }
 {
-    pool::call::check_pool(tags, values, table, n)
+    pool::call::check_pool(&Pool { tags, values }, table, n)
 }
 
 // The sort of the term at t: accepted, the sort's place.
 pub fn sort_of_term(tags: &[u8], values: &[u32], table: &[u32], n: usize, t: TermPlace) -> Answer
     ensures { result ≡ sort_answer tags.now values.now table.now n t.0 }
 {
-    pool::call::sort_of_term(tags, values, table, n, t)
+    pool::call::sort_of_term(&Pool { tags, values }, table, n, t)
 }
 
 // The free variables of the term at t: 1 at their places in the lent marks, and 0 elsewhere.
@@ -38,7 +40,7 @@ pub fn free_vars(
 ) -> Answer
     ensures { FreeVars tags.now values.now table.now n t.0 marks.old result marks.new }
 {
-    pool::call::free_vars(tags, values, table, n, t, marks)
+    pool::call::free_vars(&Pool { tags, values }, table, n, t, marks)
 }
 
 // The normal form of the term at t at a polarity: accepted, its place and the new count.

@@ -1,7 +1,7 @@
 // Arrays that are filled from a call file: each as long as any that a file may name.
 ghost use Rattle.std.specs.Prelude.{◌≤◌, ◌≡◌, length};
 
-use crate::call_files::{HEAD, MOST};
+use crate::call_files::HEAD;
 use crate::layouts::Layout;
 use step_files::words::{read_words, word};
 
@@ -12,23 +12,13 @@ pub const MAX_ENTRIES: usize = 300;
 pub const FILE_BYTES: usize = 109245;
 
 // The k words from position start on, at the front of an array.
-pub fn read_array(bytes: &[u8], start: usize, k: usize) -> [u32; MOST]
-    requires { k ≤ 9000 }
-    ensures { 9000 ≡ length result }
+pub fn read_array<const N: usize>(bytes: &[u8], start: usize, k: usize) -> [u32; N]
+    requires { k ≤ N }
+    ensures { N ≡ length result }
 {
-    let mut array = [0; MOST];
+    let mut array = [0; N];
     read_words(bytes, start, &mut array[..k]);
     array
-}
-
-// The k words from position start on, at the front of an array for the entries of a table.
-pub fn read_entries(bytes: &[u8], start: usize, k: usize) -> [u32; MAX_ENTRIES]
-    requires { k ≤ 300 }
-    ensures { 300 ≡ length result }
-{
-    let mut entries = [0; MAX_ENTRIES];
-    read_words(bytes, start, &mut entries[..k]);
-    entries
 }
 
 // Reads the tags after the head. None where one of them does not fit.

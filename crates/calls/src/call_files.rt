@@ -1,6 +1,6 @@
-// The layout of a call file: u32 little-endian words. Blocks may stand first: 100 with a table of sort rules, its length and its entries, and then
-// 102, which has tags lent as bytes. Then eight words are call, T, V, N, rule or place, polarity, X and Y. T tags and V values follow, and in a
-// call 0 the X places of the conclusion.
+// The layout of a call file: u32 little-endian words. Blocks may stand first: 100 with a table of sort rules, its length and its entries,
+// and then 102, which has tags lent as bytes. Then eight words are call, T, V, N, rule or place, polarity, X and Y. T tags and V values
+// follow, and in a call 0 the X places of the conclusion.
 ghost use Rattle.std.specs.Prelude.{◌≤◌, ◌≡◌};
 ghost use Rattle.calls.specs.Calls.{Numbers};
 ghost use Rattle.calls.specs.Format.{has_table, entry_count, table_words, lent_in_bytes, block_words, head_of, lent_count, ends_count, conclusion_count, is_whole};

@@ -15,91 +15,83 @@ pub fn is_collection(path: &[u8]) -> bool {
     path.ends_with(b".calls")
 }
 
-// Whether the file has n bytes more, which are read to the front of buf.
-fn fill<R: Read>(file: &mut R, buf: &mut [u8], n: usize) -> bool
+// Why a replay stops: the collection ends too early or goes on after its last call, or names a file by too many bytes; or nothing can
+// be printed.
+enum Stop {
+    BadCollection,
+    Output(io::Error),
+}
+
+impl From<io::Error> for Stop {
+    fn from(error: io::Error) -> Stop {
+        Stop::Output(error)
+    }
+}
+
+// Reads n bytes more of the file to the front of buf.
+fn fill<R: Read>(file: &mut R, buf: &mut [u8], n: usize) -> Result<(), Stop>
     requires { n ≤ length buf.old }
 {
-    read_full(file, &mut buf[..n]) == n
-}
-
-// A count or a length. None where the file ends before it.
-fn read_number<R: Read>(file: &mut R) -> Option<usize> {
-    let mut bytes = [0u8; 4];
-    if !fill(file, &mut bytes, 4) {
-        return None;
+    if read_full(file, &mut buf[..n]) < n {
+        return Err(Stop::BadCollection);
     }
-    Some(word(&bytes, 0) as usize)
+    Ok(())
 }
 
-// Whether the file has so many bytes more, which are read and left.
-fn skip<R: Read>(file: &mut R, size: usize) -> bool {
+// A count or a length.
+fn read_number<R: Read>(file: &mut R) -> Result<usize, Stop> {
+    let mut bytes = [0u8; 4];
+    fill(file, &mut bytes, 4)?;
+    Ok(word(&bytes, 0) as usize)
+}
+
+// Reads and leaves so many bytes more of the file.
+fn skip<R: Read>(file: &mut R, size: usize) -> Result<(), Stop> {
     let mut space = [0u8; 4096];
     for _ in 0..size / 4096 {
-        if !fill(file, &mut space, 4096) {
-            return false;
-        }
+        fill(file, &mut space, 4096)?;
     }
     fill(file, &mut space, size % 4096)
 }
 
-// Prints what the call file of that size gives, after its name, unless the collection ends first. Of one that is longer than any call
-// file the start is enough.
+// Prints what the call file of that size gives, after its name. Of one that is longer than any call file the start is enough.
 fn replay_file<R: Read, W: Write>(
     file: &mut R,
     name: &[u8],
     size: usize,
     out: &mut W,
-) -> io::Result<bool> {
+) -> Result<(), Stop> {
     let mut bytes = [0u8; FILE_BYTES];
     let kept = size.min(FILE_BYTES);
-    if !fill(file, &mut bytes, kept) {
-        return Ok(false);
-    }
-    if !skip(file, size - kept) {
-        return Ok(false);
-    }
+    fill(file, &mut bytes, kept)?;
+    skip(file, size - kept)?;
     name_line(name, out)?;
     run(&bytes[..kept], out)?;
-    Ok(true)
+    Ok(())
 }
 
-// False where the collection ends too early, and where the name is too long.
-fn replay_call<R: Read, W: Write>(file: &mut R, out: &mut W) -> io::Result<bool> {
-    let Some(length) = read_number(file) else {
-        return Ok(false);
-    };
+fn replay_call<R: Read, W: Write>(file: &mut R, out: &mut W) -> Result<(), Stop> {
+    let length = read_number(file)?;
     if 4096 < length {
-        return Ok(false);
+        return Err(Stop::BadCollection);
     }
     let mut name = [0u8; 4096];
-    if !fill(file, &mut name, length) {
-        return Ok(false);
-    }
-    let Some(size) = read_number(file) else {
-        return Ok(false);
-    };
+    fill(file, &mut name, length)?;
+    let size = read_number(file)?;
     replay_file(file, &name[..length], size, out)
 }
 
-fn replay_calls<R: Read, W: Write>(file: &mut R, count: usize, out: &mut W) -> io::Result<bool> {
+// The calls of the collection, which ends with the last of them.
+fn replay_calls<R: Read, W: Write>(file: &mut R, out: &mut W) -> Result<(), Stop> {
+    let count = read_number(file)?;
     for _ in 0..count {
-        if !replay_call(file, out)? {
-            return Ok(false);
-        }
-    }
-    Ok(true)
-}
-
-// Whether the collection ends with the last of its calls.
-fn replay_whole<R: Read, W: Write>(file: &mut R, out: &mut W) -> io::Result<bool> {
-    let Some(count) = read_number(file) else {
-        return Ok(false);
-    };
-    if !replay_calls(file, count, out)? {
-        return Ok(false);
+        replay_call(file, out)?;
     }
     let mut more = [0u8; 1];
-    Ok(!fill(file, &mut more, 1))
+    if read_full(file, &mut more) != 0 {
+        return Err(Stop::BadCollection);
+    }
+    Ok(())
 }
 
 fn bad_collection<W: Write>(path: &[u8], out: &mut W) -> io::Result<()> {
@@ -116,8 +108,9 @@ pub fn replay_collection<R: Files + Eprint, W: Write>(
     let Some(mut file) = open(rt, path) else {
         return bad_collection(path, out);
     };
-    if !replay_whole(&mut file, out)? {
-        return bad_collection(path, out);
+    match replay_calls(&mut file, out) {
+        Ok(()) => Ok(()),
+        Err(Stop::BadCollection) => bad_collection(path, out),
+        Err(Stop::Output(error)) => Err(error),
     }
-    Ok(())
 }

@@ -30,6 +30,7 @@ pub trait Layout: Copy + Into<u32> {
     ) -> Listed;
 }
 
+// Kept: users and C name the calls of either layout, to which these methods hand on.
 impl Layout for u8 {
     fn from_word(word: u32) -> Option<u8> {
         u8::try_from(word).ok()

@@ -37,25 +37,14 @@ fn replay_named<R: Files + Eprint, W: Write>(rt: &R, path: &[u8], out: &mut W) -
     }
 }
 
-// The file that argument i names. False where there is no such argument.
-fn replay_one<R: Env + Files + Eprint, W: Write>(
-    rt: &R,
-    i: usize,
-    out: &mut W,
-) -> io::Result<bool> {
-    let mut path = [0u8; 4096];
-    let Some(length) = argument(rt, i, &mut path) else {
-        return Ok(false);
-    };
-    replay_named(rt, &path[..length], out)?;
-    Ok(true)
-}
-
+// The files that the arguments name.
 fn replay<R: Env + Files + Eprint, W: Write>(rt: &R, out: &mut W) -> io::Result<()> {
+    let mut path = [0u8; 4096];
     for i in 1..usize::MAX {
-        if !replay_one(rt, i, out)? {
+        let Some(length) = argument(rt, i, &mut path) else {
             break;
-        }
+        };
+        replay_named(rt, &path[..length], out)?;
     }
     Ok(())
 }

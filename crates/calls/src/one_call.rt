@@ -2,7 +2,7 @@
 ghost use Rattle.std.specs.Prelude.{◌≡◌, length};
 ghost use Rattle.calls.specs.Format.{Bounded};
 
-use crate::arrays::{MAX_ENTRIES, read_array, read_entries, read_tags};
+use crate::arrays::{MAX_ENTRIES, read_array, read_tags};
 use crate::call_files::{
     Call, HEAD, Head, MOST, TABLE_HEAD, block_words, entry_count, has_table, is_whole,
     lent_in_bytes, read_head,
@@ -30,7 +30,7 @@ fn call_on<T: Layout, W: Write>(
     if read_tags(bytes, tags).is_none() {
         return bad_file(out);
     }
-    let mut values = read_array(bytes, HEAD + head.tags, head.values);
+    let mut values = read_array::<MOST>(bytes, HEAD + head.tags, head.values);
     let mut pool = Lent {
         tags,
         values: &mut values[..head.values],
@@ -78,39 +78,32 @@ fn run_call<W: Write>(bytes: &[u8], table: &[u32], in_bytes: bool, out: &mut W) 
     call_in_layout(bytes, table, head, in_bytes, out)
 }
 
-// A call with the entries that the file has, which begin the array `listed`. Without block 100 the built-in table is in use.
+// A call under the table that the file has, or else under the built-in one.
 fn run_with<W: Write>(
     bytes: &[u8],
-    listed: &[u32],
-    has_table: bool,
+    table: Option<&[u32]>,
     in_bytes: bool,
     out: &mut W,
 ) -> io::Result<()> {
     if word(bytes, 0) == Call::Load as u32 {
-        return load(bytes, listed, out);
+        return load(bytes, table.unwrap_or(&[]), out);
     }
-    if has_table {
-        return run_call(bytes, listed, in_bytes, out);
+    match table {
+        Some(table) => run_call(bytes, table, in_bytes, out),
+        None => run_call(bytes, &built_in(), in_bytes, out),
     }
-    let table = built_in();
-    run_call(bytes, &table, in_bytes, out)
 }
 
 pub fn run<W: Write>(bytes: &[u8], out: &mut W) -> io::Result<()> {
-    let entries = entry_count(bytes);
-    if MAX_ENTRIES < entries {
+    let count = entry_count(bytes);
+    if MAX_ENTRIES < count {
         return bad_file(out);
     }
     let words = block_words(bytes);
     if bytes.len() / 4 < words {
         return bad_file(out);
     }
-    let listed = read_entries(bytes, TABLE_HEAD, entries);
-    run_with(
-        &bytes[4 * words..],
-        &listed[..entries],
-        has_table(bytes),
-        lent_in_bytes(bytes),
-        out,
-    )
+    let entries = read_array::<MAX_ENTRIES>(bytes, TABLE_HEAD, count);
+    let table = has_table(bytes).then_some(&entries[..count]);
+    run_with(&bytes[4 * words..], table, lent_in_bytes(bytes), out)
 }

@@ -19,7 +19,7 @@ pub fn check<T: Layout, W: Write>(
     requires { Bounded head }
 {
     let x = conclusion_count(head);
-    let places = read_array(bytes, HEAD + head.tags + head.values, x);
+    let places = read_array::<MOST>(bytes, HEAD + head.tags + head.values, x);
     let answer = T::check(pool, head.place, &places[..x]);
     report::pool_after(answer, 0, pool, out)
 }

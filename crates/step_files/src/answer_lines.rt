@@ -1,5 +1,5 @@
 // Lines of numbers in decimal, written into a lent array.
-ghost use Rattle.std.specs.Prelude.{◌+◌, ◌≤◌, ◌≡◌, length};
+ghost use Rattle.std.specs.Prelude.{◌+◌, ◌≤◌, length};
 ghost use Rattle.step_files.specs.Decimal.{decimal};
 ghost use Rattle.step_files.specs.Text.{field, line, LinePut};
 

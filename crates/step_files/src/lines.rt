@@ -9,11 +9,11 @@ ghost use Rattle.step_files.specs.Text.{LinePut};
 
 use crate::answer_lines::put_line;
 use crate::words::{read_words, word, word_after};
-use pool::Refusal;
 use pool::checks::index_pool;
 use pool::description::zero_from;
-use pool::index::INDEX;
+use pool::index::{INDEX, IndexedPool};
 use pool::limits::CELLS;
+use pool::{Pool, Refusal};
 use rules::check::check_after;
 use tag_layouts::narrowing::byte_of;
 
@@ -48,31 +48,28 @@ fn read_tags(input: &[u8], start: usize, n: usize, tags: &mut [u8])
     }
 }
 
-// The line of every step, over the file's arrays and what the pool check says of them. Each step leaves the cells as they were.
+// The line of every step, over the file's pool and what the pool check says of it. Each step leaves the cells as they were.
 fn put_lines(
     input: &[u8],
     checked: Result<(), Refusal>,
-    tags: &mut [u8],
-    values: &mut [u32],
+    pool: &mut IndexedPool<'_>,
     table: &[u32],
-    index: &mut [u32; INDEX],
-    n: usize,
     steps: u32,
     out: &mut [u8],
 ) -> usize
-    requires ready { Ready input.now n steps (length out.old) (answer_of_check checked) tags.old values.old table.now }
-    requires indexed { Indexed tags.old values.old n (answer_of_check checked) index.old }
+    requires ready { Ready input.now pool.old.count steps (length out.old) (answer_of_check checked) pool.old.tags.now pool.old.values.now table.now }
+    requires indexed { Indexed pool.old.tags.now pool.old.values.now pool.old.count (answer_of_check checked) pool.old.index.now }
     ensures line_put { LinePut (lines input.now table.now steps) 11264 0 out.old result out.new }
-    ensures tags_unchanged { (tags.new ≡ tags.old) × (values.new ≡ values.old) }
+    ensures cells_unchanged { (pool.new.tags.now ≡ pool.old.tags.now) × (pool.new.values.now ≡ pool.old.values.now) }
 {
-    let rules = 2 + 2 * n;
+    let rules = 2 + 2 * pool.count;
     let places = rules + steps as usize;
     let mut at = 0;
     for k in 0..steps {
         let i = k as usize;
         let rule = word(input, rules + i);
         let conclusion = [word(input, places + i)];
-        let answer = check_after(checked, tags, values, table, index, n, rule, &conclusion);
+        let answer = check_after(checked, pool, table, rule, &conclusion);
         at = put_line(out, at, k + 1, answer);
     }
     at
@@ -94,16 +91,16 @@ pub(crate) fn answer_steps(
     let mut values = [0u32; CELLS];
     read_cells(input, 2 + n, n, &mut values);
     let mut index = [0u32; INDEX];
-    let checked = index_pool(&tags, &values, table, n, &mut index);
-    put_lines(
-        input,
-        checked,
-        &mut tags,
-        &mut values,
-        table,
-        &mut index,
-        n,
-        steps,
-        out,
-    )
+    let source = Pool {
+        tags: &tags,
+        values: &values,
+    };
+    let checked = index_pool(&source, table, n, &mut index);
+    let mut pool = IndexedPool {
+        tags: &mut tags,
+        values: &mut values,
+        index: &mut index,
+        count: n,
+    };
+    put_lines(input, checked, &mut pool, table, steps, out)
 }

@@ -1,15 +1,11 @@
-use Rattle.tag_layouts.proofs.Exits.{lent-parts, reading-exits}
-use borrow.Author.Rules.{rules}
+use Rattle.std.proofs.Common.{rules, inl, inr}
+use Rattle.tag_layouts.proofs.Exits.{pool-apart}
+use Rattle.tag_layouts.proofs.Calls.{check-pool-call}
 use Rattle.word_tags.proofs.check_pool.Goals as goal
 
-pub returns-then-tags-values : goal.returns-then-tags-values
-returns-then-tags-values c = search (reading-exits, lent-parts, rules)
-
-pub slice_bounds-check_pool-end : goal.slice_bounds-check_pool-end
-slice_bounds-check_pool-end c = search (reading-exits, lent-parts, rules)
-
-pub slice_bounds-check_pool-end-2 : goal.slice_bounds-check_pool-end-2
-slice_bounds-check_pool-end-2 c = search (reading-exits, lent-parts, rules)
-
 pub returns : goal.returns
-returns c = search (reading-exits, lent-parts, rules)
+returns c =
+    elim c.read.ensures [
+      | inl u ↦ pool-apart _ _ _ u.1 u.0 _ _
+      | inr w ↦ check-pool-call _ _ w.bytes w.same w.k w.into _ _ _ (let (p, q) = w.answers.shows in let m = w.answers.called in search rules)
+    ]

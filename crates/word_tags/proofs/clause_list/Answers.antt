@@ -1,28 +1,31 @@
-use native.Mathlib.Omega.{arith}
-use Rattle.tag_layouts.proofs.Exits.{lent-parts, clause-list-left, clause-list-part, clause-list-back, clause-list-written, clause-list-exits}
-use borrow.Author.Rules.{rules}
+use Rattle.std.proofs.Common.{rules, arith, [], length, refl, ap, inl, inr}
+use Rattle.std.proofs.lemmas.Option.{same_Some}
+use lib.ListN.{take}
+use Rattle.normal_form.specs.Promise.{ClauseListPromise}
+use Rattle.tag_layouts.proofs.Calls.{clause-list-size, clause-list-room, clause-list-promised}
+use Rattle.tag_layouts.proofs.Arrays.{lent-part}
+use Rattle.word_tags.proofs.Refused.{clause-list-unlike, lists-left}
 use Rattle.word_tags.proofs.clause_list.Goals as goal
 
-pub returns-then-tags-values : goal.returns-then-tags-values
-returns-then-tags-values c = search (clause-list-exits, lent-parts, rules)
-
-pub slice_bounds-clause_list-end : goal.slice_bounds-clause_list-end
-slice_bounds-clause_list-end c = search (clause-list-exits, lent-parts, rules)
-
-pub slice_bounds-clause_list-end-3 : goal.slice_bounds-clause_list-end-3
-slice_bounds-clause_list-end-3 c = search (clause-list-exits, lent-parts, rules)
-
-pub returns-then-listed-eq30 : goal.returns-then-listed-eq30
-returns-then-listed-eq30 c = search (clause-list-exits, lent-parts, rules)
-
-pub slice_bounds-bytes-end-2 : goal.slice_bounds-bytes-end-2
-slice_bounds-bytes-end-2 c = clause-list-left _ _ _ _ c.narrow_into-k.ensures (omega arith) _ _ _ _ _ _ _ _ _ _ _ c.clause_list-listed.ensures _
-
-pub slice_bounds-write_back-end : goal.slice_bounds-write_back-end
-slice_bounds-write_back-end c = clause-list-part _ _ _ _ c.narrow_into-k.ensures (omega arith) _ _ _ _ _ _ _ _ _ _ _ c.clause_list-listed.ensures _
-
-pub write_back-requires : goal.write_back-requires
-write_back-requires c = clause-list-back _ _ _ _ c.narrow_into-k.ensures (omega arith) _ _ _ _ _ _ _ _ _ _ _ c.clause_list-listed.ensures c.if-listed-eq30.false _
+pub write-requires-clause-fits : goal.write-requires-clause-fits
+write-requires-clause-fits c k bytes r f' left-tags left same into w n e h =
+    let (p, q) = w.shows in
+    let (y, z) = w.leaves in
+    let m = w.called.met in
+    let f : ClauseListPromise (take k bytes) (take k c.args.values.now) c.args.table.now c.args.n c.args.t.0 c.args.literals.now c.args.ends.now r.answer r.count left-tags left f'.3.now f'.4.now = search rules in
+    let long = clause-list-size c.args.tags.now c.args.values.now bytes same k into _ _ _ _ _ _ _ _ _ _ _ f.cells in
+    let back = clause-list-room c.args.tags.now c.args.values.now bytes same k into _ _ _ _ _ _ _ _ _ _ _ f.cells [] h in
+    (long, omega (arith, same_Some c.args.n n e, back.within, ap length (lent-part k left-tags [] long)))
 
 pub returns : goal.returns
-returns c = clause-list-written _ _ _ _ c.narrow_into-k.ensures (omega (arith, c.if-tags-values.false)) _ _ _ _ _ _ _ _ _ _ _ c.clause_list-listed.ensures c.if-listed-eq30.false _ _ _ c.write_back.ensures c.zero_from.ensures
+returns c =
+    elim c.write.ensures [
+      | inl u ↦ let (h, e, s, a, b) = u in clause-list-unlike (ap (λ l. l.answer) e) h a b (ap (λ l. l.count) e) (search rules) (search rules)
+      | inr w ↦
+          let (p, q) = w.leaves.shows in
+          let (y, z) = w.leaves.leaves in
+          let m = w.leaves.called.met in
+          let f : ClauseListPromise (take w.k w.bytes) (take w.k c.args.values.now) c.args.table.now c.args.n c.args.t.0 c.args.literals.now c.args.ends.now c.write.result.answer c.write.result.count w.left-tags w.left c.write.new.call.3.now c.write.new.call.4.now = search rules in
+          let written = clause-list-promised _ _ w.bytes w.same w.k w.into _ _ _ _ _ _ _ w.left-tags w.left _ _ f w.rest _ _ (record { kept = λ e. w.kept (λ n o. e); written = λ h. w.back c.args.n refl h }) in
+          lists-left written (search rules) (search rules)
+    ]

@@ -1,15 +1,11 @@
-use Rattle.tag_layouts.proofs.Exits.{lent-parts, reading-exits}
-use borrow.Author.Rules.{rules}
+use Rattle.std.proofs.Common.{rules, inl, inr}
+use Rattle.tag_layouts.proofs.Calls.{free-vars-call}
+use Rattle.word_tags.proofs.Refused.{free-unlike}
 use Rattle.word_tags.proofs.free_vars.Goals as goal
 
-pub returns-then-tags-values : goal.returns-then-tags-values
-returns-then-tags-values c = search (reading-exits, lent-parts, rules)
-
-pub slice_bounds-free_vars-end : goal.slice_bounds-free_vars-end
-slice_bounds-free_vars-end c = search (reading-exits, lent-parts, rules)
-
-pub slice_bounds-free_vars-end-2 : goal.slice_bounds-free_vars-end-2
-slice_bounds-free_vars-end-2 c = search (reading-exits, lent-parts, rules)
-
 pub returns : goal.returns
-returns c = search (reading-exits, lent-parts, rules)
+returns c =
+    elim c.read.ensures [
+      | inl u ↦ let same = u.2 in free-unlike u.1 u.0 (search rules)
+      | inr w ↦ free-vars-call _ _ w.bytes w.same w.k w.into _ _ _ _ _ _ (let (p, q) = w.answers.shows in let m = w.answers.called.met in search rules)
+    ]

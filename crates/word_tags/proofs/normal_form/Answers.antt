@@ -1,28 +1,30 @@
-use native.Mathlib.Omega.{arith}
-use Rattle.tag_layouts.proofs.Exits.{lent-parts, normal-form-back, normal-form-exits}
-use borrow.Author.Rules.{rules}
+use Rattle.std.proofs.Common.{rules, arith, [], length, refl, ap, inl, inr}
+use Rattle.std.proofs.lemmas.Option.{same_Some}
+use lib.ListN.{take}
+use Rattle.normal_form.specs.Promise.{NormalFormPromise}
+use Rattle.tag_layouts.proofs.Calls.{normal-form-size, normal-form-room, normal-form-promised}
+use Rattle.tag_layouts.proofs.Arrays.{lent-part}
+use Rattle.word_tags.proofs.Refused.{normal-form-unlike}
 use Rattle.word_tags.proofs.normal_form.Goals as goal
 
-pub returns-then-tags-values : goal.returns-then-tags-values
-returns-then-tags-values c = search (normal-form-exits, lent-parts, rules)
-
-pub slice_bounds-normal_form-end : goal.slice_bounds-normal_form-end
-slice_bounds-normal_form-end c = search (normal-form-exits, lent-parts, rules)
-
-pub slice_bounds-normal_form-end-3 : goal.slice_bounds-normal_form-end-3
-slice_bounds-normal_form-end-3 c = search (normal-form-exits, lent-parts, rules)
-
-pub returns-then-answer-eq30 : goal.returns-then-answer-eq30
-returns-then-answer-eq30 c = search (normal-form-exits, lent-parts, rules)
-
-pub slice_bounds-bytes-end-2 : goal.slice_bounds-bytes-end-2
-slice_bounds-bytes-end-2 c = search (normal-form-exits, lent-parts, rules)
-
-pub slice_bounds-write_back-end : goal.slice_bounds-write_back-end
-slice_bounds-write_back-end c = search (normal-form-exits, lent-parts, rules)
-
-pub write_back-requires : goal.write_back-requires
-write_back-requires c = normal-form-back _ _ _ _ c.narrow_into-k.ensures (omega arith) _ _ _ _ _ _ _ c.normal_form-answer.ensures (λ e. omega arith) _
+pub write-requires-clause-fits : goal.write-requires-clause-fits
+write-requires-clause-fits c k bytes r f' left-tags left same into w n e h =
+    let (p, q) = w.shows in
+    let (y, z) = w.leaves in
+    let m = w.called in
+    let f : NormalFormPromise (take k bytes) (take k c.args.values.now) c.args.table.now c.args.n c.args.t.0 c.args.polarity r.answer left-tags left = search rules in
+    let long = normal-form-size c.args.tags.now c.args.values.now bytes same k into _ _ _ _ _ _ _ f.cells in
+    let back = normal-form-room c.args.tags.now c.args.values.now bytes same k into _ _ _ _ _ _ _ f.cells [] h in
+    (long, omega (arith, same_Some c.args.n n e, back.within, ap length (lent-part k left-tags [] long)))
 
 pub returns : goal.returns
-returns c = search (normal-form-exits, lent-parts, rules)
+returns c =
+    elim c.write.ensures [
+      | inl u ↦ let (h, e, s, a, b) = u in normal-form-unlike (ap (λ l. l.answer) e) h a b
+      | inr w ↦
+          let (p, q) = w.leaves.shows in
+          let (y, z) = w.leaves.leaves in
+          let m = w.leaves.called in
+          normal-form-promised _ _ w.bytes w.same w.k w.into _ _ _ _ _ w.left-tags w.left (search rules) w.rest _ _
+          (record { kept = λ e. w.kept (λ n o. e); written = λ h. w.back c.args.n refl h })
+    ]

@@ -1,15 +1,11 @@
-use Rattle.tag_layouts.proofs.Exits.{lent-parts, reading-exits}
-use borrow.Author.Rules.{rules}
+use Rattle.std.proofs.Common.{rules, inl, inr}
+use Rattle.tag_layouts.proofs.Exits.{sort-apart}
+use Rattle.tag_layouts.proofs.Calls.{sort-call}
 use Rattle.word_tags.proofs.sort_of_term.Goals as goal
 
-pub returns-then-tags-values : goal.returns-then-tags-values
-returns-then-tags-values c = search (reading-exits, lent-parts, rules)
-
-pub slice_bounds-sort_of_term-end : goal.slice_bounds-sort_of_term-end
-slice_bounds-sort_of_term-end c = search (reading-exits, lent-parts, rules)
-
-pub slice_bounds-sort_of_term-end-2 : goal.slice_bounds-sort_of_term-end-2
-slice_bounds-sort_of_term-end-2 c = search (reading-exits, lent-parts, rules)
-
 pub returns : goal.returns
-returns c = search (reading-exits, lent-parts, rules)
+returns c =
+    elim c.read.ensures [
+      | inl u ↦ sort-apart _ _ _ u.1 u.0 _ _ _
+      | inr w ↦ sort-call _ _ w.bytes w.same w.k w.into _ _ _ _ (let (p, q) = w.answers.shows in let m = w.answers.called in search rules)
+    ]

@@ -7,7 +7,8 @@ use Rattle.step_files.proofs.lines.put_lines.Given as goal
 
 abbrev pub invariant-loop-k : goal.invariant-loop-k
 invariant-loop-k l =
-    (l.tags ≡ l.initial.tags)
-    × (l.values ≡ l.initial.values)
-    × Indexed l.initial.tags l.initial.values l.n (answer_of_check l.checked) l.index
+    (l.pool.tags.now ≡ l.initial.pool.tags.now)
+    × (l.pool.values.now ≡ l.initial.pool.values.now)
+    × (l.pool.count ≡ l.initial.pool.count)
+    × Indexed l.initial.pool.tags.now l.initial.pool.values.now l.initial.pool.count (answer_of_check l.checked) l.pool.index.now
     × LinePut (lines l.input l.table l.k) (44 * l.k) 0 l.initial.out l.at l.out
