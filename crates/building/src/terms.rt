@@ -14,7 +14,7 @@ use formulas::kinds::{ConnectiveKind, QuantifierKind};
 use pool::TermPlace;
 use pool::index::IndexedPool;
 use pool::limits::CELLS;
-use pool::run::cell;
+use pool::run::{cell, copy_cells};
 use pool::tags::NOT;
 
 // The array of a walk: an entry for each cell and polarity, then the row.
@@ -88,7 +88,7 @@ fn gather_pairs(run: &[u32], body: TermPlace, work: &mut [u32; WORK]) -> usize
         return ROW + 2;
     };
     let k = ROW + 2 + pairs.len();
-    work[ROW + 2..k].copy_from_slice(pairs);
+    copy_cells(pairs, &mut work[ROW + 2..k]);
     k
 }
 

@@ -1,20 +1,24 @@
 -- Laws of `Cell`: reading cells, runs of cells, and comparing them.
 -- Assumes nothing.
 use Prim.Native.Nat.{ℕ, ◌+◌, ◌-◌, ◌≤◌, ◌<◌}
-use mathlib.Core.Path.{◌≡◌, refl, sym, ap}
+use mathlib.Core.Path.{◌≡◌, refl, sym, ap, subst, ◌∙◌}
 use mathlib.Core.Bool.{Bool, true, false}
 use mathlib.Core.List.{List, [], ◌∷◌}
 use lib.ListN.{length, get_or, take, drop, drop_of_length-le, length-drop}
 use lib.Seq.{take_all, take-nil}
 use lib.Dec.{eqb}
 use Rattle.std.specs.Cmp.Lexicographic.{pointwise}
+use Rattle.std.specs.Prelude.{Option, Some, None, MatchOption, IfSome}
+use Rattle.std.specs.Iterator.{AlwaysYields, YieldsThen, ComparesItemsByEq}
+use Rattle.std.specs.List.{AllZip}
+use Rattle.std.proofs.lemmas.Iterator.{YieldsList}
 use native.Mathlib.Omega.{arith}
 use borrow.Author.Tests.{lt-ltb, le-ltb, eq-eqb, ne_eqb, eqb-true}
 use Rattle.cells.specs.ByPlace.{by-test}
 use Rattle.cells.specs.Cell.{cells_of, operands_of, same_cells, is_at}
 
 -- what `&l[i..]` is
-rest-is : (l : List ℕ) (i : ℕ) → take (length l - i) (drop i l) ≡ drop i l
+pub rest-is : (l : List ℕ) (i : ℕ) → take (length l - i) (drop i l) ≡ drop i l
 rest-is l i = take_all (length l - i) (drop i l) (rw length-drop (omega arith))
 
 -- ---- the cells after the header at p
@@ -83,6 +87,50 @@ same-pointwise (x ∷ a) (y ∷ b) r e = by-test (eqb x y) (λ o. rw o (same-poi
 
 pub same-lengths : (a b : List ℕ) → (length a ≡ length b → ⊥) → false ≡ same_cells a b
 same-lengths a b n = by-test (same_cells a b) (λ e. absurd (n (ap length (same-eq a b e)))) (λ e. sym e)
+
+-- ---- two lists compared, each as an iterator gives it; v reads an item
+module _ {S T A : Type 0} (steps : S → Option A → S → Type 0) (others : T → Option A → T → Type 0) (v : A → ℕ) (eq : A → A → Bool)
+    (agree : (x y : A) → eq x y ≡ eqb (v x) (v y)) (r : Bool) where
+  abbrev Last : Option A → Option A → Type 0
+  Last o p = MatchOption o (MatchOption p (r ≡ true) (λ _. r ≡ false)) (λ x. (r ≡ false) × IfSome p (λ y. eq x y ≡ false))
+
+  at_last : (o p : Option A) (xs ys : List ℕ) (s u : S) (t w : T) → AlwaysYields steps v s xs → AlwaysYields others v t ys → steps s o u → others t p w → Last o p → r ≡ same_cells xs ys
+  unfolding same_cells
+  at_last None None (x ∷ xs) ys s u t w e f a b h = absurd (e.0 u a)
+  at_last None (Some y) (x ∷ xs) ys s u t w e f a b h = absurd (e.0 u a)
+  at_last (Some x) None [] ys s u t w e f a b h = absurd (e x u a)
+  at_last (Some x) (Some y) [] ys s u t w e f a b h = absurd (e x u a)
+  at_last None None [] (y ∷ ys) s u t w e f a b h = absurd (f.0 w b)
+  at_last None (Some y) [] [] s u t w e f a b h = absurd (f y w b)
+  at_last (Some x) None (z ∷ xs) (y ∷ ys) s u t w e f a b h = absurd (f.0 w b)
+  at_last (Some x) (Some y) (z ∷ xs) [] s u t w e f a b h = absurd (f y w b)
+  at_last None None [] [] s u t w e f a b h = h
+  at_last None (Some y) [] (z ∷ ys) s u t w e f a b h = h
+  at_last (Some x) None (z ∷ xs) [] s u t w e f a b h = h.0
+  at_last (Some x) (Some y) (x' ∷ xs) (y' ∷ ys) s u t w e f a b h =
+      let d : eqb (v x) (v y) ≡ false = sym (agree x y) ∙ h.1 in
+      rw (← (e.1 x u a).0, ← (f.1 y w b).0, d, h.0)
+
+  along : (cs bs : List A) (o p : Option A) (xs ys : List ℕ) (s u : S) (t w : T) → AlwaysYields steps v s xs → AlwaysYields others v t ys
+      → YieldsThen steps s cs o u → YieldsThen others t bs p w → AllZip (λ x y. eq x y ≡ true) cs bs → Last o p → r ≡ same_cells xs ys
+  unfolding same_cells
+  along [] [] o p xs ys s u t w e f a b z h = at_last o p xs ys s u t w e f (subst (λ j. steps j o u) (sym a.1) a.2) (subst (λ j. others j p w) (sym b.1) b.2) h
+  along [] (y ∷ bs) o p xs ys s u t w e f a b z h = absurd z
+  along (x ∷ cs) [] o p xs ys s u t w e f a b z h = absurd z
+  along (x ∷ cs) (y ∷ bs) o p [] ys s u t w e f a b z h = absurd (e x a.1.0 a.1.1)
+  along (x ∷ cs) (y ∷ bs) o p (x' ∷ xs) [] s u t w e f a b z h = absurd (f y b.1.0 b.1.1)
+  along (x ∷ cs) (y ∷ bs) o p (x' ∷ xs) (y' ∷ ys) s u t w e f a b z h =
+      let m = e.1 x a.1.0 a.1.1 in
+      let n = f.1 y b.1.0 b.1.1 in
+      let d : eqb (v x) (v y) ≡ true = sym (agree x y) ∙ z.0 in
+      rw (← m.0, ← n.0, d) (along cs bs o p xs ys a.1.0 u b.1.0 w m.1 n.1 (a.0, a.1.2, a.2) (b.0, b.1.2, b.2) z.1 h)
+
+-- `eq` of two iterators compares the lists that they give
+pub same_from_eq : {S U T A : Type 0} {steps : S → Option A → S → Type 0} {others : T → Option A → T → Type 0} {v : A → ℕ} {s : S} {eq : A → A → Bool} {xs ys : List ℕ}
+    (becomes : U → T → Type 0) (other : U) (r : Bool) → ComparesItemsByEq steps becomes others s other eq r
+    → YieldsList steps v s xs → ((it : T) → becomes other it → YieldsList others v it ys) → ((x y : A) → eq x y ≡ eqb (v x) (v y)) → r ≡ same_cells xs ys
+same_from_eq {steps = steps} {others = others} {v = v} {s = s} {eq = eq} {xs = xs} {ys = ys} becomes other r d e f agree =
+    along steps others v eq agree r d.1 d.2 d.3 d.4 xs ys s d.5 d.0 d.6 e.runs (f d.0 d.7).runs d.8 d.9 d.10 d.11
 
 -- ---- a description
 module _ (tags values : List ℕ) (p tag : ℕ) (cells : List ℕ) (k : ℕ) (is : k ≡ get_or tags p 0) where

@@ -7,8 +7,8 @@ ghost use Rattle.cells.specs.TermTag.{is_term};
 
 use crate::cell_comparison::same_cells;
 use crate::header_places::HeaderPlaces;
-use crate::run::cell;
-use crate::tags::{APPLICATION, is_term_tag};
+use crate::run::{cell, cells, operands};
+use crate::tags::{is_term_tag, tag_at};
 use crate::{SortPlace, TermPlace};
 
 // Tags in bytes, and values in u32.
@@ -23,7 +23,7 @@ impl<'a> Pool<'a> {
     pub fn tag_at(&self, i: usize) -> u8
         ensures { result ≡ get_or self.now.tags.now i 0 }
     {
-        self.tags.get(i).copied().unwrap_or(0)
+        tag_at(self.tags, i)
     }
 
     // The cell at i, and 0 past the end.
@@ -37,15 +37,7 @@ impl<'a> Pool<'a> {
     pub fn cells(&self, p: usize) -> &'a [u32]
         ensures { result.now ≡ cells_of self.now.values.now p }
     {
-        if self.values.len() <= p {
-            return &self.values[0..0];
-        }
-        let start = p + 1;
-        let n = self.values[p] as usize;
-        if self.values.len() - start < n {
-            return &self.values[start..];
-        }
-        &self.values[start..start + n]
+        cells(self.values, p)
     }
 
     // The sort that the term at t states.
@@ -60,15 +52,7 @@ impl<'a> Pool<'a> {
     pub fn operands(&self, t: TermPlace) -> &'a [u32]
         ensures { result.now ≡ operands_of self.now.tags.now self.now.values.now t.0 }
     {
-        let at = t.0 as usize;
-        if self.tag_at(at) < APPLICATION {
-            return &self.values[0..0];
-        }
-        let run = self.cells(at);
-        if run.len() == 0 {
-            return run;
-        }
-        &run[1..]
+        operands(self.tags, self.values, t)
     }
 
     // Whether the header at p has this tag and these cells.

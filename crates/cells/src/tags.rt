@@ -1,5 +1,5 @@
 // The tags of document 01 by their names, a byte each, and which of them are terms'.
-ghost use Rattle.std.specs.Prelude.{◌≡◌};
+ghost use Rattle.std.specs.Prelude.{◌≡◌, get_or};
 ghost use Rattle.cells.specs.TermTag.{is_term_tag};
 
 // Sorts.
@@ -72,4 +72,11 @@ pub fn is_term_tag(tag: u8) -> bool
     ensures { result ≡ is_term_tag tag }
 {
     INTEGER <= tag
+}
+
+// The tag at i, and 0 past the end.
+pub fn tag_at(tags: &[u8], i: usize) -> u8
+    ensures { result ≡ get_or tags.now i 0 }
+{
+    tags.get(i).copied().unwrap_or(0)
 }

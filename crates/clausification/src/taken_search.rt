@@ -67,7 +67,7 @@ impl Search<'_> {
         }
         let view = normal_view(self.pool, x);
         match view {
-            NormalView::Literal => None,
+            NormalView::Literal => note(seen, x, None),
             NormalView::Connective(_) => {
                 let found = self.from_run(seen, x);
                 note(seen, x, found)

@@ -3,6 +3,7 @@ ghost use Rattle.std.specs.Prelude.{◌≡◌, ◌∷◌, ◌+◌, ◌≤◌, le
 ghost use Rattle.descriptions.specs.Description.{is_full, Room, Put};
 
 use cells::pool::Pool;
+use cells::run::copy_cells;
 
 // Whether there is no room after n for a header with k cells.
 pub(crate) fn is_full(pool: &Pool<'_>, limit: usize, n: usize, k: usize) -> bool
@@ -32,7 +33,7 @@ fn put_cells(tags: &mut [u8], values: &mut [u32], at: usize, cells: &[u32])
 {
     let end = at + cells.len();
     tags[at..end].fill(0);
-    values[at..end].copy_from_slice(cells);
+    copy_cells(cells, &mut values[at..end]);
 }
 
 // Writes a header and its cells from n on, and gives the new count.

@@ -6,6 +6,7 @@ ghost use Rattle.sort_table.specs.TableAnswer.{entry_count, first_entry, forbids
 use crate::table::built_in;
 use answers::Answer;
 use answers::refusal::Refusal;
+use cells::run::copy_cells;
 
 // "one of 135 entries, one rule number each"
 pub const ENTRIES: usize = 135;
@@ -89,7 +90,7 @@ pub fn load(entries: &[u32], table: &mut [u32; ENTRIES]) -> Answer
 {
     let checked = check_table(entries);
     if checked.is_ok() {
-        table.copy_from_slice(entries);
+        copy_cells(entries, table);
     }
     Answer::from(checked)
 }

@@ -61,11 +61,16 @@ fn same_reversed(a: &[u32], b: &[u32]) -> bool
     a.iter().eq(b.iter().rev())
 }
 
-// Whether the cells of a are those of left and then those of right.
+// Whether the cells of a are those of left and then those of right: two slices compared, since an iterator over one list after the other
+// takes twice as long.
 fn same_joined(a: &[u32], left: &[u32], right: &[u32]) -> bool
     ensures { result ≡ same_cells a.now (left.now ++ right.now) }
 {
-    a.iter().eq(left.iter().chain(right))
+    let n = left.len();
+    if a.len() < n {
+        return false;
+    }
+    &a[..n] == left && &a[n..] == right
 }
 
 // ---- tuples and functions

@@ -10,17 +10,16 @@ use lib.Dec.{ltb, eqb}
 use native.Mathlib.Omega.{arith}
 use native.Mathlib.Nat.{add-zero}
 use borrow.Author.Tests.{lt-ltb, le-ltb, le-leb, lt-leb, eq-eqb, ne_eqb, not-true, not-false}
-use Rattle.std.specs.Prelude.{Option, Some, None, MatchOption, IfSome}
+use Rattle.std.specs.Prelude.{Option, Some, None}
 use Rattle.std.specs.declared.iter.StepBy.{StepBy}
 use Rattle.std.specs.Iterator.Adapters.{step_by_gap, step_by_first_take, step_by_source, step_by_steps}
-use Rattle.std.specs.Iterator.{AlwaysYields, YieldsThen, ComparesItemsByEq}
-use Rattle.std.specs.List.{AllZip}
+use Rattle.std.specs.Iterator.{AlwaysYields, YieldsThen}
 use Rattle.std.proofs.lemmas.Iterator.{YieldsList}
 use Rattle.cells.specs.Cell.{cells_of, sort_of, same_cells, is_at}
 use Rattle.sorts.specs.SortRule.{relation, no_answer, is_sort, pair_sorts, apply, sort_tag, is_relation, relation_sorts, transpose, join, product, application, lambda}
 use Rattle.sorts.specs.ListRule.{by_list}
 use Rattle.sorts.specs.declared.list_sorts.ListRule.{ListRule}
-use Rattle.cells.proofs.Cells.{same-lengths}
+use Rattle.cells.proofs.Cells.{rest-is, same-lengths}
 
 -- ---- a list without its last
 pub last_rest : (a : List ℕ) → take (length a - 1) a ≡ drop_last a
@@ -29,50 +28,6 @@ last_rest (x ∷ []) = refl
 last_rest (x ∷ (y ∷ a)) =
     let e : length (x ∷ (y ∷ a)) - 1 ≡ suc (length (y ∷ a) - 1) = omega arith in
     rw (e, last_rest (y ∷ a))
-
--- ---- two lists compared, each as an iterator gives it; v reads an item
-module _ {S T A : Type 0} (steps : S → Option A → S → Type 0) (others : T → Option A → T → Type 0) (v : A → ℕ) (eq : A → A → Bool)
-    (agree : (x y : A) → eq x y ≡ eqb (v x) (v y)) (r : Bool) where
-  abbrev Last : Option A → Option A → Type 0
-  Last o p = MatchOption o (MatchOption p (r ≡ true) (λ _. r ≡ false)) (λ x. (r ≡ false) × IfSome p (λ y. eq x y ≡ false))
-
-  at_last : (o p : Option A) (xs ys : List ℕ) (s u : S) (t w : T) → AlwaysYields steps v s xs → AlwaysYields others v t ys → steps s o u → others t p w → Last o p → r ≡ same_cells xs ys
-  unfolding same_cells
-  at_last None None (x ∷ xs) ys s u t w e f a b h = absurd (e.0 u a)
-  at_last None (Some y) (x ∷ xs) ys s u t w e f a b h = absurd (e.0 u a)
-  at_last (Some x) None [] ys s u t w e f a b h = absurd (e x u a)
-  at_last (Some x) (Some y) [] ys s u t w e f a b h = absurd (e x u a)
-  at_last None None [] (y ∷ ys) s u t w e f a b h = absurd (f.0 w b)
-  at_last None (Some y) [] [] s u t w e f a b h = absurd (f y w b)
-  at_last (Some x) None (z ∷ xs) (y ∷ ys) s u t w e f a b h = absurd (f.0 w b)
-  at_last (Some x) (Some y) (z ∷ xs) [] s u t w e f a b h = absurd (f y w b)
-  at_last None None [] [] s u t w e f a b h = h
-  at_last None (Some y) [] (z ∷ ys) s u t w e f a b h = h
-  at_last (Some x) None (z ∷ xs) [] s u t w e f a b h = h.0
-  at_last (Some x) (Some y) (x' ∷ xs) (y' ∷ ys) s u t w e f a b h =
-      let d : eqb (v x) (v y) ≡ false = sym (agree x y) ∙ h.1 in
-      rw (← (e.1 x u a).0, ← (f.1 y w b).0, d, h.0)
-
-  along : (cs bs : List A) (o p : Option A) (xs ys : List ℕ) (s u : S) (t w : T) → AlwaysYields steps v s xs → AlwaysYields others v t ys
-      → YieldsThen steps s cs o u → YieldsThen others t bs p w → AllZip (λ x y. eq x y ≡ true) cs bs → Last o p → r ≡ same_cells xs ys
-  unfolding same_cells
-  along [] [] o p xs ys s u t w e f a b z h = at_last o p xs ys s u t w e f (subst (λ j. steps j o u) (sym a.1) a.2) (subst (λ j. others j p w) (sym b.1) b.2) h
-  along [] (y ∷ bs) o p xs ys s u t w e f a b z h = absurd z
-  along (x ∷ cs) [] o p xs ys s u t w e f a b z h = absurd z
-  along (x ∷ cs) (y ∷ bs) o p [] ys s u t w e f a b z h = absurd (e x a.1.0 a.1.1)
-  along (x ∷ cs) (y ∷ bs) o p (x' ∷ xs) [] s u t w e f a b z h = absurd (f y b.1.0 b.1.1)
-  along (x ∷ cs) (y ∷ bs) o p (x' ∷ xs) (y' ∷ ys) s u t w e f a b z h =
-      let m = e.1 x a.1.0 a.1.1 in
-      let n = f.1 y b.1.0 b.1.1 in
-      let d : eqb (v x) (v y) ≡ true = sym (agree x y) ∙ z.0 in
-      rw (← m.0, ← n.0, d) (along cs bs o p xs ys a.1.0 u b.1.0 w m.1 n.1 (a.0, a.1.2, a.2) (b.0, b.1.2, b.2) z.1 h)
-
--- `eq` of two iterators compares the lists that they give
-pub same_from_eq : {S U T A : Type 0} {steps : S → Option A → S → Type 0} {others : T → Option A → T → Type 0} {v : A → ℕ} {s : S} {eq : A → A → Bool} {xs ys : List ℕ}
-    (becomes : U → T → Type 0) (other : U) (r : Bool) → ComparesItemsByEq steps becomes others s other eq r
-    → YieldsList steps v s xs → ((it : T) → becomes other it → YieldsList others v it ys) → ((x y : A) → eq x y ≡ eqb (v x) (v y)) → r ≡ same_cells xs ys
-same_from_eq {steps = steps} {others = others} {v = v} {s = s} {eq = eq} {xs = xs} {ys = ys} becomes other r d e f agree =
-    along steps others v eq agree r d.1 d.2 d.3 d.4 xs ys s d.5 d.0 d.6 e.runs (f d.0 d.7).runs d.8 d.9 d.10 d.11
 
 -- ---- every second item of an iterator is the second of a pair
 module _ {S A : Type 0} (steps : S → Option A → S → Type 0) (v : A → ℕ) where
@@ -122,6 +77,24 @@ module _ {S A : Type 0} (steps : S → Option A → S → Type 0) (v : A → ℕ
 pub pair_sorts_from_step_by : {S A : Type 0} {steps : S → Option A → S → Type 0} {v : A → ℕ} {s : StepBy S} (l : List ℕ) → YieldsList steps v (step_by_source s) (drop 1 l)
     → step_by_gap s + 1 ≡ 2 → step_by_first_take s ≡ true → YieldsList (step_by_steps steps) v s (pair_sorts l)
 pair_sorts_from_step_by {steps = steps} {v = v} {s = s} l e g b = record { runs = seconds steps v s (omega arith) b l e.runs }
+
+-- ---- two lists joined: q and t say whether the parts are equal
+joined : (l r a : List ℕ) → same_cells a (l ++ r) ≡ (same_cells (take (length l) a) l && same_cells (drop (length l) a) r)
+unfolding same_cells
+joined [] r a = refl
+joined (x ∷ l) r [] = refl
+joined (x ∷ l) r (y ∷ a) = rw (joined l r a, and_assoc)
+
+module _ (a left right : List ℕ) where
+  pub joined-short : length a < length left → false ≡ same_cells a (left ++ right)
+  joined-short h = same-lengths a (left ++ right) (λ e. omega (arith, e, length-append left right))
+
+  module _ (q : Bool) (is : q ≡ same_cells (take (length left) a) left) where
+    pub joined-not : q ≡ false → q ≡ same_cells a (left ++ right)
+    joined-not n = rw (joined left right a, ← is, n)
+
+    pub joined-rest : q ≡ true → (r : Bool) → r ≡ same_cells (take (length a - length left) (drop (length left) a)) right → r ≡ same_cells a (left ++ right)
+    joined-rest y r e = rw (joined left right a, ← is, y, e, rest-is a (length left))
 
 -- ---- functions
 -- a list that ends with x

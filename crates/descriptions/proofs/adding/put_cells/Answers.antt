@@ -8,4 +8,4 @@ returns c =
     rw k
     (cells-put _ _ _ _ _ _ _ (omega arith) (omega arith) refl
     (filled c.args.at (length c.args.cells.now) c.args.tags.now _ (omega arith) (rw k at (c.fill.ensures.after (λ y e. e))))
-    c.copy_from_slice.ensures.after)
+    c.copy_cells.ensures)

@@ -1,10 +1,13 @@
-use mathlib.Core.Path.{◌≡◌, refl}
-use Rattle.std.proofs.lemmas.Iterator.{YieldsList-from_slice}
-use Rattle.std.proofs.lemmas.Iterator.Consumers.{YieldsList-from_chain}
-use Rattle.sorts.proofs.list_sorts.Laws.{same_from_eq}
+use Rattle.cells.proofs.Cells.{same-pointwise}
+use Rattle.sorts.proofs.list_sorts.Laws.{joined-short, joined-not, joined-rest}
 use Rattle.sorts.proofs.list_sorts.same_joined.Goals as goal
 
-pub returns : goal.returns
-returns c =
-    same_from_eq (λ x y. y ≡ x) c.chain.result _ c.eq.ensures.ran (YieldsList-from_slice c.args.a.now (cc))
-    (λ it h. rw h (YieldsList-from_chain (YieldsList-from_slice c.args.left.now (cc)) (YieldsList-from_slice c.args.right.now (cc)) (cc) (cc))) (λ x y. refl)
+pub returns-then-a-n : goal.returns-then-a-n
+returns-then-a-n c = joined-short _ _ _ c.if-a-n.true
+
+pub returns-else-eq : goal.returns-else-eq
+returns-else-eq c = joined-not _ _ _ _ (same-pointwise _ _ _ c.eq.ensures) c.if-eq.false
+
+pub returns-then-eq : goal.returns-then-eq
+returns-then-eq c =
+    joined-rest _ _ _ _ (same-pointwise _ _ _ c.eq.ensures) c.if-eq.true _ (same-pointwise _ _ _ c.eq-then-eq.ensures)

@@ -2,7 +2,8 @@ use mathlib.Core.Path.{◌≡◌, refl}
 use Rattle.std.proofs.Common.{rules}
 use Rattle.std.proofs.lemmas.Iterator.{YieldsList-from_slice}
 use Rattle.std.proofs.lemmas.Iterator.Adapters.{YieldsList-from_skip}
-use Rattle.sorts.proofs.list_sorts.Laws.{same_from_eq, pair_sorts_from_step_by}
+use Rattle.cells.proofs.Cells.{same_from_eq}
+use Rattle.sorts.proofs.list_sorts.Laws.{pair_sorts_from_step_by}
 use Rattle.sorts.proofs.list_sorts.same_pair_sorts.Goals as goal
 
 pub returns : goal.returns

@@ -1,7 +1,7 @@
 use mathlib.Core.Path.{◌≡◌, refl}
 use Rattle.std.proofs.lemmas.Iterator.{YieldsList-from_slice}
 use Rattle.std.proofs.lemmas.Iterator.Adapters.{YieldsList-from_rev_slice}
-use Rattle.sorts.proofs.list_sorts.Laws.{same_from_eq}
+use Rattle.cells.proofs.Cells.{same_from_eq}
 use Rattle.sorts.proofs.list_sorts.same_reversed.Goals as goal
 
 pub returns : goal.returns

@@ -3,7 +3,7 @@ use Rattle.std.proofs.Common.{rules}
 use Rattle.std.proofs.lemmas.Iterator.{YieldsList-from_slice, YieldsList-from_map}
 use Rattle.std.proofs.lemmas.Iterator.Consumers.{YieldsList-from_copied}
 use Rattle.cells.specs.Cell.{sort_of}
-use Rattle.sorts.proofs.list_sorts.Laws.{same_from_eq}
+use Rattle.cells.proofs.Cells.{same_from_eq}
 use Rattle.sorts.proofs.list_sorts.same_sorts.Goals as goal
 
 pub returns : goal.returns

@@ -31,11 +31,12 @@ from_term-from_term-found-requires t c = let h = look-below _ _ _ _ c.normal_vie
     (omega arith, c.requires)
 
 pub from_term-returns-in-Literal : goal.from_term-returns-in-Literal
-from_term-returns-in-Literal t c = walk-literal _ _ _ _ _ c.normal_view-view.ensures c.in-Literal.is _ c.requires
+from_term-returns-in-Literal t c =
+    noted _ _ _ _ _ _ (walk-literal _ _ _ _ _ c.normal_view-view.ensures c.in-Literal.is _ c.requires) _ _ c.note.ensures
 
 pub from_term-returns-in-Connective : goal.from_term-returns-in-Connective
 from_term-returns-in-Connective t c =
-    noted _ _ _ _ _ _ (walk-run _ _ _ _ _ c.normal_view-view.ensures _ c.in-Connective.is _ _ c.from_run-found.ensures) _ _ c.note.ensures
+    noted _ _ _ _ _ _ (walk-run _ _ _ _ _ c.normal_view-view.ensures _ c.in-Connective.is _ _ c.from_run-found.ensures) _ _ c.note-in-Connective.ensures
 
 pub from_term-returns-else-is_some : goal.from_term-returns-else-is_some
 from_term-returns-else-is_some t c =

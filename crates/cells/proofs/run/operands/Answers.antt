@@ -1,5 +1,5 @@
 use Rattle.cells.proofs.Cells.{operand-runs}
-use Rattle.cells.proofs.pool.Pool.operands.Goals as goal
+use Rattle.cells.proofs.run.operands.Goals as goal
 
 pub returns-then-tag_at-lt-APPLICATION : goal.returns-then-tag_at-lt-APPLICATION
 returns-then-tag_at-lt-APPLICATION c = search operand-runs

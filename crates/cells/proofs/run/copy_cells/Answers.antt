@@ -1,0 +1,11 @@
+use Rattle.cells.proofs.run.Laws.{copy_start, copy_more, copy-end}
+use Rattle.cells.proofs.run.copy_cells.Goals as goal
+
+pub loop-i-init : goal.loop-i-init
+loop-i-init c = copy_start _ _
+
+pub loop-i-preserved : goal.loop-i-preserved
+loop-i-preserved c = copy_more _ _ _ _ c.loop-i.invariant c.requires c.loop-i-test.true
+
+pub returns : goal.returns
+returns c = copy-end _ _ _ _ c.loop-i.invariant c.requires c.loop-i-test.false
