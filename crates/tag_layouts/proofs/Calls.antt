@@ -1,13 +1,13 @@
 -- The calls on u32 tags, one theorem for each: from the outcome of the call on bytes, and from what the code then writes, the outcome at the
 -- call's own arrays. The call on bytes was lent the first k of an array of bytes, which are the narrowed first tags, and the first k values.
 -- The tables of sort rules are any.
---     check-pool-call, sort-call, free-vars-call                      these write nothing
+--     check-pool-call, check-term-call, sort-call, free-vars-call     these write nothing
 --     normal-form-call, clause-list-call                              these build
 --     normal-form-promised, clause-list-promised                      and what their cells say
 --     step_call                                                       the check of a step
 --     normal-form-size, clause-list-size                              they keep the length of the bytes that they were lent
 --     normal-form-room, clause-list-room                              what writing back asks for
---     step_other, step_kept, step-zeroed                              what the check of a step writes, at each way out
+--     build-kept, build-written, step_other, step_kept, step-zeroed   what the code writes, at each way out
 -- Arrays of different lengths are refused before: Unequal.antt.
 -- Assumes nothing.
 use Prim.Native.Nat.{ℕ, ◌-◌, min}
@@ -23,7 +23,7 @@ use Rattle.cells.specs.ByPlace.{by-test}
 use Rattle.cells.specs.Limits.{cell_limit}
 use Rattle.descriptions.specs.Description.{zero_from, Cut}
 use Rattle.answers.specs.declared.Answer.{Answer}
-use Rattle.pool.specs.Check.{check_pool}
+use Rattle.pool.specs.Check.{check_pool, check_term}
 use Rattle.pool.specs.Calls.{sort_answer, FreeVars}
 use Rattle.formulas.specs.Built.{Placed}
 use Rattle.normal_form.specs.Calls.{array_left, NormalForm, ClauseList}
@@ -43,6 +43,14 @@ use Rattle.tag_layouts.proofs.Building.{first-fit, Builds, array-lengths, arrays
 use Rattle.tag_layouts.proofs.Steps.{step_of, step-fit}
 
 -- ---- what the code writes
+module _ (a : Answer) (n k : ℕ) (tags values bytes rest left : List ℕ) where
+  pub build-kept : a.code ≡ 30 → BuildWritten a n k tags values bytes rest left tags (left ++ drop k values)
+  build-kept e = record { kept = λ z. (refl, refl); written = λ h. absurd (h e) }
+
+  pub build-written : (a.code ≡ 30 → ⊥) → (tags' values' : List ℕ) → tags' ≡ written_back n tags (take k (bytes ++ rest))
+      → values' ≡ zero_from k (left ++ drop k values) → BuildWritten a n k tags values bytes rest left tags' values'
+  build-written h tags' values' t v = record { kept = λ e. absurd (h e); written = λ z. (t, v) }
+
 module _ (a : Answer) (rule n k : ℕ) (tags values left : List ℕ) where
   pub step_other : (rule ≡ 3 → ⊥) → StepWritten a rule n k tags values left tags (left ++ drop k values)
   step_other h = record { other = λ z. (refl, refl); kept = λ z. (refl, refl); zeroed = λ e. absurd (h e) }
@@ -67,6 +75,9 @@ module _ (tags values bytes : List ℕ) (z : length tags ≡ length values) (k :
 
   pub check-pool-call : (rules : List ℕ) (n : ℕ) (r : Answer) → r ≡ check_pool (take k bytes) (take k values) rules n → r ≡ check_pool tags values rules n
   check-pool-call rules n r e = (rw (into.bytes-are, first-values) at e) ∙ same.pool rules n
+
+  pub check-term-call : (rules : List ℕ) (n t : ℕ) (r : Answer) → r ≡ check_term (take k bytes) (take k values) rules n t → r ≡ check_term tags values rules n t
+  check-term-call rules n t r e = (rw (into.bytes-are, first-values) at e) ∙ same.term rules n t
 
   pub sort-call : (rules : List ℕ) (n t : ℕ) (r : Answer) → r ≡ sort_answer (take k bytes) (take k values) rules n t → r ≡ sort_answer tags values rules n t
   sort-call rules n t r e = (rw (into.bytes-are, first-values) at e) ∙ same.sort rules n t

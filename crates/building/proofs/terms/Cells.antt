@@ -188,7 +188,7 @@ pub memo-part : (work : List ℕ) → length work ≡ 24576 → 16384 ≡ length
 memo-part work l = sym (length-take-le 16384 work (omega arith))
 
 module _ (end n : ℕ) (tags values : List ℕ) (s : State end n tags values) where
-  values-part : end ≡ length (take end values)
+  pub values-part : end ≡ length (take end values)
   values-part = sym (length-take-le end values (omega (arith, s.source, s.within, s.size)))
 
   -- a run with the sort before it fits the row

@@ -46,13 +46,13 @@ any-start tags values x literals ends count =
 -- w says whether the term is one of the clauses from number i on
 module _ (w : Bool) (tags values : List ℕ) (x : ℕ) (literals ends : List ℕ) (i start count : ℕ)
     (inv : w ≡ any_clause (is_clause tags values x) (clauses_in literals (drop i ends) start (count - i))) where
-  any-end : count ≤ i → false ≡ w
+  pub any-end : count ≤ i → false ≡ w
   unfolding any_clause clauses_in
   any-end h =
       let z : count - i ≡ 0 = omega arith in
       rw (inv, z)
 
-  any-short : length ends ≤ i → i < count → false ≡ w
+  pub any-short : length ends ≤ i → i < count → false ≡ w
   unfolding any_clause clauses_in
   any-short g h =
       let one_more : count - i ≡ suc (count - (i + 1)) = omega arith in

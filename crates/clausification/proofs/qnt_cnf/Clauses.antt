@@ -86,7 +86,7 @@ module _ (n t : ℕ) (tags values : List ℕ) (f : Option ClausalForms) (tags₂
   pub all-within-values : k ≤ length values₂
   all-within-values = omega (arith, source.state.within, source.state.size)
 
-  all-part : k ≡ length (take k tags₂)
+  pub all-part : k ≡ length (take k tags₂)
   all-part = sym (length-take-le k tags₂ all-within)
 
   pub lent : Lent (length (take k tags₂)) 8192 2048

@@ -3,14 +3,18 @@
 --     among-append, among-leave_out, among-firsts     what such a list has
 --     firsts-distinct                                no later repeat is left
 --     add_all-append, add_all-is, add_all-firsts        adding what is new, one after another, to a list, and to none
+--     add_all-none, add_all-single, add_all-grows       nothing is new; one thing is; something is
 -- Assumes nothing.
+use Prim.Native.Nat.{◌≤◌, ◌<◌}
 use mathlib.Core.Path.{◌≡◌, refl, sym, ap, ◌∙◌}
-use mathlib.Core.Bool.{Bool, true, false, not, ◌&&◌, ◌||◌, or_assoc, or-false}
+use mathlib.Core.Bool.{Bool, true, false, not, ◌&&◌, ◌||◌, false≢true, or_assoc, or-false}
 use mathlib.Core.List.{List, [], ◌∷◌, ◌++◌, append-nil, append_assoc}
+use lib.ListN.{length, length-append}
+use native.Mathlib.Omega.{arith}
 use borrow.Author.Tests.{not-true}
 use Rattle.cells.specs.ByPlace.{by-test}
 use Rattle.free_variables.specs.Once.{leave_out, firsts, among, distinct, add_new, add_all}
-use Rattle.free_variables.proofs.appearing.Booleans.{and_split, and_intro, and_none, or_new}
+use Rattle.free_variables.proofs.appearing.Booleans.{not-both, or_left, or_right, and_split, and_intro, and_none, or_new}
 
 -- ---- left out twice
 module _ {A : Type 0} where
@@ -94,6 +98,12 @@ module _ {A : Type 0} (eq : A → A → Bool) (eq_is : (x y : A) → eq x y ≡ 
       (leave_out-distinct (eq x) (firsts eq xs) (firsts-distinct xs))
 
   -- ---- adding what is new
+  pub add_all-none : (found xs : List A) → ((v : A) → among eq xs v ≡ true → among eq found v ≡ true) → add_all eq found xs ≡ found
+  unfolding add_all add_new among
+  add_all-none found [] h = refl
+  add_all-none found (x ∷ xs) h =
+      rw (h x (or_left (eq x x) (among eq xs x) (eq_refl x))) (add_all-none found xs (λ v e. h v (or_right (eq x v) (among eq xs v) e)))
+
   among-more : (found : List A) (x v : A) → among eq (found ++ x ∷ []) v ≡ (among eq found v || eq x v)
   unfolding among
   among-more found x v = among-append found (x ∷ []) v ∙ ap (λ (b : Bool). among eq found v || b) (or-false (eq x v))
@@ -117,3 +127,51 @@ module _ {A : Type 0} (eq : A → A → Bool) (eq_is : (x y : A) → eq x y ≡ 
   pub add_all-firsts : (xs : List A) → add_all eq [] xs ≡ firsts eq xs
   unfolding among
   add_all-firsts xs = add_all-is [] xs ∙ leave_out-none (among eq []) (λ v. refl) (firsts eq xs)
+
+  -- what is there stays, and nothing else comes
+  pub add_all-among : (found xs : List A) (v : A) → among eq (add_all eq found xs) v ≡ (among eq found v || among eq xs v)
+  add_all-among found xs v =
+      rw (add_all-is found xs, among-append found (leave_out (among eq found) (firsts eq xs)) v, among-leave_out (among eq found) (firsts eq xs) v, among-firsts xs v)
+      (or_new (among eq found v) (among eq xs v))
+
+  among-some : (xs : List A) (v : A) → among eq xs v ≡ true → 1 ≤ length xs
+  unfolding among
+  among-some [] v e = absurd (false≢true e)
+  among-some (x ∷ xs) v e = omega arith
+
+  pub add_all-longer : (found xs : List A) → length found ≤ length (add_all eq found xs)
+  add_all-longer found xs = rw (add_all-is found xs) (simp length-append (omega arith))
+
+  pub add_all-grows : (found xs : List A) (v : A) → among eq xs v ≡ true → among eq found v ≡ false → length found < length (add_all eq found xs)
+  add_all-grows found xs v p q =
+      let h : 1 ≤ length (leave_out (among eq found) (firsts eq xs)) =
+      among-some (leave_out (among eq found) (firsts eq xs)) v
+      (among-leave_out (among eq found) (firsts eq xs) v ∙ and_intro (not (among eq found v)) (among eq (firsts eq xs) v) (ap not q) (among-firsts xs v ∙ p)) in
+      rw (add_all-is found xs) (simp length-append (omega arith))
+
+  -- a list without repeats that has one thing alone
+  single : (ys : List A) (v : A) → distinct eq ys ≡ true → ((u : A) → among eq ys u ≡ true → u ≡ v) → among eq ys v ≡ true → ys ≡ v ∷ []
+  unfolding among distinct
+  single [] v d h e = absurd (false≢true e)
+  single (y ∷ []) v d h e = ap (λ (z : A). z ∷ []) (h y (or_left (eq y y) false (eq_refl y)))
+  single (y ∷ (z ∷ ys)) v d h e =
+      let p : y ≡ v = h y (or_left (eq y y) (among eq (z ∷ ys) y) (eq_refl y)) in
+      let q : z ≡ v = h z (or_right (eq y z) (among eq (z ∷ ys) z) (or_left (eq z z) (among eq ys z) (eq_refl z))) in
+      let o : (not (among eq (z ∷ ys) y) ≡ true) × (distinct eq (z ∷ ys) ≡ true) = and_split (not (among eq (z ∷ ys) y)) (distinct eq (z ∷ ys)) d in
+      absurd (not-both (or_left (eq z y) (among eq ys y) (ap (λ (w : A). eq w y) (q ∙ sym p) ∙ eq_refl y)) (not-true (among eq (z ∷ ys) y) o.0))
+
+  -- where one thing alone is new, the walk need not go on
+  pub add_all-single : (found xs : List A) (v : A) → among eq xs v ≡ true → among eq found v ≡ false
+      → ((u : A) → among eq xs u ≡ true → among eq found u ≡ false → u ≡ v) → add_all eq found xs ≡ found ++ v ∷ []
+  add_all-single found xs v p q h =
+      add_all-is found xs ∙ ap (λ (l : List A). found ++ l)
+      (single (leave_out (among eq found) (firsts eq xs)) v (leave_out-distinct (among eq found) (firsts eq xs) (firsts-distinct xs)) alone
+      (new v ∙ and_intro (not (among eq found v)) (among eq xs v) (ap not q) p))
+    where
+      new : (u : A) → among eq (leave_out (among eq found) (firsts eq xs)) u ≡ (not (among eq found u) && among eq xs u)
+      new u = among-leave_out (among eq found) (firsts eq xs) u ∙ ap (λ (b : Bool). not (among eq found u) && b) (among-firsts xs u)
+
+      alone : (u : A) → among eq (leave_out (among eq found) (firsts eq xs)) u ≡ true → u ≡ v
+      alone u e =
+          let o : (not (among eq found u) ≡ true) × (among eq xs u ≡ true) = and_split (not (among eq found u)) (among eq xs u) (sym (new u) ∙ e) in
+          h u o.1 (not-true (among eq found u) o.0)

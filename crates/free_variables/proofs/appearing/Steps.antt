@@ -5,7 +5,7 @@
 --     occurs-application, occurs-operator             the terms of the operand run, one after another
 --     occurs-binder, binder-late                      a binder: its body's without its pairs, or none
 --     occurs-let, let-values                          a let: its values', then its body's without its pairs, or its values' alone
---     joined-first                                    the terms of a run, one after another
+--     joined_end, joined-first, values-end, values-first     a run, and a let's values, one after another
 -- `tag` and `run` are what the walk read of the term at t.
 -- Assumes nothing.
 use Prim.Native.Nat.{ℕ, ◌-◌, ◌≤◌, ◌<◌}
@@ -18,7 +18,7 @@ use native.Mathlib.Omega.{arith}
 use borrow.Author.Tests.{lt-ltb, le-ltb}
 use Rattle.cells.specs.Cell.{operands_of}
 use Rattle.cells.specs.ByPlace.{by_place-is}
-use Rattle.free_variables.specs.Free.{bound_by, let_binds, let_values}
+use Rattle.free_variables.specs.Free.{bound_by, let_binds, values_in, let_values}
 use Rattle.free_variables.specs.FreeMemo.{pair_kind_of, pair_sort, pairs_bind}
 use Rattle.free_variables.specs.declared.pair_kind.PairKind.{PairKind}
 use Rattle.free_variables.specs.declared.pair_kind.PairKind.TheVariants.{SortedVar, VarBinding}
@@ -136,8 +136,30 @@ module _ (tags values : List ℕ) (t tag : ℕ) (k : tag ≡ get_or tags t 0) wh
 
 -- ---- a run, one term after another
 module _ (rec : ℕ → List ℕ) where
+  pub joined_end : (run : List ℕ) → length run ≡ 0 → joined rec run ≡ []
+  unfolding joined
+  joined_end [] e = refl
+  joined_end (u ∷ us) e = absurd (omega arith)
+
   pub joined-first : (run : List ℕ) → (length run ≡ 0 → ⊥) → joined rec run ≡ rec (get_or run 0 0) ++ joined rec (take (length run - 1) (drop 1 run))
   unfolding joined
   joined-first run some =
       rw (take_all (length run - 1) (drop 1 run) (rw (length-drop 1 run) (omega arith)))
       (ap (joined rec) (drop-cons run 0 0 (omega arith)))
+
+  -- ---- a let's values: the run is its body and then the pairs
+  pub values-end : (run : List ℕ) → length run < 3 → joined rec (let_values run) ≡ []
+  unfolding joined let_values values_in
+  values-end [] h = refl
+  values-end (a ∷ []) h = refl
+  values-end (a ∷ (b ∷ [])) h = refl
+  values-end (a ∷ (b ∷ (c ∷ l))) h = absurd (omega arith)
+
+  pub values-first : (run : List ℕ) → 3 ≤ length run
+      → joined rec (let_values run) ≡ rec (get_or run 2 0) ++ joined rec (let_values (take (length run - 2) (drop 2 run)))
+  unfolding joined let_values values_in
+  values-first [] h = absurd (omega arith)
+  values-first (a ∷ []) h = absurd (omega arith)
+  values-first (a ∷ (b ∷ [])) h = absurd (omega arith)
+  values-first (a ∷ (b ∷ (c ∷ l))) h =
+      rw (take_all (length (a ∷ (b ∷ (c ∷ l))) - 2) (drop 2 (a ∷ (b ∷ (c ∷ l)))) (rw (length-drop 2 (a ∷ (b ∷ (c ∷ l)))) (omega arith)))
