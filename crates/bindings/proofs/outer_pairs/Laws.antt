@@ -100,20 +100,23 @@ named-is (suc k) (Some x) s = ap Some (omega (arith, s.1))
 
 -- ---- a pair put at the end, unless it is there
 module _ (cells : List ℕ) (a : Binding) (n : ℕ) (f : Filled cells n) where
-  pub put-there : (there : Option ℕ) → there ≡ scan cells a → is_some there ≡ true → Puts a cells n cells n
+  there : (o : Option ℕ) → o ≡ scan cells a → is_some o ≡ true → Puts a cells n cells n
   unfolding added
-  put-there None found o = clash false o refl
-  put-there (Some k) found o =
+  there None found o = clash false o refl
+  there (Some k) found o =
       let has-it : has (left_in cells) a ≡ true = left-some cells a k (scan-found cells a k (sym found)) in
       record { filled = f; more = omega arith; pairs = rw has-it }
 
-  module _ (there : Option ℕ) (found : there ≡ scan cells a) (z : is_some there ≡ false) where
+  pub put-there : (o : Option ℕ) → o ≡ scan cells a → (h : Bool) → h ≡ is_some o → h ≡ true → Puts a cells n cells n
+  put-there o found h is y = there o found (sym is ∙ y)
+
+  module _ (there : Option ℕ) (found : there ≡ scan cells a) (h : Bool) (is : h ≡ is_some there) (z : h ≡ false) where
     none : (o : Option ℕ) → is_some o ≡ false → o ≡ None
     none None e = refl
     none (Some k) e = clash true refl e
 
     lacks : (j : ℕ) → is_pair cells a j ≡ false
-    lacks = scan-lacks cells a (sym found ∙ none there z)
+    lacks = scan-lacks cells a (sym found ∙ none there (sym is ∙ z))
 
     pub put-new : Room cells n → (b : ℕ) → Bucket cells a b → (after : List ℕ) → after ≡ entered cells n a b → Puts a cells n after (n + 1)
     unfolding added
@@ -124,6 +127,8 @@ module _ (cells : List ℕ) (a : Binding) (n : ℕ) (f : Filled cells n) where
           more = omega arith;
           pairs = pairs⁺ cells n a b r k f lacks ∙ rw (left-none cells a lacks);
         })
+
+pub ruleset puts = (put-there, put-new)
 
 -- ---- the outer list prepared: n pairs are entered, and these are left to read
 pub record Preparing (outer cells : List ℕ) (n : ℕ) (left : List Binding) : Type 0 where

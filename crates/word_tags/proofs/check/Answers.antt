@@ -1,4 +1,4 @@
-use Rattle.std.proofs.Common.{rules, inl, inr, ap}
+use Rattle.std.proofs.Common.{rules, inl, inr, ap, ◌≡◌}
 use Rattle.std.proofs.lemmas.Option.{none-some}
 use lib.ListN.{take}
 use Rattle.rules.specs.Step.{Step}
@@ -45,5 +45,6 @@ returns c =
           let f : Step (take w.k w.bytes) (take w.k c.args.values.now) c.args.table.now c.args.n c.args.rule c.args.conclusion.now c.write.result.answer w.left-tags w.left =
           search rules in
           let cut = rw (t, v) at c.cut_back.ensures in
-          step_cut _ _ w.bytes w.k w.into w.same _ _ _ _ _ w.left-tags w.left f c.if-rule-ne-CNF.false c.if-answer-eq30.false _ _ cut
+          let builds : c.args.rule ≡ 3 = search rules in
+          step_cut _ _ w.bytes w.k w.into w.same _ _ _ _ _ w.left-tags w.left f builds c.if-answer-eq30.false _ _ cut
     ]
