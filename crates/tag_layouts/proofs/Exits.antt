@@ -1,5 +1,4 @@
--- The ways out of a call on u32 tags, a law for each, as `search` uses them in the calls' proofs: what the code has learnt on that way gives the
--- outcome at the call's own arrays.
+-- The ways out of a call on u32 tags, a law for each: what the code has learnt on that way gives the outcome at the call's own arrays.
 --     reading-exits          pool check, check of a term, sort, free variables
 --     normal-form-exits, clause-list-exits, step-exits
 --     lent-parts             the lengths of the parts that are lent

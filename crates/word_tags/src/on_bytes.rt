@@ -1,6 +1,6 @@
 // A call on bytes in the place of one on u32 tags: it is lent the tags narrowed into a local array, and as many of the values.
 // Arrays of different lengths are refused.
-ghost use Rattle.word_tags.specs.OnBytes.{Reads, Writes, Fits};
+ghost use Rattle.tag_layouts.specs.OnBytes.{Reads, Writes, Fits};
 
 use normal_form::call::Listed;
 use pool::description::zero_from;

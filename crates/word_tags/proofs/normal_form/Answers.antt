@@ -1,8 +1,12 @@
 use Rattle.std.proofs.Common.{rules, arith, [], length, refl, ap, inl, inr}
 use Rattle.std.proofs.lemmas.Option.{same_Some}
 use lib.ListN.{take}
+use lib.Dec.{eqb}
+use borrow.Author.Tests.{eqb-true, eqb-false}
+use Rattle.cells.specs.ByPlace.{by-test}
 use Rattle.normal_form.specs.Promise.{NormalFormPromise}
-use Rattle.tag_layouts.proofs.Calls.{normal-form-size, normal-form-room, normal-form-promised}
+use Rattle.tag_layouts.proofs.Calls.{normal-form-size, normal-form-room}
+use Rattle.tag_layouts.proofs.Exits.{normal-form-kept, normal-form-written}
 use Rattle.tag_layouts.proofs.Arrays.{lent-part}
 use Rattle.word_tags.proofs.Refused.{normal-form-unlike}
 use Rattle.word_tags.proofs.normal_form.Goals as goal
@@ -25,6 +29,14 @@ returns c =
           let (p, q) = w.leaves.shows in
           let (y, z) = w.leaves.leaves in
           let m = w.leaves.called in
-          normal-form-promised _ _ w.bytes w.same w.k w.into _ _ _ _ _ w.left-tags w.left (search rules) w.rest _ _
-          (record { kept = λ e. w.kept (λ n o. e); written = λ h. w.back c.args.n refl h })
+          let f : NormalFormPromise (take w.k w.bytes) (take w.k c.args.values.now) c.args.table.now c.args.n c.args.t.0 c.args.polarity c.write.result.answer w.left-tags w.left = search rules in
+          by-test (eqb c.write.result.answer.code 30)
+          (λ o.
+          let e = eqb-true c.write.result.answer.code 30 o in
+          let (t, v) = w.kept (λ n i. e) in
+          rw (t, v) (normal-form-kept _ _ w.bytes w.k w.into w.same _ _ _ _ _ w.left-tags w.left f e))
+          (λ o.
+          let h = eqb-false c.write.result.answer.code 30 o in
+          let (t, v) = w.back c.args.n refl h in
+          normal-form-written _ _ w.bytes w.k w.into w.same _ _ _ _ _ w.left-tags w.left f h w.rest _ _ t v)
     ]
